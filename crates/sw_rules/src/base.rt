@@ -1,0 +1,6 @@
+//! Texts, byte strings and lists that contracts see as plain lists, and the answer for want of memory.
+
+pub mod bytes;
+pub mod items;
+pub mod no_memory;
+pub mod text;
