@@ -1,0 +1,4 @@
+pub mod Addresses
+pub mod Headers
+pub mod Keys
+pub mod Media

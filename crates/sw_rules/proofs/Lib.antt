@@ -1,0 +1,2 @@
+pub mod AddressRows
+pub mod OnLiterals
