@@ -1,4 +1,16 @@
 pub mod Addresses
+pub mod Batch
+pub mod Changes
+pub mod Events
 pub mod Headers
+pub mod History
 pub mod Keys
+pub mod Matching
 pub mod Media
+pub mod Picks
+pub mod Recordings
+pub mod State
+pub mod Step
+pub mod Storage
+pub mod Tasks
+pub mod Transcript

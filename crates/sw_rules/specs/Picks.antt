@@ -1,0 +1,107 @@
+-- How a history follows a recording, when it is complete or stalled, and what the pick order has next.
+use Rattle.std.specs.Prelude.{◌≡◌, ℕ, ◌<◌, Bool, false, ◌==◌, List, [], ◌∷◌, ◌++◌, length, filter, find, filter_map, count_by, is_none, Option, Some, None, option_map, option_and_then, slice_get}
+use Rattle.std.specs.List.{range_with_len}
+use Rattle.sw_rules.specs.declared.events.Event.{Event}
+use Rattle.sw_rules.specs.declared.events.Event.TheVariants as event
+use Rattle.sw_rules.specs.declared.events.Who.{Who}
+use Rattle.sw_rules.specs.declared.events.Who.TheVariants as who
+use Rattle.sw_rules.specs.declared.histories.Entry.{Entry}
+use Rattle.sw_rules.specs.declared.recordings.Recording.{Recording}
+use Rattle.sw_rules.specs.declared.storage.Kept.{Kept}
+use Rattle.sw_rules.specs.History.{moved}
+use Rattle.sw_rules.specs.Recordings.{recorded_event}
+use Rattle.sw_rules.specs.State.{State}
+use Rattle.sw_rules.specs.Step.{enabled}
+use Rattle.sw_rules.specs.Storage.{restart}
+use Rattle.sw_rules.specs.Tasks.{add_all_lines, add_all_row, event_of, is_unfinished, job_line, job_row, ready_tasks}
+
+-- ---- lanes
+
+abbrev pub is_of_lane : ℕ → Who → Bool
+is_of_lane lane (who.Lane other at) = other == lane
+is_of_lane lane _ = false
+
+-- how many entries a lane has made
+abbrev pub made_by : ℕ → List Entry → ℕ
+made_by lane entries = count_by (λ entry. is_of_lane lane entry.who) entries
+
+-- the next action of a lane, none where the lane is at its end (own)
+abbrev pub next_action : Recording → List Entry → ℕ → Option Event
+next_action recording entries lane = recorded_event recording lane (made_by lane entries)
+
+-- ---- following a recording
+
+-- an entry of a lane is that lane's next action
+abbrev pub IsNextOfLane : Recording → List Entry → Entry → Who → Type 0
+IsNextOfLane recording before entry (who.Lane lane at) =
+    (at ≡ made_by lane before) × (recorded_event recording lane at ≡ Some entry.event)
+IsNextOfLane recording before entry _ = Unit {0}
+
+-- an entry that ends fetches carries the lines that the recording gives for the drawn numbers
+abbrev pub HasLines : Recording → State → Event → Type 0
+HasLines recording state (event.Fetched who job line) =
+    line ≡ option_and_then (job_line recording) (job_row state job)
+HasLines recording state (event.Added who number lines) =
+    Some lines ≡ option_map (add_all_lines recording) (add_all_row state number)
+HasLines recording state _ = Unit {0}
+
+-- each of these entries follows the recording, after the entries before them
+abbrev pub FollowsFrom : Recording → List Entry → State → List Entry → Type 0
+FollowsFrom recording before state [] = Unit {0}
+FollowsFrom recording before state (entry ∷ entries) =
+    IsNextOfLane recording before entry entry.who
+    × HasLines recording state entry.event
+    × FollowsFrom recording (before ++ entry ∷ []) (moved state entry) entries
+
+-- a history has each lane's actions in order, each once, and the recorded lines (own)
+abbrev pub Follows : Recording → Kept → List Entry → Type 0
+Follows recording base [] = ⊥
+Follows recording base (opening ∷ entries) = FollowsFrom recording (opening ∷ []) (restart base) entries
+
+-- ---- ends
+
+-- every lane is at its end, and no work is left (own)
+pub record Complete (recording : Recording) (entries : List Entry) (state : State) : Type 0 where
+  pub lanes : (lane : ℕ) → next_action recording entries lane ≡ None
+  pub jobs : filter is_unfinished state.jobs ≡ []
+  pub handlers : state.handlers ≡ []
+  pub tasks : filter (λ row. is_none row.settled) state.tasks ≡ []
+  pub owed : state.owed ≡ []
+
+-- the first enabled event among the next actions of the lanes, lowest first
+abbrev pub first_enabled : Recording → List Entry → State → Option Event
+first_enabled recording entries state =
+    find (enabled state) (filter_map (next_action recording entries) (range_with_len 0 (length recording.lanes)))
+
+-- nothing may happen, and this is the lowest lane with actions left (own)
+pub record Stalled (recording : Recording) (entries : List Entry) (state : State) (lane : ℕ) : Type 0 where
+  pub no_action : first_enabled recording entries state ≡ None
+  pub no_task : ready_tasks state ≡ []
+  pub left : (next_action recording entries lane ≡ None) → ⊥
+  pub lowest : (lower : ℕ) → lower < lane → next_action recording entries lower ≡ None
+
+-- ---- the pick order
+
+-- the event of the first ready task
+abbrev pub first_task_event : Recording → State → Option Event
+first_task_event recording state = option_and_then (event_of recording state) (slice_get (ready_tasks state) 0)
+
+-- what the pick order has next: the lowest lane's enabled action, or else the first ready task (own)
+abbrev pub next : Recording → List Entry → State → Option Event
+next recording entries state =
+    elim (first_enabled recording entries state) [
+      Some happened ↦ Some happened
+    | None ↦ first_task_event recording state
+    ]
+
+-- each of these entries is what the pick order has next
+abbrev pub SeqFrom : Recording → List Entry → State → List Entry → Type 0
+SeqFrom recording before state [] = Unit {0}
+SeqFrom recording before state (entry ∷ entries) =
+    (next recording before state ≡ Some entry.event)
+    × SeqFrom recording (before ++ entry ∷ []) (moved state entry) entries
+
+-- the history is the one that the pick order fixes (own)
+abbrev pub Seq : Recording → Kept → List Entry → Type 0
+Seq recording base [] = ⊥
+Seq recording base (opening ∷ entries) = SeqFrom recording (opening ∷ []) (restart base) entries

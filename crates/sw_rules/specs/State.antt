@@ -1,0 +1,111 @@
+-- The state of the host: lists of rows (Service Workers, section 2 "Model" and Appendix A; the cut into rows is own).
+use Rattle.std.specs.Prelude.{ℕ, Bool, List, [], Option}
+use Rattle.sw_rules.specs.declared.workers.Mode.{Mode}
+use Rattle.sw_rules.specs.declared.workers.Kind.{Kind}
+use Rattle.sw_rules.specs.declared.workers.WorkerState.{WorkerState}
+use Rattle.sw_rules.specs.declared.workers.Phase.{Phase}
+use Rattle.sw_rules.specs.declared.events.Who.{Who}
+use Rattle.sw_rules.specs.declared.recordings.Handlers.{Handlers}
+use Rattle.sw_rules.specs.declared.rows.JobRow.{JobRow}
+use Rattle.sw_rules.specs.declared.rows.ClientRow.{ClientRow}
+use Rattle.sw_rules.specs.declared.answers.Settlement.{Settlement}
+use Rattle.sw_rules.specs.declared.exchange.Request.{Request}
+use Rattle.sw_rules.specs.declared.exchange.Response.{Response}
+
+-- a service worker registration (Service Workers, "service worker registration"); `first` is own
+pub record Registration : Type 0 where
+  pub number : ℕ
+  pub key : List ℕ
+  pub scope : List ℕ
+  pub mode : Mode
+  pub mapped : Bool
+  pub first : Option ℕ
+  pub preload : Bool
+  pub preload_value : List ℕ
+
+-- a service worker (Service Workers, "service worker"), with what the recording says of its runs
+pub record Worker : Type 0 where
+  pub number : ℕ
+  pub registration : ℕ
+  pub script : List ℕ
+  pub kind : Kind
+  pub body : List ℕ
+  pub state : WorkerState
+  pub skip_waiting : Bool
+  pub fetch : Option ℕ
+  pub handlers : Handlers
+
+-- what a promise waits for, or its value
+pub data Awaited : Type 0 where
+  value : Settlement → Awaited
+  of_job : ℕ → Awaited
+  of_task : ℕ → Awaited
+
+-- the promise of a lane's action
+pub record Promise : Type 0 where
+  pub lane : ℕ
+  pub at : ℕ
+  pub awaited : Awaited
+
+-- an addAll whose requests are drawn (Service Workers, Cache, "addAll()")
+pub record AddAll : Type 0 where
+  pub number : ℕ
+  pub maker : Who
+  pub key : List ℕ
+  pub name : List ℕ
+  pub requests : List Request
+  pub fetches : List ℕ
+  pub settled : Option Settlement
+
+-- a handler that runs
+pub record Handler : Type 0 where
+  pub worker : ℕ
+  pub phase : Phase
+  pub made : ℕ
+  pub faulted : Bool
+
+-- a fetch event that is pending
+pub record FetchEvent : Type 0 where
+  pub number : ℕ
+  pub worker : ℕ
+
+-- a cache: its key, its name and its request response list (Service Workers, "name to cache map")
+pub record Cache : Type 0 where
+  pub key : List ℕ
+  pub name : List ℕ
+  pub pairs : List (Request × Response)
+
+-- how many fetches of an address have been drawn
+pub record Draws : Type 0 where
+  pub address : List ℕ
+  pub number : ℕ
+
+-- the state
+pub record State : Type 0 where
+  pub registrations : List Registration
+  pub workers : List Worker
+  pub clients : List ClientRow
+  pub jobs : List JobRow
+  pub promises : List Promise
+  pub tasks : List AddAll
+  pub handlers : List Handler
+  pub fetch_events : List FetchEvent
+  pub owed : List ℕ
+  pub caches : List Cache
+  pub draws : List Draws
+
+-- nothing has happened, and nothing is kept
+abbrev pub initial : State
+initial = record {
+  registrations = [];
+  workers = [];
+  clients = [];
+  jobs = [];
+  promises = [];
+  tasks = [];
+  handlers = [];
+  fetch_events = [];
+  owed = [];
+  caches = [];
+  draws = [];
+}
