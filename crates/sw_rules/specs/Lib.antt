@@ -1,0 +1,3 @@
+pub mod DiskRule
+pub mod Faults
+pub mod Image

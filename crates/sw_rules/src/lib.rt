@@ -5,10 +5,12 @@
 #![tactic(auto)]
 
 pub mod base;
+pub mod disk;
 pub mod exchange;
 
 pub use base::bytes::Bytes;
 pub use base::items::Items;
 pub use base::no_memory::NoMemory;
 pub use base::text::Text;
+pub use disk::Part;
 pub use exchange::{Header, Op, Options, Request, Response};
