@@ -54,10 +54,10 @@ go old added at (op.Delete request options ∷ rest) =
     else go (without_matching request options old) added (at + 1) rest
 go old added at (op.Put request response ∷ rest) =
     elim (put_fault request response) [
-      Some why ↦ Err (TypeError at why)
-    | None ↦
-        if matches_added request no_options added then Err (InvalidState at)
-        else go (without_matching request no_options old) (added ++ (request , response) ∷ []) (at + 1) rest
+      | Some why ↦ Err (TypeError at why)
+      | None ↦
+          if matches_added request no_options added then Err (InvalidState at)
+          else go (without_matching request no_options old) (added ++ (request, response) ∷ []) (at + 1) rest
     ]
 
 -- ---- the size of a batch: the length of its operations' spellings in the journal (own)
@@ -90,6 +90,6 @@ within_quota size pairs = if nat_le size quota then Ok pairs else Err (Quota siz
 abbrev pub batch : List Pair → List Op → Result (List Pair) BatchFault
 batch pairs ops =
     elim (go pairs [] 0 ops) [
-      Ok new ↦ within_quota (sum_by op_size ops) new
-    | Err fault ↦ Err fault
+      | Ok new ↦ within_quota (sum_by op_size ops) new
+      | Err fault ↦ Err fault
     ]

@@ -30,9 +30,9 @@ put_changes_parsed put key pairs url =
 abbrev pub put_changes : State → List ℕ → CachePut → List ℕ → List Change
 put_changes state base put key =
     elim (pairs_of key put.name state.caches) [
-      None ↦ []
-    | Some pairs ↦
-        elim (resolved put.request.url base) [ None ↦ [] | Some url ↦ put_changes_parsed put key pairs url ]
+      | None ↦ []
+      | Some pairs ↦
+          elim (resolved put.request.url base) [ None ↦ [] | Some url ↦ put_changes_parsed put key pairs url ]
     ]
 
 -- the durable changes of an event, in the order of its steps (own)

@@ -129,7 +129,7 @@ mapped_registration state key scope =
 abbrev pub named_registration : State → ClientScope → Option Registration
 named_registration state of =
     option_and_then (λ client.
-      option_and_then (λ scope. mapped_registration state client.key (without_fragment scope)) (resolved of.scope client.url))
+    option_and_then (λ scope. mapped_registration state client.key (without_fragment scope)) (resolved of.scope client.url))
     (client_row state of.client)
 
 -- the worker that claims in an event: that of the named slot, or that of the handler
@@ -157,12 +157,12 @@ given_by_open state _ given = given
 abbrev pub given_by : ℕ → State → Entry → Option ℕ → Option ℕ
 given_by client state entry given =
     elim entry.event [
-      event.Open who number url partition ↦
-        if number == client then given_by_open state entry.answer given else given
-    | _ ↦
-        if is_some (claiming_worker state entry.event) && list_any (tells_change client) entry.notices
-        then option_map (λ row. row.registration) (claiming_worker state entry.event)
-        else given
+      | event.Open who number url partition ↦
+          if number == client then given_by_open state entry.answer given else given
+      | _ ↦
+          if is_some (claiming_worker state entry.event) && list_any (tells_change client) entry.notices
+          then option_map (λ row. row.registration) (claiming_worker state entry.event)
+          else given
     ]
 
 -- the controller is this worker, which is there

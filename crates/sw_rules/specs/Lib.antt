@@ -1,9 +1,12 @@
 pub mod Addresses
 pub mod Batch
 pub mod Changes
+pub mod DiskRule
 pub mod Events
+pub mod Faults
 pub mod Headers
 pub mod History
+pub mod Image
 pub mod Keys
 pub mod Matching
 pub mod Media

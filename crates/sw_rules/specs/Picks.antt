@@ -90,8 +90,8 @@ first_task_event recording state = option_and_then (event_of recording state) (s
 abbrev pub next : Recording → List Entry → State → Option Event
 next recording entries state =
     elim (first_enabled recording entries state) [
-      Some happened ↦ Some happened
-    | None ↦ first_task_event recording state
+      | Some happened ↦ Some happened
+      | None ↦ first_task_event recording state
     ]
 
 -- each of these entries is what the pick order has next

@@ -102,24 +102,24 @@ put_fault_of (Quota size) = fault.Quota
 abbrev pub put_parsed : State → CachePut → List ℕ → List Pair → List ℕ → Outcome
 put_parsed state put key pairs url =
     elim (batch pairs (op.Put (record put.request { url = url }) put.response ∷ [])) [
-      Ok new ↦ record {
+      | Ok new ↦ record {
         answer = answer.Ok;
         notices = [];
         new = record state { caches = with_pairs key put.name new state.caches };
       }
-    | Err why ↦ refused state (put_fault_of why)
+      | Err why ↦ refused state (put_fault_of why)
     ]
 
 -- a response is put into the cache of this name, the request's address being parsed against a base
 abbrev pub put_response : State → List ℕ → CachePut → List ℕ → Outcome
 put_response state base put key =
     elim (pairs_of key put.name state.caches) [
-      None ↦ refused state fault.CacheGone
-    | Some pairs ↦
-        elim (resolved put.request.url base) [
-          None ↦ refused state (type_error cause.Unparsed)
-        | Some url ↦ put_parsed state put key pairs url
-        ]
+      | None ↦ refused state fault.CacheGone
+      | Some pairs ↦
+          elim (resolved put.request.url base) [
+            | None ↦ refused state (type_error cause.Unparsed)
+            | Some url ↦ put_parsed state put key pairs url
+          ]
     ]
 
 -- the first match in the first cache that has one (Service Workers, CacheStorage, "match()")
@@ -127,18 +127,18 @@ abbrev pub first_hit : Request → Options → List Cache → Answer
 first_hit query options [] = answer.None
 first_hit query options (cache ∷ rest) =
     elim (first_match cache.pairs query options) [
-      Some item ↦ answer.Hit cache.name item.0 item.1.1.status (length item.1.1.body)
-    | None ↦ first_hit query options rest
+      | Some item ↦ answer.Hit cache.name item.0 item.1.1.status (length item.1.1.body)
+      | None ↦ first_hit query options rest
     ]
 
 -- a look-up, the request's address being parsed against a base
 abbrev pub match_request : State → List ℕ → CacheMatch → List ℕ → Outcome
 match_request state base asked key =
     elim (resolved asked.request.url base) [
-      None ↦ refused state (type_error cause.Unparsed)
-    | Some url ↦
-        answered state
-        (first_hit (record asked.request { url = url }) asked.options (asked_caches key asked.name state.caches))
+      | None ↦ refused state (type_error cause.Unparsed)
+      | Some url ↦
+          answered state
+          (first_hit (record asked.request { url = url }) asked.options (asked_caches key asked.name state.caches))
     ]
 
 -- ---- the step

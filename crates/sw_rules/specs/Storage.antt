@@ -13,7 +13,6 @@ use Rattle.sw_rules.specs.declared.workers.WorkerState.{WorkerState}
 use Rattle.sw_rules.specs.declared.workers.WorkerState.TheVariants.{Activating, Activated}
 use Rattle.sw_rules.specs.declared.workers.Phase.TheVariants.{Activate}
 use Rattle.sw_rules.specs.declared.recordings.Handlers.{Handlers}
-
 use Rattle.sw_rules.specs.Batch.{batch}
 use Rattle.sw_rules.specs.Matching.{Pair}
 use Rattle.sw_rules.specs.State.{State, Registration, Worker, Handler, Cache, initial}
@@ -55,8 +54,8 @@ with_waiting key scope mode worker rows =
 abbrev pub promoted : KeptRegistration → KeptRegistration
 promoted row =
     elim row.waiting [
-      Some worker ↦ record row { waiting = None; active = Some worker; activated = false }
-    | None ↦ row
+      | Some worker ↦ record row { waiting = None; active = Some worker; activated = false }
+      | None ↦ row
     ]
 
 -- the active worker, where there is one, is activated
@@ -143,12 +142,12 @@ active_state false = Activating
 abbrev pub worker_after_restart : ℕ → ℕ → KeptRegistration → Option Worker
 worker_after_restart number registration row =
     elim row.waiting [
-      Some worker ↦ Some (restored_worker number registration worker Activating)
-    | None ↦
-        elim row.active [
-          Some worker ↦ Some (restored_worker number registration worker (active_state row.activated))
-        | None ↦ None
-        ]
+      | Some worker ↦ Some (restored_worker number registration worker Activating)
+      | None ↦
+          elim row.active [
+            | Some worker ↦ Some (restored_worker number registration worker (active_state row.activated))
+            | None ↦ None
+          ]
     ]
 
 -- the workers of the kept registrations, numbered in kept order from the first number on
@@ -156,8 +155,8 @@ abbrev pub restored_workers : ℕ → List (ℕ × KeptRegistration) → List Wo
 restored_workers number [] = []
 restored_workers number (row ∷ rest) =
     elim (worker_after_restart number row.0 row.1) [
-      Some worker ↦ worker ∷ restored_workers (number + 1) rest
-    | None ↦ restored_workers number rest
+      | Some worker ↦ worker ∷ restored_workers (number + 1) rest
+      | None ↦ restored_workers number rest
     ]
 
 -- a kept registration, with its number

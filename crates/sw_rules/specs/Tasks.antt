@@ -73,8 +73,8 @@ is_install phase.Activate = false
 abbrev pub is_unsettled_of : ℕ → AddAll → Bool
 is_unsettled_of worker row =
     elim row.maker [
-      who.Handler maker phase number ↦ maker == worker && is_none row.settled
-    | _ ↦ false
+      | who.Handler maker phase number ↦ maker == worker && is_none row.settled
+      | _ ↦ false
     ]
 
 -- the handler of a worker that may go on: it runs, and no addAll of it is unsettled
@@ -151,8 +151,8 @@ next_call state row =
 abbrev pub call_or : State → Event → Handler → Event
 call_or state end row =
     elim (next_call state row) [
-      Some call ↦ event.Call (who.Handler row.worker row.phase row.made) call
-    | None ↦ end
+      | Some call ↦ event.Call (who.Handler row.worker row.phase row.made) call
+      | None ↦ end
     ]
 
 -- the line of a job's fetch

@@ -6,6 +6,7 @@
 
 pub mod answers;
 pub mod base;
+pub mod disk;
 pub mod events;
 pub mod exchange;
 pub mod histories;
@@ -19,6 +20,7 @@ pub use base::bytes::Bytes;
 pub use base::items::Items;
 pub use base::no_memory::NoMemory;
 pub use base::text::Text;
+pub use disk::Part;
 pub use events::{Event, Who};
 pub use exchange::{Header, Op, Options, Request, Response};
 pub use histories::{End, Entry, Task};

@@ -37,6 +37,13 @@ impl Bytes {
         Bytes { bytes }
     }
 
+    /// The vector of the bytes; it takes no memory.
+    pub fn into_vec(self) -> Vec<u8>
+        ensures { result.items ≡ self }
+    {
+        self.bytes
+    }
+
     /// The bytes.
     pub fn as_bytes(&self) -> &[u8]
         ensures { result.now ≡ self.now }

@@ -1,0 +1,11 @@
+//! A disk of three parts, as the journal sees it: what reads give, and what a crash may leave at every moment.
+//!
+//! `Disk` is the trait; `MemoryDisk` and `PlainDisk` are disks in memory, and `FileDisk` is over files.
+#![tactic(auto)]
+
+mod disk;
+mod plain;
+
+pub use disk::{Disk, Failed};
+pub use plain::PlainDisk;
+pub use sw_rules::Part;
