@@ -4,6 +4,7 @@ pub mod Changes
 pub mod DiskRule
 pub mod Events
 pub mod Faults
+pub mod Grammar
 pub mod Headers
 pub mod History
 pub mod Image
