@@ -1,5 +1,5 @@
 -- The grammar of a recording, over JSON values and base64's decoding: the forms that are read so far.
-use Rattle.std.specs.Prelude.{ℕ, Bool, true, false, not, ◌&&◌, ◌||◌, ◌==◌, nat_eq, nat_le, List, [], ◌∷◌, length, drop, filter, codes, bytes_eq, Option, Some, None, option_map, option_and_then, Result, Ok, Err, if◌then◌else◌}
+use Rattle.std.specs.Prelude.{ℕ, Bool, true, false, not, ◌&&◌, ◌||◌, ◌==◌, nat_eq, nat_le, List, [], ◌∷◌, length, drop, filter, codes, bytes_eq, Option, Some, None, option_map, option_and_then, Ok, Err, if◌then◌else◌}
 use Rattle.std.specs.List.{list_all, slice_split, starts_with}
 use Rattle.std.specs.Str.{is_utf8}
 use Rattle.base64.specs.GeneralPurpose.{decode_of}
@@ -137,9 +137,9 @@ abbrev pub match_form : Data → Option Action
 match_form value =
     when (has_only is_match_member value)
     (option_and_then (λ at.
-      option_map (λ url.
-        action.Match (place_of at) (record { request = request_of url; name = None; options = no_options }))
-      (address_member (codes "request") value))
+    option_map (λ url.
+    action.Match (place_of at) (record { request = request_of url; name = None; options = no_options }))
+    (address_member (codes "request") value))
     (address_member (codes "at") value))
 
 abbrev pub is_response_member : List ℕ → Bool
@@ -149,8 +149,8 @@ is_response_member name = bytes_eq name (codes "status") || bytes_eq name (codes
 abbrev pub body_of : List ℕ → Option (List ℕ)
 body_of text =
     elim (decode_of standard text) [
-      Ok body ↦ when (nat_le (length body) body_limit) (Some body)
-    | Err why ↦ None
+      | Ok body ↦ when (nat_le (length body) body_limit) (Some body)
+      | Err why ↦ None
     ]
 
 -- {"status":200,"body":..}
@@ -158,8 +158,8 @@ abbrev pub response_form : Data → Option Response
 response_form value =
     when (has_only is_response_member value)
     (option_and_then (λ status.
-      when (status == 200)
-      (option_map response_of (option_and_then body_of (text_member (codes "body") value))))
+    when (status == 200)
+    (option_map response_of (option_and_then body_of (text_member (codes "body") value))))
     (number_member (codes "status") value))
 
 abbrev pub is_put_member : List ℕ → Bool
@@ -170,13 +170,13 @@ abbrev pub put_form : Data → Option Action
 put_form value =
     when (has_only is_put_member value)
     (option_and_then (λ at.
-      option_and_then (λ name.
-        option_and_then (λ url.
-          option_map (λ response.
-            action.Put (place_of at) (record { name = name; request = request_of url; response = response }))
-          (option_and_then response_form (get (codes "response") value)))
-        (address_member (codes "request") value))
-      (name_member value))
+    option_and_then (λ name.
+    option_and_then (λ url.
+    option_map (λ response.
+    action.Put (place_of at) (record { name = name; request = request_of url; response = response }))
+    (option_and_then response_form (get (codes "response") value)))
+    (address_member (codes "request") value))
+    (name_member value))
     (address_member (codes "at") value))
 
 -- the form that a word names
@@ -191,7 +191,7 @@ form_of word value =
 abbrev pub action_of : Data → Option Action
 action_of value =
     option_and_then (λ lane.
-      when (lane == 0) (option_and_then (λ word. form_of word value) (text_member (codes "do") value)))
+    when (lane == 0) (option_and_then (λ word. form_of word value) (text_member (codes "do") value)))
     (number_member (codes "lane") value)
 
 -- the action of a line

@@ -1,5 +1,5 @@
 -- Histories: when one is legal, which state it leaves, when it was acknowledged, and who controls each client.
-use Rattle.std.specs.Prelude.{◌≡◌, ℕ, ◌+◌, ◌*◌, ◌≤◌, min, Bool, true, false, ◌&&◌, ◌==◌, List, [], ◌∷◌, length, filter, find, fold, take, bytes_eq, is_some, Option, Some, None, option_map, option_and_then, slice_get, All, if◌then◌else◌}
+use Rattle.std.specs.Prelude.{◌≡◌, ℕ, ◌+◌, ◌*◌, ◌≤◌, min, Bool, true, false, ◌&&◌, ◌==◌, List, [], ◌∷◌, ◌++◌, length, filter, find, fold, take, bytes_eq, is_some, Option, Some, None, option_map, option_and_then, slice_get, All, if◌then◌else◌}
 use Rattle.std.specs.List.{list_any}
 use Rattle.sw_rules.specs.declared.answers.Answer.{Answer}
 use Rattle.sw_rules.specs.declared.answers.Answer.TheVariants as answer
@@ -57,20 +57,32 @@ pub record IsOpening (base : Kept) (entry : Entry) : Type 0 where
   pub answer : entry.answer ≡ restart_answer (restart base)
   pub notices : entry.notices ≡ []
 
+-- each of these entries has P, with the entries before it and the state that they leave
+abbrev pub EachFrom : (List Entry → State → Entry → Type 0) → List Entry → State → List Entry → Type 0
+EachFrom P before state [] = Unit {0}
+EachFrom P before state (entry ∷ entries) =
+    P before state entry × EachFrom P (before ++ entry ∷ []) (moved state entry) entries
+
+-- there is a first entry, and each later one has P
+abbrev pub EachLater : (List Entry → State → Entry → Type 0) → Kept → List Entry → Type 0
+EachLater P base [] = ⊥
+EachLater P base (opening ∷ entries) = EachFrom P (opening ∷ []) (restart base) entries
+
 -- an entry is one step of the state before it, made by its event's maker
-pub record IsStep (state : State) (entry : Entry) : Type 0 where
+pub record IsStep (before : List Entry) (state : State) (entry : Entry) : Type 0 where
   pub maker : entry.who ≡ who_of entry.event
   pub step : Step state entry.event entry.answer entry.notices (moved state entry)
 
--- each of these entries is a step of the state that those before it leave
-abbrev pub AreSteps : State → List Entry → Type 0
-AreSteps state [] = Unit {0}
-AreSteps state (entry ∷ entries) = IsStep state entry × AreSteps (moved state entry) entries
+-- the first entry is the restart from the content
+abbrev pub Opens : Kept → List Entry → Type 0
+Opens base [] = ⊥
+Opens base (opening ∷ entries) = IsOpening base opening
 
 -- a history is one of the standard's algorithms from a content: a restart, and then steps (own: that a history is a list of steps)
-abbrev pub Legal : Kept → List Entry → Type 0
-Legal base [] = ⊥
-Legal base (opening ∷ entries) = IsMade base × IsOpening base opening × AreSteps (restart base) entries
+pub record Legal (base : Kept) (history : List Entry) : Type 0 where
+  pub made : IsMade base
+  pub opens : Opens base history
+  pub steps : EachLater IsStep base history
 
 -- ---- stamps
 

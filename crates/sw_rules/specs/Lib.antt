@@ -13,6 +13,7 @@ pub mod Matching
 pub mod Media
 pub mod Picks
 pub mod Recordings
+pub mod Run
 pub mod State
 pub mod Step
 pub mod Storage

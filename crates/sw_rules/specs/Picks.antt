@@ -1,5 +1,5 @@
 -- How a history follows a recording, when it is complete or stalled, and what the pick order has next.
-use Rattle.std.specs.Prelude.{◌≡◌, ℕ, ◌<◌, Bool, false, ◌==◌, List, [], ◌∷◌, ◌++◌, length, filter, find, filter_map, count_by, is_none, Option, Some, None, option_map, option_and_then, slice_get}
+use Rattle.std.specs.Prelude.{◌≡◌, ℕ, ◌<◌, Bool, false, ◌==◌, List, [], length, filter, find, filter_map, count_by, is_none, Option, Some, None, option_map, option_and_then, slice_get}
 use Rattle.std.specs.List.{range_with_len}
 use Rattle.sw_rules.specs.declared.events.Event.{Event}
 use Rattle.sw_rules.specs.declared.events.Event.TheVariants as event
@@ -8,11 +8,10 @@ use Rattle.sw_rules.specs.declared.events.Who.TheVariants as who
 use Rattle.sw_rules.specs.declared.histories.Entry.{Entry}
 use Rattle.sw_rules.specs.declared.recordings.Recording.{Recording}
 use Rattle.sw_rules.specs.declared.storage.Kept.{Kept}
-use Rattle.sw_rules.specs.History.{moved}
+use Rattle.sw_rules.specs.History.{EachLater}
 use Rattle.sw_rules.specs.Recordings.{recorded_event}
 use Rattle.sw_rules.specs.State.{State}
 use Rattle.sw_rules.specs.Step.{enabled}
-use Rattle.sw_rules.specs.Storage.{restart}
 use Rattle.sw_rules.specs.Tasks.{add_all_lines, add_all_row, event_of, is_unfinished, job_line, job_row, ready_tasks}
 
 -- ---- lanes
@@ -45,18 +44,14 @@ HasLines recording state (event.Added who number lines) =
     Some lines ≡ option_map (add_all_lines recording) (add_all_row state number)
 HasLines recording state _ = Unit {0}
 
--- each of these entries follows the recording, after the entries before them
-abbrev pub FollowsFrom : Recording → List Entry → State → List Entry → Type 0
-FollowsFrom recording before state [] = Unit {0}
-FollowsFrom recording before state (entry ∷ entries) =
-    IsNextOfLane recording before entry entry.who
-    × HasLines recording state entry.event
-    × FollowsFrom recording (before ++ entry ∷ []) (moved state entry) entries
+-- an entry follows the recording, after the entries before it
+pub record IsRecorded (recording : Recording) (before : List Entry) (state : State) (entry : Entry) : Type 0 where
+  pub action : IsNextOfLane recording before entry entry.who
+  pub lines : HasLines recording state entry.event
 
 -- a history has each lane's actions in order, each once, and the recorded lines (own)
 abbrev pub Follows : Recording → Kept → List Entry → Type 0
-Follows recording base [] = ⊥
-Follows recording base (opening ∷ entries) = FollowsFrom recording (opening ∷ []) (restart base) entries
+Follows recording base history = EachLater (IsRecorded recording) base history
 
 -- ---- ends
 
@@ -94,14 +89,10 @@ next recording entries state =
       | None ↦ first_task_event recording state
     ]
 
--- each of these entries is what the pick order has next
-abbrev pub SeqFrom : Recording → List Entry → State → List Entry → Type 0
-SeqFrom recording before state [] = Unit {0}
-SeqFrom recording before state (entry ∷ entries) =
-    (next recording before state ≡ Some entry.event)
-    × SeqFrom recording (before ++ entry ∷ []) (moved state entry) entries
+-- an entry is what the pick order has next
+abbrev pub IsPicked : Recording → List Entry → State → Entry → Type 0
+IsPicked recording before state entry = next recording before state ≡ Some entry.event
 
 -- the history is the one that the pick order fixes (own)
 abbrev pub Seq : Recording → Kept → List Entry → Type 0
-Seq recording base [] = ⊥
-Seq recording base (opening ∷ entries) = SeqFrom recording (opening ∷ []) (restart base) entries
+Seq recording base history = EachLater (IsPicked recording) base history

@@ -10,7 +10,7 @@ use Rattle.sw_rules.specs.declared.rows.JobRow.{JobRow}
 use Rattle.sw_rules.specs.declared.rows.ClientRow.{ClientRow}
 use Rattle.sw_rules.specs.declared.answers.Settlement.{Settlement}
 use Rattle.sw_rules.specs.declared.exchange.Request.{Request}
-use Rattle.sw_rules.specs.declared.exchange.Response.{Response}
+use Rattle.sw_rules.specs.declared.storage.KeptCache.{KeptCache}
 
 -- a service worker registration (Service Workers, "service worker registration"); `first` is own
 pub record Registration : Type 0 where
@@ -69,18 +69,12 @@ pub record FetchEvent : Type 0 where
   pub number : ℕ
   pub worker : ℕ
 
--- a cache: its key, its name and its request response list (Service Workers, "name to cache map")
-pub record Cache : Type 0 where
-  pub key : List ℕ
-  pub name : List ℕ
-  pub pairs : List (Request × Response)
-
 -- how many fetches of an address have been drawn
 pub record Draws : Type 0 where
   pub address : List ℕ
   pub number : ℕ
 
--- the state
+-- the state; a cache is a row of a key, a name and a request response list, as it is kept (Service Workers, "name to cache map")
 pub record State : Type 0 where
   pub registrations : List Registration
   pub workers : List Worker
@@ -91,7 +85,7 @@ pub record State : Type 0 where
   pub handlers : List Handler
   pub fetch_events : List FetchEvent
   pub owed : List ℕ
-  pub caches : List Cache
+  pub caches : List KeptCache
   pub draws : List Draws
 
 -- nothing has happened, and nothing is kept

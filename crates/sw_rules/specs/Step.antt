@@ -18,12 +18,14 @@ use Rattle.sw_rules.specs.declared.exchange.Request.{Request}
 use Rattle.sw_rules.specs.declared.recordings.CacheMatch.{CacheMatch}
 use Rattle.sw_rules.specs.declared.recordings.CachePut.{CachePut}
 use Rattle.sw_rules.specs.declared.recordings.Place.{Place}
+use Rattle.sw_rules.specs.declared.storage.KeptCache.{KeptCache}
 use Rattle.sw_rules.specs.Addresses.{address_of, is_trustworthy, resolved}
 use Rattle.sw_rules.specs.Batch.{BatchFault, TypeError, InvalidState, Quota, batch}
 use Rattle.sw_rules.specs.Events.{has_right_maker}
 use Rattle.sw_rules.specs.Keys.{key_of}
 use Rattle.sw_rules.specs.Matching.{Pair, first_match}
-use Rattle.sw_rules.specs.State.{State, Cache}
+use Rattle.sw_rules.specs.State.{State}
+use Rattle.sw_rules.specs.Storage.{is_cache}
 
 -- what an event comes to: its answer, its notices in order, and the new state
 pub record Outcome : Type 0 where
@@ -61,22 +63,19 @@ with_key state place act = elim (place_key place) [ Ok key ↦ act key | Err why
 
 -- ---- caches by key and name (Service Workers, "name to cache map")
 
-abbrev pub is_cache : List ℕ → List ℕ → Cache → Bool
-is_cache key name row = bytes_eq row.key key && bytes_eq row.name name
-
 -- the pairs of the cache of this name, none where the name is absent
-abbrev pub pairs_of : List ℕ → List ℕ → List Cache → Option (List Pair)
+abbrev pub pairs_of : List ℕ → List ℕ → List KeptCache → Option (List Pair)
 pairs_of key name rows = option_map (λ row. row.pairs) (find (is_cache key name) rows)
 
-abbrev pub with_pairs : List ℕ → List ℕ → List Pair → List Cache → List Cache
+abbrev pub with_pairs : List ℕ → List ℕ → List Pair → List KeptCache → List KeptCache
 with_pairs key name pairs rows = map (λ row. if is_cache key name row then record row { pairs = pairs } else row) rows
 
 -- an empty cache is added last
-abbrev pub with_new_cache : List ℕ → List ℕ → List Cache → List Cache
+abbrev pub with_new_cache : List ℕ → List ℕ → List KeptCache → List KeptCache
 with_new_cache key name rows = rows ++ record { key = key; name = name; pairs = [] } ∷ []
 
 -- the caches of a key, or the one of them that has this name
-abbrev pub asked_caches : List ℕ → Option (List ℕ) → List Cache → List Cache
+abbrev pub asked_caches : List ℕ → Option (List ℕ) → List KeptCache → List KeptCache
 asked_caches key name rows =
     filter (λ row. bytes_eq row.key key && option_map_or (bytes_eq row.name) name true) rows
 
@@ -123,7 +122,7 @@ put_response state base put key =
     ]
 
 -- the first match in the first cache that has one (Service Workers, CacheStorage, "match()")
-abbrev pub first_hit : Request → Options → List Cache → Answer
+abbrev pub first_hit : Request → Options → List KeptCache → Answer
 first_hit query options [] = answer.None
 first_hit query options (cache ∷ rest) =
     elim (first_match cache.pairs query options) [

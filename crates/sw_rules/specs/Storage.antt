@@ -15,7 +15,7 @@ use Rattle.sw_rules.specs.declared.workers.Phase.TheVariants.{Activate}
 use Rattle.sw_rules.specs.declared.recordings.Handlers.{Handlers}
 use Rattle.sw_rules.specs.Batch.{batch}
 use Rattle.sw_rules.specs.Matching.{Pair}
-use Rattle.sw_rules.specs.State.{State, Registration, Worker, Handler, Cache, initial}
+use Rattle.sw_rules.specs.State.{State, Registration, Worker, Handler, initial}
 
 -- nothing is kept
 abbrev pub nothing : Kept
@@ -179,9 +179,6 @@ is_activating worker = elim worker.state [ Activating ↦ true | _ ↦ false ]
 abbrev pub activate_handler : Worker → Handler
 activate_handler worker = record { worker = worker.number; phase = Activate; made = 0; faulted = false }
 
-abbrev pub restored_cache : KeptCache → Cache
-restored_cache row = record { key = row.key; name = row.name; pairs = row.pairs }
-
 -- the state after a restart from a content (Service Workers, Appendix A, "User Agent Shutdown"; the moment, at opening, and that activate handlers start again are own)
 abbrev pub restart : Kept → State
 restart kept =
@@ -190,5 +187,5 @@ restart kept =
       registrations = map restored_registration (enumerate_from 0 kept.registrations);
       workers = workers;
       handlers = map activate_handler (filter is_activating workers);
-      caches = map restored_cache kept.caches;
+      caches = kept.caches;
     }
