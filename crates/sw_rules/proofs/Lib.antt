@@ -1,2 +1,4 @@
 pub mod AddressRows
+pub mod Controllers
+pub mod HistoryLemmas
 pub mod OnLiterals

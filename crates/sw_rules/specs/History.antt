@@ -21,15 +21,20 @@ use Rattle.sw_rules.specs.Addresses.{resolved, without_fragment}
 use Rattle.sw_rules.specs.Changes.{changes_of}
 use Rattle.sw_rules.specs.Events.{who_of}
 use Rattle.sw_rules.specs.State.{State, Registration, Worker}
-use Rattle.sw_rules.specs.Step.{Step, step}
+use Rattle.sw_rules.specs.Step.{Outcome, Step, step}
 use Rattle.sw_rules.specs.Storage.{IsMade, restart}
 use Rattle.sw_rules.specs.Tasks.{worker_row}
 
 -- ---- states along a history
 
+-- the state after an event that came to this; one that isn't enabled leaves it
+abbrev pub state_after : State → Option Outcome → State
+state_after state None = state
+state_after state (Some outcome) = outcome.new
+
 -- the state after an entry (own)
 abbrev pub moved : State → Entry → State
-moved state entry = elim (step state entry.event) [ Some outcome ↦ outcome.new | None ↦ state ]
+moved state entry = state_after state (step state entry.event)
 
 -- the state after these entries
 abbrev pub after_entries : State → List Entry → State
