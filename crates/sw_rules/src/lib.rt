@@ -4,8 +4,10 @@
 //! `specs/`, one file for each subject.
 #![tactic(auto)]
 
+pub mod address;
 pub mod base;
 pub mod exchange;
+pub mod header;
 
 pub use base::bytes::Bytes;
 pub use base::items::Items;
