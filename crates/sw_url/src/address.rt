@@ -16,7 +16,11 @@ use url::{Position, Url};
 /// `Unparsed` where the base doesn't parse, or the text doesn't parse against it.
 #[tactic(auto, unfolding(sw_rules::specs::Addresses::resolved))]
 pub fn resolve(alloc: Global, text: &Text, base: &Text) -> Result<Text, UrlFault>
-    ensures { Answers result (ok_or (resolved text.now base.now) Unparsed) }
+    ensures ok { IfOk result (λ address. resolved text.now base.now ≡ Some address) }
+    ensures unparsed { UnlessNoMemory result (IsErrOf result UrlFault.Unparsed
+        ↔ (resolved text.now base.now ≡ None)) }
+    ensures scheme { ¬ (IsErrOf result UrlFault.Scheme) }
+    ensures escaped_slash { ¬ (IsErrOf result UrlFault.EscapedSlash) }
 {
     let url = parsed_against(alloc, text.as_str(), base.as_str())?;
     Ok(Text::of(alloc, url.as_str())?)
@@ -29,7 +33,13 @@ pub fn resolve(alloc: Global, text: &Text, base: &Text) -> Result<Text, UrlFault
 /// `EscapedSlash` where the path holds `%2f` or `%5c` in any case.
 #[tactic(auto, unfolding(sw_rules::specs::Addresses::script_address))]
 pub fn script_url(alloc: Global, text: &Text, base: &Text) -> Result<Text, UrlFault>
-    ensures { Answers result (script_address text.now base.now) }
+    ensures ok { IfOk result (λ address. script_address text.now base.now ≡ Ok address) }
+    ensures unparsed { UnlessNoMemory result (IsErrOf result UrlFault.Unparsed
+        ↔ (script_address text.now base.now ≡ Err Unparsed)) }
+    ensures scheme { UnlessNoMemory result (IsErrOf result UrlFault.Scheme
+        ↔ (script_address text.now base.now ≡ Err Scheme)) }
+    ensures escaped_slash { UnlessNoMemory result (IsErrOf result UrlFault.EscapedSlash
+        ↔ (script_address text.now base.now ≡ Err EscapedSlash)) }
 {
     accepted(alloc, text.as_str(), base.as_str())
 }
@@ -43,7 +53,13 @@ pub fn scope_url(
     script: &Text,
     base: &Text,
 ) -> Result<Text, UrlFault>
-    ensures { Answers result (scope_address (option_copied text.entry) script.now base.now) }
+    ensures ok { IfOk result (λ address. scope_address (option_copied text.entry) script.now base.now ≡ Ok address) }
+    ensures unparsed { UnlessNoMemory result (IsErrOf result UrlFault.Unparsed
+        ↔ (scope_address (option_copied text.entry) script.now base.now ≡ Err Unparsed)) }
+    ensures scheme { UnlessNoMemory result (IsErrOf result UrlFault.Scheme
+        ↔ (scope_address (option_copied text.entry) script.now base.now ≡ Err Scheme)) }
+    ensures escaped_slash { UnlessNoMemory result (IsErrOf result UrlFault.EscapedSlash
+        ↔ (scope_address (option_copied text.entry) script.now base.now ≡ Err EscapedSlash)) }
 {
     match text {
         Some(text) => accepted(alloc, text.as_str(), base.as_str()),
