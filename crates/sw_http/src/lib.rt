@@ -1,13 +1,14 @@
-// A library with one function.
+//! Requests, responses and JavaScript's media types: each call is its rule.
+//!
+//! Tokens, names, values and statuses are those of `http_header` and `http`.
 #![tactic(auto)]
 
-ghost use Rattle.std.specs.Prelude.{◌≡◌};
-ghost use Rattle.sw_http.specs.Echo.{echo_of};
+mod fault;
+mod lines;
+mod media;
+mod message;
+mod trim;
 
-// The `ensures` clause is the contract: what `echo` returns is `echo_of` of its argument, a definition
-// in `specs/Echo.antt`, which a caller's clause can cite too.
-pub fn echo(x: usize) -> usize
-    ensures { result ≡ echo_of x }
-{
-    x
-}
+pub use fault::HttpFault;
+pub use media::is_javascript;
+pub use message::{request, response};

@@ -6,6 +6,7 @@
 
 pub mod address;
 pub mod base;
+pub mod cut;
 pub mod exchange;
 pub mod header;
 
