@@ -1,4 +1,5 @@
 pub mod AddressRows
 pub mod Controllers
+pub mod CutLemmas
 pub mod HistoryLemmas
 pub mod OnLiterals

@@ -7,7 +7,7 @@ use Rattle.url.specs.declared.host.Host.{Host}
 use Rattle.url.specs.declared.host.Host.TheVariants.{Domain, Ipv4, Ipv6}
 use Rattle.url.specs.Origin.{own_origin, is_http, ascii_serialization}
 use Rattle.url.specs.Parser.{Parsed, parse_url}
-use Rattle.url.specs.Parts.{Parts, host_or_empty, serialize}
+use Rattle.url.specs.Parts.{Parts, nonempty_host, serialize}
 
 -- a parsed address, without the reason of a refusal (own)
 abbrev pub when_parsed : Parsed Parts → Option Parts
@@ -75,7 +75,7 @@ is_loopback (Ipv6 address) = bytes_eq address.segments (0 ∷ 0 ∷ 0 ∷ 0 ∷ 
 abbrev pub is_trusted : Parts → Bool
 is_trusted url =
     bytes_eq url.scheme (codes "https")
-    || (bytes_eq url.scheme (codes "http") && is_loopback (host_or_empty url))
+    || (bytes_eq url.scheme (codes "http") && option_map_or is_loopback (nonempty_host url) false)
 
 -- the text is a trustworthy address (Secure Contexts, 3.2, "Is url potentially trustworthy?"; own profile)
 unfoldable pub is_trustworthy : List ℕ → Bool

@@ -1,6 +1,6 @@
 -- Header lists: names, values, methods, combined values and the members of Vary.
-use Rattle.std.specs.Prelude.{ℕ, ◌-◌, Bool, not, ◌&&◌, ◌||◌, ◌==◌, nat_lt, List, [], ◌∷◌, ◌++◌, map, filter, find, reverse, take, drop, length, codes, bytes_eq, Option, Some, None, option_map, option_to_list, flat_map, if◌then◌else◌}
-use Rattle.std.specs.List.{prefix_len, suffix_len, slice_split, list_any, list_all}
+use Rattle.std.specs.Prelude.{ℕ, Bool, not, ◌&&◌, ◌||◌, ◌==◌, nat_lt, List, [], ◌∷◌, ◌++◌, map, filter, find, reverse, length, codes, bytes_eq, Option, Some, None, option_map, option_to_list, flat_map, if◌then◌else◌}
+use Rattle.std.specs.List.{slice_split, list_any, list_all}
 use Rattle.std.specs.Char.{to_ascii_uppercase}
 use Rattle.http_header.specs.FieldName.{is_field_name}
 use Rattle.http_header.specs.Token.{tab, space, lowercase, token_test, is_value_byte}
@@ -12,11 +12,12 @@ is_blank b = b == space || b == tab
 
 -- bytes without the spaces and tabs at their front
 abbrev pub trimmed_front : List ℕ → List ℕ
-trimmed_front bytes = drop (prefix_len is_blank bytes) bytes
+trimmed_front [] = []
+trimmed_front (b ∷ rest) = if is_blank b then trimmed_front rest else b ∷ rest
 
 -- bytes without the spaces and tabs at their end
 abbrev pub trimmed_back : List ℕ → List ℕ
-trimmed_back bytes = take (length bytes - suffix_len is_blank bytes) bytes
+trimmed_back bytes = reverse (trimmed_front (reverse bytes))
 
 -- bytes without the spaces and tabs at both ends (Fetch, 2.2.2, "normalize")
 abbrev pub trimmed : List ℕ → List ℕ

@@ -4,11 +4,14 @@
 //! `specs/`, one file for each subject.
 #![tactic(auto)]
 
+pub mod address;
 pub mod answers;
 pub mod base;
+pub mod cut;
 pub mod disk;
 pub mod events;
 pub mod exchange;
+pub mod header;
 pub mod histories;
 pub mod recordings;
 pub mod rows;

@@ -1,0 +1,43 @@
+//! Why a request or a response is refused.
+
+ghost use Rattle.std.specs.Prelude.{◌≡◌};
+
+use std::alloc::AllocError;
+use sw_rules::NoMemory;
+
+/// Why a call gave no request or response.
+#[derive(Debug, Clone, Copy, PartialEq, Eq)]
+pub enum HttpFault {
+    /// A growth was refused by the allocator.
+    NoMemory,
+    /// The method is no token.
+    BadMethod,
+    /// The status is outside 100 to 999.
+    BadStatus,
+    /// The name of a header is no token of 1 to 65,535 bytes.
+    BadName,
+    /// The value of a header has a character below U+0020 other than a tab, or U+007F.
+    BadValue,
+    /// The body has more than 1,048,576 bytes.
+    BodyTooLarge,
+}
+
+impl From<NoMemory> for HttpFault {
+    ghost use Rattle.sw_http.specs.declared.fault.HttpFault.TheVariants.{NoMemory};
+
+    ghost from_gives = { λ _ e. e ≡ NoMemory };
+
+    fn from(_: NoMemory) -> HttpFault {
+        HttpFault::NoMemory
+    }
+}
+
+impl From<AllocError> for HttpFault {
+    ghost use Rattle.sw_http.specs.declared.fault.HttpFault.TheVariants.{NoMemory};
+
+    ghost from_gives = { λ _ e. e ≡ NoMemory };
+
+    fn from(_: AllocError) -> HttpFault {
+        HttpFault::NoMemory
+    }
+}

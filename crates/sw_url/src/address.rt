@@ -1,0 +1,130 @@
+//! Resolved, script and scope addresses.
+
+ghost use Rattle.std.specs.Prelude.{◌≡◌, ◌↔◌, List, ℕ, take, codes, Some, None, Ok, Err, ok_or, option_map, option_copied, IfOk, IsErrOf};
+ghost use Rattle.url.specs.Parts.{serialize};
+ghost use Rattle.sw_rules.specs.Addresses.{AddressFault, Unparsed, Scheme, EscapedSlash, accepted, has_escaped_slash, is_escaped_slash, no_fragment, parsed_against, resolved, scope_address, script_address, without_fragment, without_query};
+ghost use Rattle.sw_url.specs.Answers.{Answers, UnlessNoMemory};
+
+use crate::fault::UrlFault;
+use crate::parsing::{is_http, parsed_against};
+use std::alloc::Global;
+use sw_rules::Text;
+use url::{Position, Url};
+
+/// The serialized address of a text against a base, with its fragment (URL, 4.4 and 4.5).
+///
+/// `Unparsed` where the base doesn't parse, or the text doesn't parse against it.
+#[tactic(auto, unfolding(sw_rules::specs::Addresses::resolved))]
+pub fn resolve(alloc: Global, text: &Text, base: &Text) -> Result<Text, UrlFault>
+    ensures ok { IfOk result (λ address. resolved text.now base.now ≡ Some address) }
+    ensures unparsed { UnlessNoMemory result (IsErrOf result UrlFault.Unparsed
+        ↔ (resolved text.now base.now ≡ None)) }
+    ensures scheme { ¬ (IsErrOf result UrlFault.Scheme) }
+    ensures escaped_slash { ¬ (IsErrOf result UrlFault.EscapedSlash) }
+{
+    let url = parsed_against(alloc, text.as_str(), base.as_str())?;
+    Ok(Text::of(alloc, url.as_str())?)
+}
+
+/// The script address of a text against a base, without its fragment (Service Workers, "Start
+/// Register").
+///
+/// `Unparsed` as in `resolve`, then `Scheme` where the scheme is neither http nor https, then
+/// `EscapedSlash` where the path holds `%2f` or `%5c` in any case.
+#[tactic(auto, unfolding(sw_rules::specs::Addresses::script_address))]
+pub fn script_url(alloc: Global, text: &Text, base: &Text) -> Result<Text, UrlFault>
+    ensures ok { IfOk result (λ address. script_address text.now base.now ≡ Ok address) }
+    ensures unparsed { UnlessNoMemory result (IsErrOf result UrlFault.Unparsed
+        ↔ (script_address text.now base.now ≡ Err Unparsed)) }
+    ensures scheme { UnlessNoMemory result (IsErrOf result UrlFault.Scheme
+        ↔ (script_address text.now base.now ≡ Err Scheme)) }
+    ensures escaped_slash { UnlessNoMemory result (IsErrOf result UrlFault.EscapedSlash
+        ↔ (script_address text.now base.now ≡ Err EscapedSlash)) }
+{
+    accepted(alloc, text.as_str(), base.as_str())
+}
+
+/// The scope address of a text against a base; where no text is given, that of `./` against the
+/// script (Service Workers, "Start Register"). It refuses as `script_url` does.
+#[tactic(auto, unfolding(sw_rules::specs::Addresses::scope_address))]
+pub fn scope_url(
+    alloc: Global,
+    text: Option<&Text>,
+    script: &Text,
+    base: &Text,
+) -> Result<Text, UrlFault>
+    ensures ok { IfOk result (λ address. scope_address (option_copied text.entry) script.now base.now ≡ Ok address) }
+    ensures unparsed { UnlessNoMemory result (IsErrOf result UrlFault.Unparsed
+        ↔ (scope_address (option_copied text.entry) script.now base.now ≡ Err Unparsed)) }
+    ensures scheme { UnlessNoMemory result (IsErrOf result UrlFault.Scheme
+        ↔ (scope_address (option_copied text.entry) script.now base.now ≡ Err Scheme)) }
+    ensures escaped_slash { UnlessNoMemory result (IsErrOf result UrlFault.EscapedSlash
+        ↔ (scope_address (option_copied text.entry) script.now base.now ≡ Err EscapedSlash)) }
+{
+    match text {
+        Some(text) => accepted(alloc, text.as_str(), base.as_str()),
+        None => accepted(alloc, "./", script.as_str()),
+    }
+}
+
+/// The address without its fragment, as bytes (URL, 4.5, "exclude fragment"). It takes no memory.
+pub fn without_fragment(address: &Text) -> &[u8]
+    ensures { result.now ≡ without_fragment address.now }
+{
+    sw_rules::address::without_fragment(address.as_bytes())
+}
+
+/// The address without fragment and query, as bytes. It takes no memory.
+pub fn without_query(address: &Text) -> &[u8]
+    ensures { result.now ≡ without_query address.now }
+{
+    sw_rules::address::without_query(address.as_bytes())
+}
+
+/// The address of a text against a base, where a worker may have it as script or scope.
+fn accepted(alloc: Global, text: &str, base: &str) -> Result<Text, UrlFault>
+    ensures { Answers result (accepted (parsed_against text.now base.now)) }
+{
+    let url = parsed_against(alloc, text, base)?;
+    if !is_http(&url) {
+        return Err(UrlFault::Scheme);
+    }
+    if has_escaped_slash(url.path().as_bytes()) {
+        return Err(UrlFault::EscapedSlash);
+    }
+    Ok(Text::of(alloc, bare_text(&url))?)
+}
+
+/// The text of the address without its fragment.
+fn bare_text(url: &Url) -> &str
+    ensures { result.now ≡ serialize (no_fragment url.now) }
+{
+    url.slice(Position::BeforeScheme, Position::AfterQuery)
+}
+
+#[tactic(auto, unfolding(sw_rules::specs::Addresses::has_escaped_slash))]
+fn has_escaped_slash(path: &[u8]) -> bool
+    ensures { result ≡ has_escaped_slash path.now }
+{
+    let mut rest = path;
+    while let [_, tail @ ..] = rest {
+        if is_escaped_slash(first_three(rest)) {
+            return true;
+        }
+        rest = tail;
+    }
+    false
+}
+
+#[tactic(auto, using(std::proofs::lemmas::List::take_min))]
+fn first_three(bytes: &[u8]) -> &[u8]
+    ensures { result.now ≡ take 3 bytes.now }
+{
+    bytes.split_at(bytes.len().min(3)).0
+}
+
+fn is_escaped_slash(three: &[u8]) -> bool
+    ensures { result ≡ is_escaped_slash three.now }
+{
+    three.eq_ignore_ascii_case(b"%2f") || three.eq_ignore_ascii_case(b"%5c")
+}

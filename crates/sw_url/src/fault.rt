@@ -1,0 +1,39 @@
+//! Why an address is refused.
+
+ghost use Rattle.std.specs.Prelude.{◌≡◌};
+
+use std::alloc::AllocError;
+use sw_rules::NoMemory;
+
+/// Why a call gave no address.
+#[derive(Debug, Clone, Copy, PartialEq, Eq)]
+pub enum UrlFault {
+    /// A growth was refused by the allocator.
+    NoMemory,
+    /// The base doesn't parse, or the text doesn't parse against it.
+    Unparsed,
+    /// The scheme is neither http nor https.
+    Scheme,
+    /// The path holds `%2f` or `%5c` in any case.
+    EscapedSlash,
+}
+
+impl From<NoMemory> for UrlFault {
+    ghost use Rattle.sw_url.specs.declared.fault.UrlFault.TheVariants.{NoMemory};
+
+    ghost from_gives = { λ _ e. e ≡ NoMemory };
+
+    fn from(_: NoMemory) -> UrlFault {
+        UrlFault::NoMemory
+    }
+}
+
+impl From<AllocError> for UrlFault {
+    ghost use Rattle.sw_url.specs.declared.fault.UrlFault.TheVariants.{NoMemory};
+
+    ghost from_gives = { λ _ e. e ≡ NoMemory };
+
+    fn from(_: AllocError) -> UrlFault {
+        UrlFault::NoMemory
+    }
+}

@@ -1,0 +1,15 @@
+//! Addresses, trust, storage keys and the bound of a scope: each call is its rule.
+//!
+//! Addresses are parsed, joined and serialized by `url`.
+#![tactic(auto)]
+
+mod address;
+mod fault;
+mod origin;
+mod parsing;
+mod trust;
+
+pub use address::{resolve, scope_url, script_url, without_fragment, without_query};
+pub use fault::UrlFault;
+pub use origin::{key_of, max_scope};
+pub use trust::is_trustworthy;
