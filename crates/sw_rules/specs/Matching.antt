@@ -1,5 +1,5 @@
 -- Matching: which registration an address has, and which items of a cache a query finds.
-use Rattle.std.specs.Prelude.{ℕ, Bool, true, false, not, ◌&&◌, ◌||◌, nat_eq, nat_lt, List, [], codes, map, filter, fold, length, bytes_eq, Option, Some, None, slice_get, if◌then◌else◌}
+use Rattle.std.specs.Prelude.{ℕ, Bool, true, false, not, ◌&&◌, ◌||◌, nat_eq, nat_lt, List, [], codes, map, filter, fold, length, bytes_eq, Option, Some, None, find, if◌then◌else◌}
 use Rattle.std.specs.List.{list_any, list_all, enumerate_from, starts_with}
 use Rattle.std.specs.Option.{option_map_or}
 use Rattle.sw_rules.specs.declared.exchange.Header.{Header}
@@ -96,4 +96,6 @@ query_of pairs query options = map (λ item. item.0) (matching_items pairs query
 
 -- the first pair that matches, behind its place
 abbrev pub first_match : List Pair → Request → Options → Option (ℕ × Pair)
-first_match pairs query options = slice_get (matching_items pairs query options) 0
+first_match pairs query options =
+    if finds_nothing query options then None
+    else find (λ item. matches_pair query options item.1) (enumerate_from 0 pairs)

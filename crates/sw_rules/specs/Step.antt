@@ -1,7 +1,6 @@
 -- One step: what an event answers and tells, and the state that it leaves.
-use Rattle.std.specs.Prelude.{◌≡◌, ℕ, Bool, true, ◌&&◌, List, [], ◌∷◌, ◌++◌, map, filter, find, length, bytes_eq, is_some, Option, Some, None, option_map, Result, Ok, Err, if◌then◌else◌}
+use Rattle.std.specs.Prelude.{◌≡◌, ℕ, Bool, true, false, ◌&&◌, List, [], ◌∷◌, ◌++◌, filter, find, length, bytes_eq, is_some, Option, Some, None, option_map, Result, Ok, Err, if◌then◌else◌}
 use Rattle.std.specs.Option.{option_map_or}
-use Rattle.url.specs.Parts.{Parts}
 use Rattle.sw_rules.specs.declared.answers.Answer.{Answer}
 use Rattle.sw_rules.specs.declared.answers.Answer.TheVariants as answer
 use Rattle.sw_rules.specs.declared.answers.Cause.{Cause}
@@ -25,7 +24,7 @@ use Rattle.sw_rules.specs.Events.{has_right_maker}
 use Rattle.sw_rules.specs.Keys.{key_of}
 use Rattle.sw_rules.specs.Matching.{Pair, first_match}
 use Rattle.sw_rules.specs.State.{State}
-use Rattle.sw_rules.specs.Storage.{is_cache}
+use Rattle.sw_rules.specs.Storage.{is_cache, with_cache}
 
 -- what an event comes to: its answer, its notices in order, and the new state
 pub record Outcome : Type 0 where
@@ -48,14 +47,15 @@ type_error why = fault.TypeError why None
 -- ---- the storage key of a page (Storage, "obtain a storage key"; Service Workers, "SecureContext")
 
 -- the key, or the first refusal: the address doesn't parse; it isn't http or https; it isn't trustworthy
-abbrev pub key_or_fault : Option Parts → Option (List ℕ) → Bool → Result (List ℕ) Fault
-key_or_fault None key trusted = Err (type_error cause.Unparsed)
-key_or_fault (Some url) None trusted = Err (type_error cause.Scheme)
-key_or_fault (Some url) (Some key) trusted =
-    if trusted then Ok key else Err (fault.SecurityError security.Untrusted)
+abbrev pub key_or_fault : Bool → Option (List ℕ) → Bool → Result (List ℕ) Fault
+key_or_fault false key trusted = Err (type_error cause.Unparsed)
+key_or_fault true None trusted = Err (type_error cause.Scheme)
+key_or_fault true (Some key) false = Err (fault.SecurityError security.Untrusted)
+key_or_fault true (Some key) true = Ok key
 
 abbrev pub place_key : Place → Result (List ℕ) Fault
-place_key place = key_or_fault (address_of place.at) (key_of place.at place.partition) (is_trustworthy place.at)
+place_key place =
+    key_or_fault (is_some (address_of place.at)) (key_of place.at place.partition) (is_trustworthy place.at)
 
 -- what an action does with the key of its place
 abbrev pub with_key : State → Place → (List ℕ → Outcome) → Outcome
@@ -68,7 +68,7 @@ abbrev pub pairs_of : List ℕ → List ℕ → List KeptCache → Option (List 
 pairs_of key name rows = option_map (λ row. row.pairs) (find (is_cache key name) rows)
 
 abbrev pub with_pairs : List ℕ → List ℕ → List Pair → List KeptCache → List KeptCache
-with_pairs key name pairs rows = map (λ row. if is_cache key name row then record row { pairs = pairs } else row) rows
+with_pairs key name pairs rows = with_cache key name (λ row. record row { pairs = pairs }) rows
 
 -- an empty cache is added last
 abbrev pub with_new_cache : List ℕ → List ℕ → List KeptCache → List KeptCache

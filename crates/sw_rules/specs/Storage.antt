@@ -71,10 +71,15 @@ is_cache key name row = bytes_eq row.key key && bytes_eq row.name name
 abbrev pub pairs_after : List Pair → List Op → List Pair
 pairs_after pairs ops = elim (batch pairs ops) [ Ok new ↦ new | Err fault ↦ pairs ]
 
+-- the first cache of a key and a name, changed
+abbrev pub with_cache : List ℕ → List ℕ → (KeptCache → KeptCache) → List KeptCache → List KeptCache
+with_cache key name f [] = []
+with_cache key name f (row ∷ rest) =
+    if is_cache key name row then f row ∷ rest else row ∷ with_cache key name f rest
+
 -- the cache of a key and a name after a batch
 abbrev pub with_batch : List ℕ → List ℕ → List Op → List KeptCache → List KeptCache
-with_batch key name ops rows =
-    map (λ row. if is_cache key name row then record row { pairs = pairs_after row.pairs ops } else row) rows
+with_batch key name ops rows = with_cache key name (λ row. record row { pairs = pairs_after row.pairs ops }) rows
 
 -- ---- changes
 
