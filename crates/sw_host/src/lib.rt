@@ -1,13 +1,8 @@
-// A library with one function.
+//! The host: it reads a recording, runs it, and prints the transcript.
 #![tactic(auto)]
 
-ghost use Rattle.std.specs.Prelude.{◌≡◌};
-ghost use Rattle.sw_host.specs.Echo.{echo_of};
-
-// The `ensures` clause is the contract: what `echo` returns is `echo_of` of its argument, a definition
-// in `specs/Echo.antt`, which a caller's clause can cite too.
-pub fn echo(x: usize) -> usize
-    ensures { result ≡ echo_of x }
-{
-    x
-}
+mod acting;
+mod caches;
+mod host;
+mod place;
+mod play;
