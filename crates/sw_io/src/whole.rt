@@ -1,8 +1,8 @@
 //! Reading all that a source has, and writing all of some bytes.
 
-ghost use Rattle.std.specs.Prelude.{◌≡◌, ◌+◌, ◌<◌, ◌≤◌, length, IfOk, OnOk, OnErr, IfSome, IsErrOf};
+ghost use Rattle.std.specs.Prelude.{◌≡◌, ◌+◌, ◌<◌, ◌≤◌, List, ℕ, length, IfOk, OnOk, OnErr, IsErrOf};
 ghost use Rattle.std.specs.Io.KnownBytes.{Appends, IsAtEnd};
-ghost use Rattle.sw_io.specs.Whole.{ConsumesSome, AppendsPrefix};
+ghost use Rattle.sw_rules.specs.Streams.{AppendsPrefix, ConsumesSome, Tells};
 ghost use Rattle.sw_rules.specs.Faults.{Rose};
 ghost use Rattle.sw_io.specs.declared.whole.ReadAllError.TheVariants.{ReadFault, NoMemory};
 
@@ -18,6 +18,7 @@ pub enum ReadAllError {
     ReadFault,
     /// More bytes came than the limit allows.
     TooLarge,
+    /// There was no memory for the bytes.
     NoMemory,
 }
 
@@ -40,16 +41,18 @@ impl From<AllocError> for ReadAllError {
 /// Reads a source to its end, which takes at most `limit` + 2 reads. More than `limit` bytes are too large.
 pub fn read_all<S: Source>(alloc: Global, source: &mut S, limit: u64) -> Result<Bytes, ReadAllError>
     // The bytes are all that was left, and they are within the limit.
-    ensures bytes { IfOk result (λ bytes. IfSome (S.left source.old) (λ all. bytes ≡ all)) }
+    ensures bytes { IfOk result (λ bytes. Tells (S.left source.old) bytes) }
     ensures within { IfOk result (λ bytes. length bytes ≤ limit) }
     ensures end { OnOk result (IsAtEnd (S.left source.new)) }
 
-    // Whatever comes, the source lost nothing but bytes at its front.
+    // Too large is told only where more was left. With the clauses above it is told exactly there, if no read
+    // fails and there is memory.
+    ensures too_large { IsErrOf result ReadAllError.TooLarge
+        → (all : List ℕ) × Tells (S.left source.old) all × (limit < length all) }
+
+    // Whatever is answered, the source lost nothing but bytes at its front.
     ensures consumed { ConsumesSome (S.left source.old) (S.left source.new) }
 
-    // With `bytes` and `within`: exactly where more bytes were left, if no read fails and there is memory.
-    ensures too_large { IsErrOf result ReadAllError.TooLarge
-        → IfSome (S.left source.old) (λ all. limit < length all) }
     ensures read_fault { IsErrOf result ReadAllError.ReadFault
         → Rose (S.faults source.old) (S.faults source.new) }
     ensures count { S.faults source.old ≤ S.faults source.new }
