@@ -17,5 +17,6 @@ pub mod Run
 pub mod State
 pub mod Step
 pub mod Storage
+pub mod Streams
 pub mod Tasks
 pub mod Transcript

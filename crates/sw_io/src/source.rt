@@ -1,0 +1,34 @@
+//! Where bytes come from.
+
+ghost use Rattle.std.specs.Prelude.{◌≡◌, ◌+◌, ◌≤◌, ℕ, List, Option, OnErr};
+ghost use Rattle.std.specs.Io.{ReadsAtMost};
+ghost use Rattle.std.specs.Io.KnownBytes.{ReadConsumes};
+ghost use Rattle.sw_rules.specs.Faults.{Rose};
+
+/// A call of a source or a sink failed, and its count of faults rose.
+#[derive(Debug, Clone, Copy, PartialEq, Eq)]
+pub struct Failed;
+
+/// Where bytes come from.
+pub trait Source {
+    /// The bytes that are left, where the source tells them.
+    ghost left: { Self → Option (List ℕ) };
+
+    /// How often a read failed.
+    ghost faults: { Self → ℕ };
+
+    /// How many reads were made, as far as the source counts them.
+    ghost reads: { Self → ℕ };
+
+    /// Reads into the front of `into` and says how many bytes it read. Where there is room in `into`, 0 is the end.
+    fn read(&mut self, into: &mut [u8]) -> Result<usize, Failed>
+        ensures within { ReadsAtMost result into.new }
+        ensures bytes { ReadConsumes (left self.old) (left self.new) result into.new }
+        ensures count { faults self.old ≤ faults self.new }
+        ensures failed { OnErr result (Rose (faults self.old) (faults self.new)) }
+        ensures once { reads self.new ≤ reads self.old + 1 };
+
+    /// How often a read failed. At 2^64 - 1 the count stays.
+    fn faults(&self) -> u64
+        ensures { result ≡ faults self.now };
+}
