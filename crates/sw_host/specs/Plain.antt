@@ -1,16 +1,48 @@
--- Plain events and pairs: those of the forms that are read so far.
-use Rattle.std.specs.Prelude.{◌≡◌, ℕ, Bool, true, List, [], ◌∷◌, ◌++◌, filter, not, bytes_eq}
-use Rattle.sw_rules.specs.Addresses.{without_fragment}
-use Rattle.sw_rules.specs.Matching.{Pair, is_get}
+-- Plain events, pairs and caches: those of the forms that are read so far. A plain request is a GET without headers,
+-- and a plain response has status 200 and no headers; so only addresses are compared.
+use Rattle.std.specs.Prelude.{◌≡◌, ℕ, ◌+◌, ◌≤◌, Bool, true, not, List, [], ◌∷◌, ◌++◌, filter, find, length, bytes_eq, Option, Some, None, if◌then◌else◌}
+use Rattle.std.specs.List.{enumerate_from}
+use Rattle.sw_rules.specs.declared.answers.Answer.{Answer}
+use Rattle.sw_rules.specs.declared.answers.Answer.TheVariants as answer
+use Rattle.sw_rules.specs.declared.events.Event.{Event}
+use Rattle.sw_rules.specs.declared.events.Event.TheVariants as event
+use Rattle.sw_rules.specs.declared.events.Who.TheVariants.{Lane}
+use Rattle.sw_rules.specs.declared.recordings.CacheMatch.{CacheMatch}
+use Rattle.sw_rules.specs.declared.recordings.CachePut.{CachePut}
 use Rattle.sw_rules.specs.declared.storage.KeptCache.{KeptCache}
+use Rattle.sw_rules.specs.Addresses.{without_fragment}
+use Rattle.sw_rules.specs.Batch.{no_options}
+use Rattle.sw_rules.specs.Matching.{Pair, is_get}
+
+-- ---- pairs and caches
 
 -- a pair's request has this address, fragments aside
 abbrev pub has_url : List ℕ → Pair → Bool
 has_url url pair = bytes_eq (without_fragment url) (without_fragment pair.0.url)
 
+-- the pairs of another address, and then this one
+abbrev pub pairs_with : Pair → List Pair → List Pair
+pairs_with pair pairs = filter (λ old. not (has_url pair.0.url old)) pairs ++ pair ∷ []
+
 -- a cache whose pairs of the same address have made place for this pair
 abbrev pub with_pair : Pair → KeptCache → KeptCache
-with_pair pair row = record row { pairs = filter (λ old. not (has_url pair.0.url old)) row.pairs ++ pair ∷ [] }
+with_pair pair row = record row { pairs = pairs_with pair row.pairs }
+
+-- the first pair of this address, behind its place
+abbrev pub first_with_url : List ℕ → List Pair → Option (ℕ × Pair)
+first_with_url url pairs = find (λ item. has_url url item.1) (enumerate_from 0 pairs)
+
+-- a hit in a cache of this name, or else another answer
+abbrev pub hit_or : List ℕ → Answer → Option (ℕ × Pair) → Answer
+hit_or name other None = other
+hit_or name other (Some item) = answer.Hit name item.0 item.1.1.status (length item.1.1.body)
+
+-- the first pair of this address in the first cache of the key that has one
+abbrev pub first_plain_hit : List ℕ → List ℕ → List KeptCache → Answer
+first_plain_hit key url [] = answer.None
+first_plain_hit key url (row ∷ rest) =
+    if bytes_eq row.key key then hit_or row.name (first_plain_hit key url rest) (first_with_url url row.pairs)
+    else first_plain_hit key url rest
 
 -- a pair with a GET request, whose response has no headers
 pub record IsPlainPair (pair : Pair) : Type 0 where
@@ -24,3 +56,23 @@ ArePlainPairs (pair ∷ rest) = IsPlainPair pair × ArePlainPairs rest
 abbrev pub ArePlainCaches : List KeptCache → Type 0
 ArePlainCaches [] = Unit {0}
 ArePlainCaches (row ∷ rest) = ArePlainPairs row.pairs × ArePlainCaches rest
+
+-- ---- events
+
+pub record IsPlainPut (put : CachePut) : Type 0 where
+  pub get : is_get put.request ≡ true
+  pub headers : put.request.headers ≡ []
+  pub status : put.response.status ≡ 200
+  pub response : put.response.headers ≡ []
+
+pub record IsPlainMatch (asked : CacheMatch) : Type 0 where
+  pub get : is_get asked.request ≡ true
+  pub name : asked.name ≡ None
+  pub options : asked.options ≡ no_options
+
+-- an event of a lane that is built so far
+abbrev pub IsPlain : Event → Type 0
+IsPlain (event.CacheOpen (Lane lane at) place name) = Unit {0}
+IsPlain (event.Put (Lane lane at) place put) = IsPlainPut put
+IsPlain (event.Match (Lane lane at) place asked) = IsPlainMatch asked
+IsPlain _ = ⊥
