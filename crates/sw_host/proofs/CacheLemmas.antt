@@ -1,5 +1,5 @@
 -- Lemmas on the rows of caches.
-use Rattle.std.proofs.Common.{◌≡◌, ◌∙◌, ℕ, ◌+◌, ◌<◌, Bool, true, false, List, [], ◌∷◌, ◌++◌, take, drop, set, get_or, length, refl, sym, ap, add-one, arith, append_assoc, if◌then◌else◌}
+use Rattle.std.proofs.Common.{◌≡◌, ◌∙◌, ℕ, ◌+◌, ◌<◌, true, false, List, [], ◌∷◌, ◌++◌, take, drop, set, get_or, length, sym, ap, add-one, arith, append_assoc}
 use Rattle.std.proofs.Math.Seq.{drop-cons}
 use Rattle.std.proofs.lemmas.List.{take_more, set_split}
 use Rattle.sw_rules.specs.declared.storage.KeptCache.{KeptCache}

@@ -1,19 +1,20 @@
 -- On plain pairs the definitions of matching compare addresses alone.
-use Rattle.std.proofs.Common.{◌≡◌, ◌∙◌, ℕ, ◌+◌, Bool, true, false, not, ◌&&◌, ◌||◌, List, [], ◌∷◌, ◌++◌, filter, find, length, bytes_eq, Option, Some, None, Result, Ok, Err, refl, sym, ap, subst, arith, sum_by, nat_le, if◌then◌else◌}
-use Rattle.std.specs.List.{enumerate_from, list_any, list_all}
-use Rattle.std.proofs.lemmas.Grind.{common_steps}
-use Rattle.sw_rules.specs.declared.answers.Answer.{Answer}
+use Rattle.std.proofs.Common.{◌≡◌, ℕ, ◌+◌, Bool, true, false, not, Option, List, option_map, [], ◌∷◌, ◌++◌, filter, find, Some, None, Err, refl, sym, ap, subst, arith, if◌then◌else◌}
+use Rattle.std.specs.List.{enumerate_from}
 use Rattle.sw_rules.specs.declared.exchange.Header.{Header}
 use Rattle.sw_rules.specs.declared.exchange.Request.{Request}
 use Rattle.sw_rules.specs.declared.exchange.Response.{Response}
 use Rattle.sw_rules.specs.declared.exchange.Op.TheVariants as op
 use Rattle.sw_rules.specs.declared.answers.Cause.TheVariants as cause
 use Rattle.sw_rules.specs.declared.storage.KeptCache.{KeptCache}
-use Rattle.sw_rules.specs.Batch.{BatchFault, TypeError, batch, go, has_http_scheme, no_options, op_size, put_fault, without_matching, within_quota}
-use Rattle.sw_rules.specs.Matching.{Pair, first_match, is_get, matches, matches_pair, same_address, vary_allows, varies_on_all}
-use Rattle.sw_rules.specs.Step.{asked_caches, first_hit, with_pairs}
+use Rattle.sw_rules.specs.Batch.{TypeError, batch, has_http_scheme, no_options, op_size, put_fault, without_matching, within_quota}
+use Rattle.sw_rules.specs.Matching.{Pair, first_match, is_get, matches_pair, vary_allows, varies_on_all}
+use Rattle.sw_rules.specs.declared.recordings.CacheMatch.{CacheMatch}
+use Rattle.sw_rules.specs.declared.recordings.CachePut.{CachePut}
+use Rattle.sw_rules.specs.State.{State}
+use Rattle.sw_rules.specs.Step.{asked_caches, first_hit, pairs_of, put_parsed, with_pairs}
 use Rattle.sw_rules.specs.Storage.{is_cache, with_cache}
-use Rattle.sw_host.specs.Plain.{ArePlainCaches, ArePlainPairs, IsPlainPair, first_plain_hit, first_with_url, has_url, hit_or, pairs_with, with_pair}
+use Rattle.sw_host.specs.Plain.{IsPlainMatch, IsPlainPut, plain_put, ArePlainCaches, ArePlainPairs, IsPlainPair, first_plain_hit, first_with_url, has_url, pairs_with, with_pair}
 
 -- no Vary line: nothing varies
 vary_allows-plain : (query item : List Header) (status : ℕ) (body : List ℕ) → vary_allows query item (record { status = status; headers = []; body = body }) ≡ true
@@ -59,7 +60,7 @@ put_fault-plain request response get status headers =
 -- a batch of one plain put
 pub batch-plain : (pairs : List Pair) (request : Request) (response : Response) → is_get request ≡ true → response.status ≡ 200 → response.headers ≡ [] → ArePlainPairs pairs
     → batch pairs (op.Put request response ∷ [])
-      ≡ (if has_http_scheme request then within_quota (op_size (op.Put request response)) (pairs_with (request , response) pairs) else Err (TypeError 0 cause.Scheme))
+    ≡ (if has_http_scheme request then within_quota (op_size (op.Put request response)) (pairs_with (request, response) pairs) else Err (TypeError 0 cause.Scheme))
 batch-plain pairs request response get status headers plain =
     let fault = put_fault-plain request response get status headers in
     let rest = without_matching-plain request pairs plain in
@@ -71,8 +72,8 @@ ArePlainPairs-filter : (p : Pair → Bool) (pairs : List Pair) → ArePlainPairs
 ArePlainPairs-filter p [] plain = tt
 ArePlainPairs-filter p (pair ∷ rest) plain =
     elim (p pair) as (λ (b : Bool). ArePlainPairs (if b then pair ∷ filter p rest else filter p rest)) [
-      true ↦ (plain.0, ArePlainPairs-filter p rest plain.1)
-    | false ↦ ArePlainPairs-filter p rest plain.1
+      | true ↦ (plain.0, ArePlainPairs-filter p rest plain.1)
+      | false ↦ ArePlainPairs-filter p rest plain.1
     ]
 
 ArePlainPairs-push : (pairs : List Pair) (pair : Pair) → ArePlainPairs pairs → IsPlainPair pair → ArePlainPairs (pairs ++ pair ∷ [])
@@ -84,17 +85,17 @@ pairs_with-plain pair pairs plain one =
     ArePlainPairs-push (filter (λ old. not (has_url pair.0.url old)) pairs) pair (ArePlainPairs-filter (λ old. not (has_url pair.0.url old)) pairs plain) one
 
 -- a new empty cache
-pub ArePlainCaches-push : (rows : List KeptCache) (key name : List ℕ) → ArePlainCaches rows → ArePlainCaches (rows ++ record { key = key; name = name; pairs = [] } ∷ [])
-ArePlainCaches-push [] key name plain = (tt, tt)
-ArePlainCaches-push (row ∷ rest) key name plain = (plain.0, ArePlainCaches-push rest key name plain.1)
+pub plain_caches_push : (rows : List KeptCache) (key name : List ℕ) → ArePlainCaches rows → ArePlainCaches (rows ++ record { key = key; name = name; pairs = [] } ∷ [])
+plain_caches_push [] key name plain = (tt, tt)
+plain_caches_push (row ∷ rest) key name plain = (plain.0, plain_caches_push rest key name plain.1)
 
 -- one more plain pair
-pub with_pair-plain : (key name : List ℕ) (pair : Pair) (rows : List KeptCache) → IsPlainPair pair → ArePlainCaches rows → ArePlainCaches (with_cache key name (with_pair pair) rows)
-with_pair-plain key name pair [] one plain = tt
-with_pair-plain key name pair (row ∷ rest) one plain =
+pub with_pair_plain : (key name : List ℕ) (pair : Pair) (rows : List KeptCache) → IsPlainPair pair → ArePlainCaches rows → ArePlainCaches (with_cache key name (with_pair pair) rows)
+with_pair_plain key name pair [] one plain = tt
+with_pair_plain key name pair (row ∷ rest) one plain =
     elim (is_cache key name row) as (λ (b : Bool). ArePlainCaches (if b then with_pair pair row ∷ rest else row ∷ with_cache key name (with_pair pair) rest)) [
-      true ↦ (pairs_with-plain pair row.pairs plain.0 one, plain.1)
-    | false ↦ (plain.0, with_pair-plain key name pair rest one plain.1)
+      | true ↦ (pairs_with-plain pair row.pairs plain.0 one, plain.1)
+      | false ↦ (plain.0, with_pair_plain key name pair rest one plain.1)
     ]
 
 -- the pairs of the cache that is found are plain
@@ -102,8 +103,8 @@ pub found-plain : (key name : List ℕ) (rows : List KeptCache) (row : KeptCache
 found-plain key name [] row found plain = absurd cc
 found-plain key name (first ∷ rest) row found plain =
     elim (is_cache key name first) as (λ (b : Bool). (if b then Some first else find (is_cache key name) rest) ≡ Some row → ArePlainPairs row.pairs) [
-      true ↦ λ is. let e : first ≡ row = cc in subst (λ (x : KeptCache). ArePlainPairs x.pairs) e plain.0
-    | false ↦ λ is. found-plain key name rest row is plain.1
+      | true ↦ λ is. let e : first ≡ row = cc in subst (λ (x : KeptCache). ArePlainPairs x.pairs) e plain.0
+      | false ↦ λ is. found-plain key name rest row is plain.1
     ] found
 
 -- the cache that is found gets these pairs
@@ -111,8 +112,35 @@ pub with_pairs-found : (key name : List ℕ) (pair : Pair) (rows : List KeptCach
 with_pairs-found key name pair [] row found = absurd cc
 with_pairs-found key name pair (first ∷ rest) row found =
     elim (is_cache key name first) as (λ (b : Bool). (if b then Some first else find (is_cache key name) rest) ≡ Some row
-        → (if b then record first { pairs = pairs_with pair row.pairs } ∷ rest else first ∷ with_pairs key name (pairs_with pair row.pairs) rest)
-          ≡ (if b then with_pair pair first ∷ rest else first ∷ with_cache key name (with_pair pair) rest)) [
-      true ↦ λ is. let e : first ≡ row = cc in ap (λ (x : KeptCache). record first { pairs = pairs_with pair x.pairs } ∷ rest) (sym e)
-    | false ↦ λ is. ap (λ (xs : List KeptCache). first ∷ xs) (with_pairs-found key name pair rest row is)
+    → (if b then record first { pairs = pairs_with pair row.pairs } ∷ rest else first ∷ with_pairs key name (pairs_with pair row.pairs) rest)
+    ≡ (if b then with_pair pair first ∷ rest else first ∷ with_cache key name (with_pair pair) rest)) [
+      | true ↦ λ is. let e : first ≡ row = cc in ap (λ (x : KeptCache). record first { pairs = pairs_with pair x.pairs } ∷ rest) (sym e)
+      | false ↦ λ is. ap (λ (xs : List KeptCache). first ∷ xs) (with_pairs-found key name pair rest row is)
     ] found
+
+-- ---- steps
+
+put_found-plain : (state : State) (put : CachePut) (key : List ℕ) (row : KeptCache) (url : List ℕ) → IsPlainPut put → ArePlainCaches state.caches → find (is_cache key put.name) state.caches ≡ Some row → put_parsed state put key row.pairs url ≡ plain_put state put key url
+put_found-plain state put key row url plain all found =
+    let request : Request = record put.request { url = url } in
+    let pair : Pair = (request, put.response) in
+    let same = batch-plain row.pairs request put.response plain.get plain.status plain.response (found-plain key put.name state.caches row found all) in
+    let rows = with_pairs-found key put.name pair state.caches row found in
+    grind (arith, same, rows)
+
+put_any-plain : (state : State) (put : CachePut) (key : List ℕ) (pairs : List Pair) (url : List ℕ) (row : Option KeptCache) → IsPlainPut put → ArePlainCaches state.caches → find (is_cache key put.name) state.caches ≡ row → option_map (λ (x : KeptCache). x.pairs) row ≡ Some pairs → put_parsed state put key pairs url ≡ plain_put state put key url
+put_any-plain state put key pairs url None plain all found is = absurd cc
+put_any-plain state put key pairs url (Some row) plain all found is =
+    let e : row.pairs ≡ pairs = cc in
+    subst (λ (xs : List Pair). put_parsed state put key xs url ≡ plain_put state put key url) e (put_found-plain state put key row url plain all found)
+
+-- a plain put into plain caches
+pub put_parsed_plain : (state : State) (put : CachePut) (key : List ℕ) (pairs : List Pair) (url : List ℕ) → IsPlainPut put → ArePlainCaches state.caches → pairs_of key put.name state.caches ≡ Some pairs → put_parsed state put key pairs url ≡ plain_put state put key url
+put_parsed_plain state put key pairs url plain all is =
+    put_any-plain state put key pairs url (find (is_cache key put.name) state.caches) plain all refl is
+
+-- a plain look-up over plain caches
+pub match_request_plain : (state : State) (asked : CacheMatch) (key : List ℕ) (url : List ℕ) → IsPlainMatch asked → ArePlainCaches state.caches → first_hit (record asked.request { url = url }) asked.options (asked_caches key asked.name state.caches) ≡ first_plain_hit key url state.caches
+match_request_plain state asked key url plain all =
+    let hit = first_hit-plain (record asked.request { url = url }) key state.caches plain.get all in
+    grind (arith, plain.name, plain.options, hit)

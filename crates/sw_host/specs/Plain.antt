@@ -1,6 +1,6 @@
 -- Plain events, pairs and caches: those of the forms that are read so far. A plain request is a GET without headers,
 -- and a plain response has status 200 and no headers; so only addresses are compared.
-use Rattle.std.specs.Prelude.{◌≡◌, ℕ, ◌+◌, ◌≤◌, Bool, true, not, List, [], ◌∷◌, ◌++◌, filter, find, length, bytes_eq, Option, Some, None, if◌then◌else◌}
+use Rattle.std.specs.Prelude.{◌≡◌, ℕ, Bool, true, not, nat_le, List, [], ◌∷◌, ◌++◌, filter, find, length, bytes_eq, Option, Some, None, if◌then◌else◌}
 use Rattle.std.specs.List.{enumerate_from}
 use Rattle.sw_rules.specs.declared.answers.Answer.{Answer}
 use Rattle.sw_rules.specs.declared.answers.Answer.TheVariants as answer
@@ -11,7 +11,13 @@ use Rattle.sw_rules.specs.declared.recordings.CacheMatch.{CacheMatch}
 use Rattle.sw_rules.specs.declared.recordings.CachePut.{CachePut}
 use Rattle.sw_rules.specs.declared.storage.KeptCache.{KeptCache}
 use Rattle.sw_rules.specs.Addresses.{without_fragment}
-use Rattle.sw_rules.specs.Batch.{no_options}
+use Rattle.sw_rules.specs.declared.answers.Cause.TheVariants as cause
+use Rattle.sw_rules.specs.declared.answers.Fault.TheVariants as fault
+use Rattle.sw_rules.specs.declared.exchange.Op.TheVariants as op
+use Rattle.sw_rules.specs.Batch.{has_http_scheme, no_options, op_size, quota}
+use Rattle.sw_rules.specs.State.{State}
+use Rattle.sw_rules.specs.Step.{Outcome, refused, type_error}
+use Rattle.sw_rules.specs.Storage.{with_cache}
 use Rattle.sw_rules.specs.Matching.{Pair, is_get}
 
 -- ---- pairs and caches
@@ -56,6 +62,22 @@ ArePlainPairs (pair ∷ rest) = IsPlainPair pair × ArePlainPairs rest
 abbrev pub ArePlainCaches : List KeptCache → Type 0
 ArePlainCaches [] = Unit {0}
 ArePlainCaches (row ∷ rest) = ArePlainPairs row.pairs × ArePlainCaches rest
+
+-- ---- steps
+
+-- a plain put into a cache that is there
+abbrev pub plain_put : State → CachePut → List ℕ → List ℕ → Outcome
+plain_put state put key url =
+    let request = record put.request { url = url } in
+    if has_http_scheme request
+    then (if nat_le (op_size (op.Put request put.response)) quota
+    then record {
+      answer = answer.Ok;
+      notices = [];
+      new = record state { caches = with_cache key put.name (with_pair (request, put.response)) state.caches };
+    }
+    else refused state fault.Quota)
+    else refused state (type_error cause.Scheme)
 
 -- ---- events
 

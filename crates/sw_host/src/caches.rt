@@ -1,15 +1,15 @@
 //! The caches of a state: a list of rows that is scanned from the front.
 
-ghost use Rattle.std.specs.Prelude.{◌≡◌, ◌++◌, ◌∷◌, [], IfOk, OnOk, bytes_eq, find, filter, not, option_copied, option_map};
+ghost use Rattle.std.specs.Prelude.{◌≡◌, ◌++◌, ◌∷◌, [], IfOk, OnOk, OnErr, ◌≤◌, vec_len, vec_capacity, bytes_eq, find, filter, not, option_copied, option_map, length};
 ghost use Rattle.std.specs.List.{enumerate_from};
 ghost use Rattle.sw_rules.specs.Addresses.{without_fragment};
 ghost use Rattle.sw_rules.specs.Storage.{is_cache, with_cache};
-ghost use Rattle.sw_host.specs.Plain.{has_url, with_pair};
+ghost use Rattle.sw_host.specs.Plain.{first_plain_hit, first_with_url, has_url, pairs_with, with_pair};
 
 use std::alloc::Global;
 use std::mem;
 use sw_rules::address::without_fragment;
-use sw_rules::{Items, KeptCache, NoMemory, Request, Response, Text};
+use sw_rules::{Answer, Items, KeptCache, NoMemory, Request, Response, Text};
 
 /// A request and the response that is kept under it.
 pub type Pair = (Request, Response);
@@ -42,31 +42,38 @@ fn has_url(pair: &Pair, url: &Text) -> bool
     same_address(url, &pair.0.url)
 }
 
-/// The pairs whose requests have another address, and then this one.
-pub fn with_pair(alloc: Global, pairs: Items<Pair>, pair: Pair) -> Result<Items<Pair>, NoMemory>
-    ensures { IfOk result (λ new. new ≡ filter (λ old. not (has_url pair.0.url old)) pairs ++ pair ∷ []) }
+/// Drops the pairs of this address.
+
+fn drop_url(pairs: &mut Vec<Pair>, url: &Text)
+    ensures items { pairs.new.items ≡ filter (λ old. not (has_url url.now old)) pairs.old.items }
+    ensures bound { vec_len pairs.new ≤ vec_len pairs.old }
+    ensures capacity { vec_capacity pairs.new ≡ vec_capacity pairs.old }
 {
-    let mut new = Vec::new(alloc);
-    for old in pairs.into_vec() {
-        if !has_url(&old, &pair.0.url) {
-            new.push(old)?;
+    pairs.retain(|old| !has_url(old, url));
+}
+
+/// Puts a pair into a cache, where it takes the place of the pairs of its address.
+fn add_pair(alloc: Global, row: &mut KeptCache, pair: Pair) -> Result<(), NoMemory>
+    ensures ok { OnOk result (row.new ≡ with_pair pair row.old) }
+    ensures err { OnErr result (row.new ≡ row.old) }
+{
+    let mut pairs = mem::replace(&mut row.pairs, Items::new(alloc)).into_vec();
+    match pairs.reserve(1) {
+        Ok(()) => {
+            drop_url(&mut pairs, &pair.0.url);
+            pairs.push_reserved(pair);
+            row.pairs = Items::from_vec(pairs);
+            Ok(())
+        }
+        Err(_) => {
+            row.pairs = Items::from_vec(pairs);
+            Err(NoMemory)
         }
     }
-    new.push(pair)?;
-    Ok(Items::from_vec(new))
 }
 
-/// Puts a pair into a cache. After want of memory the cache has lost its pairs.
-fn add_pair(alloc: Global, row: &mut KeptCache, pair: Pair) -> Result<(), NoMemory>
-    ensures { OnOk result (row.new ≡ with_pair pair row.old) }
-{
-    let pairs = mem::replace(&mut row.pairs, Items::new(alloc));
-    row.pairs = with_pair(alloc, pairs, pair)?;
-    Ok(())
-}
-
-#[tactic(auto, using(crate::proofs::CacheLemmas::with_cache_hit, crate::proofs::CacheLemmas::with_cache_skip))]
-/// Puts a pair into the first cache of a key and a name. After want of memory that cache has lost its pairs.
+#[tactic(auto, using(crate::proofs::CacheLemmas::with_cache_skip))]
+/// Puts a pair into the first cache of a key and a name.
 pub fn put_pair(
     alloc: Global,
     rows: &mut [KeptCache],
@@ -74,7 +81,8 @@ pub fn put_pair(
     name: &Text,
     pair: Pair,
 ) -> Result<(), NoMemory>
-    ensures { OnOk result (rows.new ≡ with_cache key.now name.now (with_pair pair) rows.old) }
+    ensures ok { OnOk result (rows.new ≡ with_cache key.now name.now (with_pair pair) rows.old) }
+    ensures err { OnErr result (rows.new ≡ rows.old) }
 {
     for place in 0..rows.len() {
         let row = &mut rows[place];
@@ -87,9 +95,8 @@ pub fn put_pair(
 }
 
 /// The first pair whose request has this address, behind its place.
-pub fn first_with_url<'a>(pairs: &'a [Pair], url: &Text) -> Option<(usize, &'a Pair)>
-    ensures { option_map (λ item. (item.0, item.1.now)) result
-        ≡ find (λ item. has_url url.now item.1) (enumerate_from 0 pairs.now) }
+fn first_with_url<'a>(pairs: &'a [Pair], url: &Text) -> Option<(usize, &'a Pair)>
+    ensures { option_map (λ item. (item.0, item.1.now)) result ≡ first_with_url url.now pairs.now }
 {
     for (place, pair) in pairs.iter().enumerate() {
         if has_url(pair, url) {
@@ -97,4 +104,35 @@ pub fn first_with_url<'a>(pairs: &'a [Pair], url: &Text) -> Option<(usize, &'a P
         }
     }
     None
+}
+
+/// The answer of a hit.
+fn hit(alloc: Global, name: &Text, place: usize, pair: &Pair) -> Result<Answer, NoMemory>
+    ensures { IfOk result (λ answer. answer ≡ Answer.Hit name.now place pair.now.1.status (length pair.now.1.body)) }
+{
+    Ok(Answer::Hit {
+        name: name.copy(alloc)?,
+        place: u32::try_from(place).map_err(|_| NoMemory)?,
+        status: pair.1.status,
+        length: pair.1.body.as_bytes().len() as u64,
+    })
+}
+
+/// The first pair of this address in the first cache of the key that has one.
+pub fn first_plain_hit(
+    alloc: Global,
+    rows: &[KeptCache],
+    key: &Text,
+    url: &Text,
+) -> Result<Answer, NoMemory>
+    ensures { IfOk result (λ answer. answer ≡ first_plain_hit key.now url.now rows.now) }
+{
+    for row in rows {
+        if row.key == *key {
+            if let Some((place, pair)) = first_with_url(row.pairs.as_slice(), url) {
+                return hit(alloc, &row.name, place, pair);
+            }
+        }
+    }
+    Ok(Answer::None)
 }
