@@ -1,0 +1,2 @@
+pub mod OnlyListed
+pub mod ReadLines
