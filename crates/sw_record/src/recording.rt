@@ -1,7 +1,7 @@
 //! Reading a recording whole.
 
 ghost use Rattle.std.specs.Prelude.{◌≡◌, Err, None, Some, IfOk};
-ghost use Rattle.sw_rules.specs.Grammar.{recording_of};
+ghost use Rattle.sw_rules.specs.Grammar.{recording_of, IsBuiltRecording};
 ghost use Rattle.sw_record.specs.declared.recording.RecordingError.TheVariants as failure;
 
 use crate::lines::{ACTIONS_LIMIT, actions_of, first_lines};
@@ -36,6 +36,7 @@ impl From<AllocError> for RecordingError {
 /// The recording that a source's bytes are, in lines of JSON.
 pub fn read_recording(alloc: Global, bytes: &[u8]) -> Result<Recording, RecordingError>
     ensures ok { IfOk result (λ recording. recording_of bytes.now ≡ Some recording) }
+    ensures built { IfOk result IsBuiltRecording }
     ensures not_yet { result ≡ Err failure.NotYet → recording_of bytes.now ≡ None }
 {
     let lines = first_lines(alloc, bytes)?;

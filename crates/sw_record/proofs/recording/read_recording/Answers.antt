@@ -3,6 +3,7 @@ use Rattle.std.specs.Prelude.{◌≡◌, ◌<◌, ◌≤◌, [], ◌∷◌, ◌+
 use Rattle.std.proofs.Common.{arith, sym, ◌∙◌, ap}
 use Rattle.std.proofs.lemmas.List.{length-map}
 use Rattle.sw_rules.specs.Grammar.{one_lane, actions_of}
+use Rattle.sw_record.proofs.BuiltForms.{built_where}
 use Rattle.sw_record.proofs.ReadLines.{recording_of_few, recording_of_many, one_lane_of}
 use Rattle.sw_record.proofs.recording.read_recording.Goals as goal
 
@@ -29,3 +30,6 @@ returns-clause-ok c =
     recording_of_few c.args.bytes.now _ c.in_ok-lines.ensures few
     ∙ ap (option_map one_lane) some
     ∙ one_lane_of _ _ _ c.new.ensures (c.in_ok-push.ensures.ok ∙ ap (λ lanes. lanes ++ (c.in-Some.actions ∷ [])) c.new-lanes.ensures)
+
+pub returns-clause-built : goal.returns-clause-built
+returns-clause-built c = built_where c.args.bytes.now _ (returns-clause-ok c)
