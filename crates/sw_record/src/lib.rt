@@ -10,3 +10,6 @@ mod members;
 mod recording;
 
 pub use recording::{RecordingError, read_recording};
+
+#[cfg(test)]
+mod tests;
