@@ -1,6 +1,6 @@
 -- The grammar of a recording, over JSON values and base64's decoding: the forms that are read so far.
-use Rattle.std.specs.Prelude.{ℕ, Bool, true, false, not, ◌&&◌, ◌||◌, ◌==◌, nat_eq, nat_le, List, [], ◌∷◌, length, drop, filter, codes, bytes_eq, Option, Some, None, option_map, option_and_then, Ok, Err, if◌then◌else◌}
-use Rattle.std.specs.List.{list_all, slice_split, starts_with}
+use Rattle.std.specs.Prelude.{◌≡◌, ℕ, ◌≤◌, Bool, true, false, not, ◌&&◌, ◌||◌, ◌==◌, nat_eq, nat_le, List, [], ◌∷◌, length, drop, filter, codes, bytes_eq, Option, Some, None, option_map, option_and_then, Ok, Err, if◌then◌else◌}
+use Rattle.std.specs.List.{All, list_all, list_any, slice_split, starts_with}
 use Rattle.std.specs.Str.{is_utf8}
 use Rattle.base64.specs.GeneralPurpose.{decode_of}
 use Rattle.base64.specs.Engines.{standard}
@@ -75,14 +75,14 @@ abbrev pub when : {A : Type 0} → Bool → Option A → Option A
 when true value = value
 when false value = None
 
--- each member has a listed name
-abbrev pub only : (List ℕ → Bool) → Members → Bool
-only listed no_members = true
-only listed (member name value rest) = listed name && only listed rest
+-- each member has one of the names
+abbrev pub only : List (List ℕ) → Members → Bool
+only names no_members = true
+only names (member name value rest) = list_any (bytes_eq name) names && only names rest
 
--- the object has no member that isn't listed
-abbrev pub has_only : (List ℕ → Bool) → Data → Bool
-has_only listed value = elim (as_object value) [ Some members ↦ only listed members | None ↦ false ]
+-- an object, and each of its members has one of the names
+abbrev pub has_only : List (List ℕ) → Data → Bool
+has_only names value = elim (as_object value) [ Some members ↦ only names members | None ↦ false ]
 
 -- a member that is a text
 abbrev pub text_member : List ℕ → Data → Option (List ℕ)
@@ -115,35 +115,34 @@ request_of url = record { method = codes "GET"; url = url; headers = [] }
 abbrev pub response_of : List ℕ → Response
 response_of body = record { status = 200; headers = []; body = body }
 
-abbrev pub is_cache_open_member : List ℕ → Bool
-is_cache_open_member name =
-    bytes_eq name (codes "lane") || bytes_eq name (codes "do") || bytes_eq name (codes "at")
-    || bytes_eq name (codes "name")
+-- the members of a lane line that opens a cache
+abbrev pub cache_open_members : List (List ℕ)
+cache_open_members = codes "lane" ∷ codes "do" ∷ codes "at" ∷ codes "name" ∷ []
 
 -- {"lane":0,"do":"cacheOpen","at":..,"name":..}
 abbrev pub cache_open_form : Data → Option Action
 cache_open_form value =
-    when (has_only is_cache_open_member value)
+    when (has_only cache_open_members value)
     (option_and_then (λ at. option_map (λ name. action.CacheOpen (place_of at) name) (name_member value))
     (address_member (codes "at") value))
 
-abbrev pub is_match_member : List ℕ → Bool
-is_match_member name =
-    bytes_eq name (codes "lane") || bytes_eq name (codes "do") || bytes_eq name (codes "at")
-    || bytes_eq name (codes "request")
+-- the members of a lane line that matches
+abbrev pub match_members : List (List ℕ)
+match_members = codes "lane" ∷ codes "do" ∷ codes "at" ∷ codes "request" ∷ []
 
 -- {"lane":0,"do":"match","at":..,"request":..}
 abbrev pub match_form : Data → Option Action
 match_form value =
-    when (has_only is_match_member value)
+    when (has_only match_members value)
     (option_and_then (λ at.
     option_map (λ url.
     action.Match (place_of at) (record { request = request_of url; name = None; options = no_options }))
     (address_member (codes "request") value))
     (address_member (codes "at") value))
 
-abbrev pub is_response_member : List ℕ → Bool
-is_response_member name = bytes_eq name (codes "status") || bytes_eq name (codes "body")
+-- the members of a response
+abbrev pub response_members : List (List ℕ)
+response_members = codes "status" ∷ codes "body" ∷ []
 
 -- the bytes that a base64 text decodes to, within the limit of a body (RFC 4648, 4)
 abbrev pub body_of : List ℕ → Option (List ℕ)
@@ -156,25 +155,31 @@ body_of text =
 -- {"status":200,"body":..}
 abbrev pub response_form : Data → Option Response
 response_form value =
-    when (has_only is_response_member value)
+    when (has_only response_members value)
     (option_and_then (λ status.
     when (status == 200)
     (option_map response_of (option_and_then body_of (text_member (codes "body") value))))
     (number_member (codes "status") value))
 
-abbrev pub is_put_member : List ℕ → Bool
-is_put_member name = is_cache_open_member name || bytes_eq name (codes "request") || bytes_eq name (codes "response")
+-- the response of a line that puts
+abbrev pub response_member : Data → Option Response
+response_member value = option_and_then response_form (get (codes "response") value)
+
+-- the members of a lane line that puts
+abbrev pub put_members : List (List ℕ)
+put_members =
+    codes "lane" ∷ codes "do" ∷ codes "at" ∷ codes "name" ∷ codes "request" ∷ codes "response" ∷ []
 
 -- {"lane":0,"do":"put","at":..,"name":..,"request":..,"response":..}
 abbrev pub put_form : Data → Option Action
 put_form value =
-    when (has_only is_put_member value)
+    when (has_only put_members value)
     (option_and_then (λ at.
     option_and_then (λ name.
     option_and_then (λ url.
     option_map (λ response.
     action.Put (place_of at) (record { name = name; request = request_of url; response = response }))
-    (option_and_then response_form (get (codes "response") value)))
+    (response_member value))
     (address_member (codes "request") value))
     (name_member value))
     (address_member (codes "at") value))
@@ -212,3 +217,33 @@ one_lane actions = record { fetches = []; lanes = actions ∷ [] }
 abbrev pub recording_of : List ℕ → Option Recording
 recording_of bytes =
     when (nat_le (length (lines_of bytes)) actions_limit) (option_map one_lane (actions_of (lines_of bytes)))
+
+-- ---- what is read
+
+-- a place at a plain address, without a partition
+abbrev pub IsPlainPlace : Place → Type 0
+IsPlainPlace place = (is_plain_address place.at ≡ true) × (place.partition ≡ None)
+
+-- a GET request for a plain address, without headers
+abbrev pub IsPlainRequest : Request → Type 0
+IsPlainRequest request =
+    (request.method ≡ codes "GET") × (is_plain_address request.url ≡ true) × (request.headers ≡ [])
+
+-- a response of status 200 without headers, with a body within the limit
+abbrev pub IsPlainResponse : Response → Type 0
+IsPlainResponse response =
+    (response.status ≡ 200) × (response.headers ≡ []) × (length response.body ≤ body_limit)
+
+-- an action of a form that is read so far
+abbrev pub IsBuilt : Action → Type 0
+IsBuilt (action.CacheOpen place name) = IsPlainPlace place × (length name ≤ text_limit)
+IsBuilt (action.Put place put) =
+    IsPlainPlace place × (length put.name ≤ text_limit) × IsPlainRequest put.request × IsPlainResponse put.response
+IsBuilt (action.Match place find) =
+    IsPlainPlace place × IsPlainRequest find.request × (find.name ≡ None) × (find.options ≡ no_options)
+IsBuilt _ = ⊥
+
+-- a recording of one lane without fetch lines, of at most 65,536 actions, each of a form that is read so far
+abbrev pub IsBuiltRecording : Recording → Type 0
+IsBuiltRecording recording =
+    (actions : List Action) × (recording ≡ one_lane actions) × (length actions ≤ actions_limit) × All IsBuilt actions

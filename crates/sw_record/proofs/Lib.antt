@@ -1,0 +1,3 @@
+pub mod BuiltForms
+pub mod OnlyListed
+pub mod ReadLines
