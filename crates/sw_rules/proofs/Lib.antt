@@ -1,2 +1,3 @@
 pub mod AddressRows
 pub mod OnLiterals
+pub mod TranscriptRows
