@@ -3,3 +3,4 @@ pub mod Controllers
 pub mod CutLemmas
 pub mod HistoryLemmas
 pub mod OnLiterals
+pub mod TranscriptRows

@@ -1,5 +1,5 @@
 -- The transcript: the text of a history and its end.
-use Rattle.std.specs.Prelude.{ℕ, Bool, true, false, List, [], ◌∷◌, ◌++◌, map, take, length, flat_map, codes, decimal, Option, Some, None}
+use Rattle.std.specs.Prelude.{ℕ, Bool, true, false, List, [], ◌∷◌, ◌++◌, take, length, flat_map, codes, decimal, Option, Some, None}
 use Rattle.json.specs.Print.{quoted}
 use Rattle.sw_rules.specs.declared.answers.Answer.{Answer}
 use Rattle.sw_rules.specs.declared.answers.Answer.TheVariants as answer
@@ -36,13 +36,17 @@ use Rattle.sw_rules.specs.Events.{who_of}
 abbrev pub numbered : List ℕ → ℕ → List ℕ
 numbered letter number = letter ++ decimal number
 
--- a member of a list, behind a space
+-- a text behind a space
 abbrev pub spaced : List ℕ → List ℕ
-spaced member = codes " " ++ member
+spaced text = codes " " ++ text
 
--- the count of a list, then its first sixteen members, each behind a space
-abbrev pub listed : List (List ℕ) → List ℕ
-listed members = decimal (length members) ++ flat_map spaced (take 16 members)
+-- a text behind a point
+abbrev pub pointed : List ℕ → List ℕ
+pointed text = codes "." ++ text
+
+-- the count of a list, then the texts of its first sixteen members, each behind a space (own)
+abbrev pub listed : {A : Type 0} → (A → List ℕ) → List A → List ℕ
+listed text members = decimal (length members) ++ flat_map (λ member. spaced (text member)) (take 16 members)
 
 -- ---- faults and values
 
@@ -104,9 +108,8 @@ phase_word phase.Activate = codes "activate"
 
 abbrev pub who_text : Who → List ℕ
 who_text who.Host = codes "-"
-who_text (who.Lane lane at) = codes "L" ++ decimal lane ++ codes "." ++ decimal at
-who_text (who.Handler worker phase number) =
-    codes "w" ++ decimal worker ++ codes "." ++ phase_word phase ++ codes "." ++ decimal number
+who_text (who.Lane lane at) = numbered (codes "L") lane ++ pointed (decimal at)
+who_text (who.Handler worker phase number) = numbered (codes "w") worker ++ pointed (phase_word phase ++ pointed (decimal number))
 
 abbrev pub call_word : Call → List ℕ
 call_word call.SkipWaiting = codes "skipWaiting"
@@ -173,17 +176,17 @@ answer_text answer.Undefined = codes "undefined"
 answer_text (answer.Truth truth) = truth_word truth
 answer_text answer.Made = codes "made"
 answer_text answer.Found = codes "found"
-answer_text (answer.Worker worker) = codes "w" ++ decimal worker
-answer_text (answer.Registration number) = codes "r" ++ decimal number
-answer_text (answer.Registrations numbers) = listed (map (numbered (codes "r")) numbers)
-answer_text (answer.Job job) = codes "j" ++ decimal job
-answer_text (answer.Joined job leader) = codes "j" ++ decimal job ++ codes " joined j" ++ decimal leader
-answer_text (answer.Task task) = codes "a" ++ decimal task
-answer_text (answer.Names names) = listed (map quoted names)
-answer_text (answer.Places places) = listed (map decimal places)
+answer_text (answer.Worker worker) = numbered (codes "w") worker
+answer_text (answer.Registration number) = numbered (codes "r") number
+answer_text (answer.Registrations numbers) = listed (numbered (codes "r")) numbers
+answer_text (answer.Job job) = numbered (codes "j") job
+answer_text (answer.Joined job leader) = numbered (codes "j") job ++ (codes " joined " ++ numbered (codes "j") leader)
+answer_text (answer.Task task) = numbered (codes "a") task
+answer_text (answer.Names names) = listed quoted names
+answer_text (answer.Places places) = listed decimal places
 answer_text (answer.Hit name place status size) =
-    codes "hit " ++ quoted name ++ codes " " ++ decimal place ++ codes " " ++ decimal status ++ codes " " ++ decimal size
-answer_text (answer.Preload on text) = switch_word on ++ codes " " ++ quoted text
+    codes "hit " ++ quoted name ++ spaced (decimal place ++ spaced (decimal status ++ spaced (decimal size)))
+answer_text (answer.Preload on text) = switch_word on ++ spaced (quoted text)
 answer_text (answer.Fault why) = fault_text why
 answer_text answer.InUse = codes "InUse"
 answer_text answer.NoClient = codes "NoClient"
@@ -200,7 +203,7 @@ answer_text answer.Threw = codes "threw"
 answer_text answer.Installing = codes "installing"
 answer_text answer.Failed = codes "failed"
 answer_text (answer.Restarted registrations caches) =
-    decimal registrations ++ codes " registrations " ++ decimal caches ++ codes " caches"
+    decimal registrations ++ (codes " registrations " ++ decimal caches ++ codes " caches")
 
 abbrev pub worker_state_word : WorkerState → List ℕ
 worker_state_word worker_state.Parsed = codes "parsed"
@@ -213,8 +216,8 @@ worker_state_word worker_state.Redundant = codes "redundant"
 abbrev pub notice_text : Notice → List ℕ
 notice_text (notice.Mapped registration) = codes "mapped r" ++ decimal registration
 notice_text (notice.Unmapped registration) = codes "unmapped r" ++ decimal registration
-notice_text (notice.Worker worker state) = codes "w" ++ decimal worker ++ codes " " ++ worker_state_word state
-notice_text (notice.Settled job settled) = codes "settled j" ++ decimal job ++ codes " " ++ settlement_text settled
+notice_text (notice.Worker worker state) = numbered (codes "w") worker ++ spaced (worker_state_word state)
+notice_text (notice.Settled job settled) = codes "settled j" ++ decimal job ++ spaced (settlement_text settled)
 notice_text (notice.UpdateFound registration) = codes "updatefound r" ++ decimal registration
 notice_text (notice.ControllerChange client) = codes "controllerchange c" ++ decimal client
 
@@ -222,7 +225,7 @@ notice_text (notice.ControllerChange client) = codes "controllerchange c" ++ dec
 
 -- the mark of an event: its maker and its name (own)
 abbrev pub mark : Event → List ℕ
-mark happened = who_text (who_of happened) ++ codes " " ++ event_text happened
+mark happened = who_text (who_of happened) ++ spaced (event_text happened)
 
 -- a notice behind its bar
 abbrev pub barred : Notice → List ℕ
@@ -230,21 +233,20 @@ barred told = codes " | " ++ notice_text told
 
 -- what a line has behind its arrow
 abbrev pub rest_of_line : Entry → List ℕ
-rest_of_line entry = answer_text entry.answer ++ flat_map barred entry.notices ++ codes "\n"
+rest_of_line entry = answer_text entry.answer ++ (flat_map barred entry.notices ++ codes "\n")
 
 -- the line of an entry (own)
 abbrev pub line_of_entry : Entry → List ℕ
-line_of_entry entry = mark entry.event ++ codes " -> " ++ rest_of_line entry
+line_of_entry entry = mark entry.event ++ (codes " -> " ++ rest_of_line entry)
 
--- marks, each but the first behind a comma and a space
-abbrev pub more_marks : List Event → List ℕ
-more_marks [] = []
-more_marks (happened ∷ rest) = codes ", " ++ mark happened ++ more_marks rest
+-- a refused event's mark behind the mark before it
+abbrev pub further : Event → List ℕ
+further happened = codes ", " ++ mark happened
 
--- the refused events, behind a space where there is one
+-- the marks of the refused events, behind a space where there is one
 abbrev pub refused_marks : List Event → List ℕ
 refused_marks [] = []
-refused_marks (happened ∷ rest) = codes " " ++ mark happened ++ more_marks rest
+refused_marks (happened ∷ rest) = spaced (mark happened) ++ flat_map further rest
 
 -- the last line (own)
 abbrev pub end_line : End → List ℕ
