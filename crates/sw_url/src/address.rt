@@ -1,8 +1,9 @@
 //! Resolved, script and scope addresses.
 
-ghost use Rattle.std.specs.Prelude.{◌≡◌, ◌↔◌, List, ℕ, take, codes, Some, None, Ok, Err, ok_or, option_map, option_copied, IfOk, IsErrOf};
-ghost use Rattle.url.specs.Parts.{serialize};
-ghost use Rattle.sw_rules.specs.Addresses.{AddressFault, Unparsed, Scheme, EscapedSlash, accepted, has_escaped_slash, is_escaped_slash, no_fragment, parsed_against, resolved, scope_address, script_address, without_fragment, without_query};
+ghost use Rattle.std.specs.Prelude.{◌≡◌, ◌↔◌, List, ℕ, Option, take, codes, Some, None, Ok, Err, ok_or, option_map, option_copied, IfOk, IsErrOf};
+ghost use Rattle.url.specs.Parser.{parse_url};
+ghost use Rattle.url.specs.Parts.{Parts, serialize};
+ghost use Rattle.sw_rules.specs.Addresses.{AddressFault, Unparsed, Scheme, EscapedSlash, accepted, has_escaped_slash, is_escaped_slash, no_fragment, parsed_against, when_parsed, resolved, scope_address, script_address, without_fragment, without_query};
 ghost use Rattle.sw_url.specs.Answers.{Answers, UnlessNoMemory};
 
 use crate::fault::UrlFault;
@@ -83,7 +84,9 @@ pub fn without_query(address: &Text) -> &[u8]
 
 /// The address of a text against a base, where a worker may have it as script or scope.
 fn accepted(alloc: Global, text: &str, base: &str) -> Result<Text, UrlFault>
-    ensures { Answers result (accepted (parsed_against text.now base.now)) }
+    ensures answer { Answers result (accepted (parsed_against text.now base.now)) }
+    ensures parses { IfOk result (λ address. (other : Option Parts) → when_parsed (parse_url other address)
+        ≡ option_map no_fragment (parsed_against text.now base.now)) }
 {
     let url = parsed_against(alloc, text, base)?;
     if !is_http(&url) {
