@@ -7,7 +7,7 @@ ghost use Rattle.sw_rules.specs.Addresses.{AddressFault, Unparsed, Scheme, Escap
 ghost use Rattle.sw_url.specs.Answers.{Answers, UnlessNoMemory};
 
 use crate::fault::UrlFault;
-use crate::parsing::{is_http, parsed_against};
+use crate::parsing::{is_http, joined, parsed, parsed_against};
 use std::alloc::Global;
 use sw_rules::Text;
 use url::{Position, Url};
@@ -15,16 +15,18 @@ use url::{Position, Url};
 /// The serialized address of a text against a base, with its fragment (URL, 4.4 and 4.5).
 ///
 /// `Unparsed` where the base doesn't parse, or the text doesn't parse against it.
-#[tactic(auto, unfolding(sw_rules::specs::Addresses::resolved))]
 pub fn resolve(alloc: Global, text: &Text, base: &Text) -> Result<Text, UrlFault>
     ensures ok { IfOk result (λ address. resolved text.now base.now ≡ Some address) }
     ensures unparsed { UnlessNoMemory result (IsErrOf result UrlFault.Unparsed
         ↔ (resolved text.now base.now ≡ None)) }
     ensures scheme { ¬ (IsErrOf result UrlFault.Scheme) }
     ensures escaped_slash { ¬ (IsErrOf result UrlFault.EscapedSlash) }
+
+    // A serialized address is resolved to itself, against any base that parses.
+    ensures again { IfOk result (λ address. (other : List ℕ) → IsSome (address_of other)
+        → resolved address other ≡ Some address) }
 {
-    let url = parsed_against(alloc, text.as_str(), base.as_str())?;
-    Ok(Text::of(alloc, url.as_str())?)
+    resolved(alloc, text.as_str(), base.as_str())
 }
 
 /// The script address of a text against a base, without its fragment (Service Workers, "Start
@@ -100,6 +102,18 @@ pub fn without_query(address: &Text) -> &[u8]
     ensures { result.now ≡ without_query address.now }
 {
     sw_rules::address::without_query(address.as_bytes())
+}
+
+/// The serialized address of a text against a base.
+#[tactic(auto, unfolding(sw_rules::specs::Addresses::resolved))]
+fn resolved(alloc: Global, text: &str, base: &str) -> Result<Text, UrlFault>
+    ensures answer { Answers result (ok_or (resolved text.now base.now) Unparsed) }
+    ensures again { IfOk result (λ address. (other : List ℕ) → IsSome (address_of other)
+        → resolved address other ≡ Some address) }
+{
+    let base = parsed(alloc, base)?;
+    let url = joined(text, &base)?;
+    Ok(Text::of(alloc, url.as_str())?)
 }
 
 /// The address of a text against a base, where a worker may have it as script or scope.
