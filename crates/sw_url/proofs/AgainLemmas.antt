@@ -1,16 +1,15 @@
 -- An accepted address parses to itself, against any base.
-use Rattle.std.proofs.Common.{◌≡◌, ℕ, Bool, true, false, ◌||◌, ◌⊎◌, ⊎_elim, List, [], append-nil, Some, None, Ok, refl, ap, sym, ◌∙◌}
-use Rattle.std.specs.Prelude.{Option, Result, Err, IfOk, option_map, option_and_then, ok_or, codes, bytes_eq, IsSome, nat_eq, is_some}
+use Rattle.std.proofs.Common.{◌≡◌, ℕ, true, false, ⊎_elim, List, [], append-nil, Some, None, Ok, refl, ap, sym, ◌∙◌}
+use Rattle.std.specs.Prelude.{Option, Result, Err, IfOk, option_map, option_and_then, ok_or, codes, IsSome, nat_eq}
 use Rattle.std.specs.List.{starts_with}
 use Rattle.std.proofs.lemmas.Bool.{or_cases}
 use Rattle.std.proofs.lemmas.Bool.Decides.{Decides-eqb}
 use Rattle.std.proofs.lemmas.Slice.Eq.{bytes_eq-Decides, starts_is}
 use Rattle.std.specs.Option.{option_map_or}
-use Rattle.url.specs.declared.scheme.SchemeType.{SchemeType}
 use Rattle.url.specs.declared.scheme.SchemeType.TheVariants.{SpecialNotFile}
 use Rattle.url.specs.Origin.{is_http}
 use Rattle.url.specs.Parser.{parse_url}
-use Rattle.url.specs.Parts.{Parts, kind_of, serialize, IsValid}
+use Rattle.url.specs.Parts.{Parts, serialize, IsValid}
 use Rattle.url.specs.Scheme.{scheme_type, default_port}
 use Rattle.url.proofs.Theorems.{parse_url-serialize_special}
 use Rattle.sw_url.specs.Answers.{Answers}

@@ -1,5 +1,5 @@
 -- A serialized address is resolved to itself, against any base that parses.
-use Rattle.std.proofs.Common.{◌≡◌, ℕ, List, Some, None, Ok, Err, refl, ap, ◌∙◌}
+use Rattle.std.proofs.Common.{◌≡◌, ℕ, List, Some, None, Ok, Err, ap, ◌∙◌}
 use Rattle.std.specs.Prelude.{Option, ok_or, option_map, option_and_then, IsSome}
 use Rattle.url.specs.Parser.{Parsed, parse_url}
 use Rattle.url.specs.Parts.{Parts, serialize, IsValid}

@@ -34,11 +34,7 @@ pub fn resolve(alloc: Global, text: &Text, base: &Text) -> Result<Text, UrlFault
 ///
 /// `Unparsed` as in `resolve`, then `Scheme` where the scheme is neither http nor https, then
 /// `EscapedSlash` where the path holds `%2f` or `%5c` in any case.
-#[tactic(
-    auto,
-    using(crate::proofs::AgainLemmas::again),
-    unfolding(sw_rules::specs::Addresses::script_address)
-)]
+#[tactic(auto, using(crate::proofs::AgainLemmas::again), unfolding(sw_rules::specs::Addresses::script_address))]
 pub fn script_url(alloc: Global, text: &Text, base: &Text) -> Result<Text, UrlFault>
     ensures ok { IfOk result (λ address. script_address text.now base.now ≡ Ok address) }
     ensures unparsed { UnlessNoMemory result (IsErrOf result UrlFault.Unparsed
@@ -57,11 +53,7 @@ pub fn script_url(alloc: Global, text: &Text, base: &Text) -> Result<Text, UrlFa
 
 /// The scope address of a text against a base; where no text is given, that of `./` against the
 /// script (Service Workers, "Start Register"). It refuses as `script_url` does.
-#[tactic(
-    auto,
-    using(crate::proofs::AgainLemmas::again, crate::proofs::AgainLemmas::default_within),
-    unfolding(sw_rules::specs::Addresses::scope_address)
-)]
+#[tactic(auto, using(crate::proofs::AgainLemmas::again, crate::proofs::AgainLemmas::default_within), unfolding(sw_rules::specs::Addresses::scope_address))]
 pub fn scope_url(
     alloc: Global,
     text: Option<&Text>,

@@ -1,9 +1,8 @@
-use Rattle.std.proofs.Common.{◌≡◌, ◌∙◌, sym, ap, true, Some, arith}
-use Rattle.std.specs.Prelude.{Option, option_map}
+use Rattle.std.proofs.Common.{◌≡◌, ◌∙◌, sym, ap, true, arith}
+use Rattle.std.specs.Prelude.{option_map}
 use Rattle.url.specs.Origin.{is_http}
 use Rattle.url.specs.Parser.{parse_url}
-use Rattle.url.specs.Parts.{Parts}
-use Rattle.sw_rules.specs.Addresses.{no_fragment, parsed_against, when_parsed}
+use Rattle.sw_rules.specs.Addresses.{no_fragment, when_parsed}
 use Rattle.sw_url.proofs.AgainLemmas.{parses_bare, parsed_some}
 use Rattle.sw_url.proofs.address.accepted.Goals as goal
 
