@@ -12,3 +12,6 @@ mod trim;
 pub use fault::HttpFault;
 pub use media::is_javascript;
 pub use message::{request, response};
+
+#[cfg(test)]
+mod tests;

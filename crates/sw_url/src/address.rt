@@ -1,12 +1,13 @@
 //! Resolved, script and scope addresses.
 
-ghost use Rattle.std.specs.Prelude.{◌≡◌, ◌↔◌, List, ℕ, take, codes, Some, None, Ok, Err, ok_or, option_map, option_copied, IfOk, IsErrOf};
-ghost use Rattle.url.specs.Parts.{serialize};
-ghost use Rattle.sw_rules.specs.Addresses.{AddressFault, Unparsed, Scheme, EscapedSlash, accepted, has_escaped_slash, is_escaped_slash, no_fragment, parsed_against, resolved, scope_address, script_address, without_fragment, without_query};
+ghost use Rattle.std.specs.Prelude.{◌≡◌, ◌↔◌, List, ℕ, Option, take, codes, Some, None, Ok, Err, ok_or, option_map, option_copied, IfOk, IsErrOf, IsNone, IsSome, IsTrue};
+ghost use Rattle.url.specs.Parser.{parse_url};
+ghost use Rattle.url.specs.Parts.{Parts, serialize};
+ghost use Rattle.sw_rules.specs.Addresses.{AddressFault, Unparsed, Scheme, EscapedSlash, accepted, address_of, has_escaped_slash, is_escaped_slash, is_within_bound, no_fragment, parsed_against, when_parsed, resolved, scope_address, scope_bound, script_address, without_fragment, without_query};
 ghost use Rattle.sw_url.specs.Answers.{Answers, UnlessNoMemory};
 
 use crate::fault::UrlFault;
-use crate::parsing::{is_http, parsed_against};
+use crate::parsing::{is_http, joined, parsed, parsed_against};
 use std::alloc::Global;
 use sw_rules::Text;
 use url::{Position, Url};
@@ -14,16 +15,18 @@ use url::{Position, Url};
 /// The serialized address of a text against a base, with its fragment (URL, 4.4 and 4.5).
 ///
 /// `Unparsed` where the base doesn't parse, or the text doesn't parse against it.
-#[tactic(auto, unfolding(sw_rules::specs::Addresses::resolved))]
 pub fn resolve(alloc: Global, text: &Text, base: &Text) -> Result<Text, UrlFault>
     ensures ok { IfOk result (λ address. resolved text.now base.now ≡ Some address) }
     ensures unparsed { UnlessNoMemory result (IsErrOf result UrlFault.Unparsed
         ↔ (resolved text.now base.now ≡ None)) }
     ensures scheme { ¬ (IsErrOf result UrlFault.Scheme) }
     ensures escaped_slash { ¬ (IsErrOf result UrlFault.EscapedSlash) }
+
+    // A serialized address is resolved to itself, against any base that parses.
+    ensures again { IfOk result (λ address. (other : List ℕ) → IsSome (address_of other)
+        → resolved address other ≡ Some address) }
 {
-    let url = parsed_against(alloc, text.as_str(), base.as_str())?;
-    Ok(Text::of(alloc, url.as_str())?)
+    resolved(alloc, text.as_str(), base.as_str())
 }
 
 /// The script address of a text against a base, without its fragment (Service Workers, "Start
@@ -31,7 +34,7 @@ pub fn resolve(alloc: Global, text: &Text, base: &Text) -> Result<Text, UrlFault
 ///
 /// `Unparsed` as in `resolve`, then `Scheme` where the scheme is neither http nor https, then
 /// `EscapedSlash` where the path holds `%2f` or `%5c` in any case.
-#[tactic(auto, unfolding(sw_rules::specs::Addresses::script_address))]
+#[tactic(auto, using(crate::proofs::AgainLemmas::again), unfolding(sw_rules::specs::Addresses::script_address))]
 pub fn script_url(alloc: Global, text: &Text, base: &Text) -> Result<Text, UrlFault>
     ensures ok { IfOk result (λ address. script_address text.now base.now ≡ Ok address) }
     ensures unparsed { UnlessNoMemory result (IsErrOf result UrlFault.Unparsed
@@ -40,13 +43,17 @@ pub fn script_url(alloc: Global, text: &Text, base: &Text) -> Result<Text, UrlFa
         ↔ (script_address text.now base.now ≡ Err Scheme)) }
     ensures escaped_slash { UnlessNoMemory result (IsErrOf result UrlFault.EscapedSlash
         ↔ (script_address text.now base.now ≡ Err EscapedSlash)) }
+
+    // An accepted address is accepted again, as it is, against any base that parses.
+    ensures again { IfOk result (λ address. (other : List ℕ) → IsSome (address_of other)
+        → script_address address other ≡ Ok address) }
 {
     accepted(alloc, text.as_str(), base.as_str())
 }
 
 /// The scope address of a text against a base; where no text is given, that of `./` against the
 /// script (Service Workers, "Start Register"). It refuses as `script_url` does.
-#[tactic(auto, unfolding(sw_rules::specs::Addresses::scope_address))]
+#[tactic(auto, using(crate::proofs::AgainLemmas::again, crate::proofs::AgainLemmas::default_within), unfolding(sw_rules::specs::Addresses::scope_address))]
 pub fn scope_url(
     alloc: Global,
     text: Option<&Text>,
@@ -60,6 +67,14 @@ pub fn scope_url(
         ↔ (scope_address (option_copied text.entry) script.now base.now ≡ Err Scheme)) }
     ensures escaped_slash { UnlessNoMemory result (IsErrOf result UrlFault.EscapedSlash
         ↔ (scope_address (option_copied text.entry) script.now base.now ≡ Err EscapedSlash)) }
+
+    // An accepted address is accepted again, as it is, against any base that parses.
+    ensures again { IfOk result (λ address. (other : List ℕ) → IsSome (address_of other)
+        → script_address address other ≡ Ok address) }
+
+    // The default scope of a script is within the bound that it has without an allowed value.
+    ensures default_within { IsNone text.entry → IfOk result (λ scope. (bound : List ℕ)
+        → scope_bound script.now None ≡ Some bound → IsTrue (is_within_bound scope bound)) }
 {
     match text {
         Some(text) => accepted(alloc, text.as_str(), base.as_str()),
@@ -81,9 +96,23 @@ pub fn without_query(address: &Text) -> &[u8]
     sw_rules::address::without_query(address.as_bytes())
 }
 
+/// The serialized address of a text against a base.
+#[tactic(auto, unfolding(sw_rules::specs::Addresses::resolved))]
+fn resolved(alloc: Global, text: &str, base: &str) -> Result<Text, UrlFault>
+    ensures answer { Answers result (ok_or (resolved text.now base.now) Unparsed) }
+    ensures again { IfOk result (λ address. (other : List ℕ) → IsSome (address_of other)
+        → resolved address other ≡ Some address) }
+{
+    let base = parsed(alloc, base)?;
+    let url = joined(text, &base)?;
+    Ok(Text::of(alloc, url.as_str())?)
+}
+
 /// The address of a text against a base, where a worker may have it as script or scope.
 fn accepted(alloc: Global, text: &str, base: &str) -> Result<Text, UrlFault>
-    ensures { Answers result (accepted (parsed_against text.now base.now)) }
+    ensures answer { Answers result (accepted (parsed_against text.now base.now)) }
+    ensures parses { IfOk result (λ address. (other : Option Parts) → when_parsed (parse_url other address)
+        ≡ option_map no_fragment (parsed_against text.now base.now)) }
 {
     let url = parsed_against(alloc, text, base)?;
     if !is_http(&url) {

@@ -13,3 +13,6 @@ pub use address::{resolve, scope_url, script_url, without_fragment, without_quer
 pub use fault::UrlFault;
 pub use origin::{key_of, max_scope};
 pub use trust::is_trustworthy;
+
+#[cfg(test)]
+mod tests;

@@ -66,11 +66,7 @@ fn origin(alloc: Global, url: &Url) -> Result<Option<Text>, NoMemory>
 }
 
 /// The origin, followed by `^` and the partition where there is one.
-fn partitioned(
-    alloc: Global,
-    origin: Text,
-    partition: Option<&Text>,
-) -> Result<Text, NoMemory>
+fn partitioned(alloc: Global, origin: Text, partition: Option<&Text>) -> Result<Text, NoMemory>
     ensures { IfOk result (λ key. key ≡ partitioned (option_copied partition.entry) origin) }
 {
     match partition {
