@@ -1,2 +1,5 @@
+mod Doubts
+mod Lifted
+mod Marks
 pub mod Moments
 pub mod Tears

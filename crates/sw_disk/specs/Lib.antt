@@ -1,1 +1,4 @@
+pub mod Doubts
+pub mod Memory
 pub mod Plain
+pub mod Script

@@ -4,7 +4,9 @@
 #![tactic(auto)]
 
 mod disk;
+mod memory;
 mod plain;
+mod span;
 
 pub use disk::{Disk, Failed};
 pub use plain::PlainDisk;

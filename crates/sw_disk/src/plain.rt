@@ -1,11 +1,11 @@
 //! A disk in memory, all of whose calls are done at once.
 
-ghost use Rattle.std.specs.Prelude.{◌≡◌, ◌+◌, ◌-◌, ◌^◌, ◌≤◌, Some, min, length, take, vec_len, OnOk, OnErr, refl};
-ghost use Rattle.sw_rules.specs.DiskRule.{written, ReadsAt};
+ghost use Rattle.std.specs.Prelude.{◌≡◌, Some, refl};
 ghost use Rattle.sw_rules.specs.Image.{get};
 ghost use Rattle.sw_disk.specs.Plain.{image_of, parts_small};
 
 use crate::disk::{Disk, Failed};
+use crate::span::{overwrite, read_into};
 use sw_rules::{Bytes, Part};
 
 /// A disk in memory without failing calls: it fails only for want of memory. Each call is done at once, so that a
@@ -48,34 +48,7 @@ impl PlainDisk {
     }
 }
 
-// Writes bytes over what a vector holds from a place on, and past its end.
-fn overwrite(file: &mut Vec<u8>, at: usize, bytes: &[u8]) -> Result<(), Failed>
-    requires { at ≤ vec_len file.old }
-    ensures ok { OnOk result (file.new.items ≡ written at bytes.now file.old.items) }
-    ensures err { OnErr result (file.new.items ≡ file.old.items) }
-{
-    let over = bytes.len().min(file.len() - at);
-    if file.extend_from_slice(bytes.split_at(over).1).is_err() {
-        return Err(Failed);
-    }
-    file[at..at + over].copy_from_slice(bytes.split_at(over).0);
-    Ok(())
-}
-
-// Reads what is there from a place on.
-fn read_into(file: &[u8], at: u64, into: &mut [u8]) -> usize
-    ensures fits { result ≤ length into.new }
-    ensures bytes { ReadsAt file.now at into.new result }
-{
-    let from = (at as usize).min(file.len());
-    let count = into.len().min(file.len() - from);
-    into[..count].copy_from_slice(&file[from..from + count]);
-    count
-}
-
 impl Disk for PlainDisk {
-    ghost use Rattle.std.proofs.Common.{inl};
-
     ghost seen = { λ d. Some (image_of d.root d.left d.right) };
 
     ghost may_leave = { λ d c. c ≡ image_of d.root d.left d.right };
