@@ -1,4 +1,5 @@
 pub mod Doubts
 pub mod Memory
+pub mod MemoryLaws
 pub mod Plain
 pub mod Script

@@ -9,5 +9,6 @@ mod plain;
 mod span;
 
 pub use disk::{Disk, Failed};
+pub use memory::{CallKind, Failing, MemoryDisk};
 pub use plain::PlainDisk;
 pub use sw_rules::Part;
