@@ -1,5 +1,6 @@
 //! A disk in memory that knows what a crash at each moment may have left.
 
+mod crash;
 mod history;
 mod part;
 mod parts;
