@@ -14,7 +14,7 @@ use history::History;
 use part::MemoryPart;
 use parts::Parts;
 use script::{Counts, fails};
-use sw_rules::{Bytes, Part};
+use sw_rules::{Bytes, NoMemory, Part};
 
 /// A disk in memory for tests: it can fail at given calls, and it knows which images a crash at each moment since
 /// its making may have left.
@@ -31,12 +31,14 @@ pub struct MemoryDisk {
 }
 
 impl MemoryDisk {
-    ghost use Rattle.std.specs.Prelude.{ℕ, ◌≡◌, ◌⊎◌, ◌↔◌, ◌+◌, ◌-◌, ◌^◌, ◌≤◌, min, OnOk, OnErr, IfOk, IsErr, IsTrue};
+    ghost use Rattle.std.specs.Prelude.{ℕ, [], length, IsOk, ◌≡◌, ◌⊎◌, ◌↔◌, ◌+◌, ◌-◌, ◌^◌, ◌≤◌, min, OnOk, OnErr, IfOk, IsErr, IsTrue};
     ghost use Rattle.sw_rules.specs.Faults.{Rose};
     ghost use Rattle.sw_rules.specs.DiskRule.{HasCause};
     ghost use Rattle.sw_rules.specs.Image.{Image, get};
     ghost use Rattle.sw_disk.specs.Memory.{disk_image, image_of, MayLeave, HadLeft, LeftSince, fails_next};
+    ghost use Rattle.sw_disk.specs.Picks.{image_picked};
     ghost use Rattle.sw_disk.specs.Script.{counted};
+    ghost use Rattle.sw_rules.specs.declared.disk.Part.{Part};
 
     /// A disk whose parts hold these bytes, none of them in doubt, and whose clock and count are 0; it takes no
     /// memory.
@@ -55,13 +57,7 @@ impl MemoryDisk {
                 right: MemoryPart::new(right.into_vec()),
             },
             history: History::new(alloc),
-            counts: Counts {
-                len: 0,
-                read: 0,
-                write: 0,
-                cut: 0,
-                sync: 0,
-            },
+            counts: Counts::new(),
             faults: 0,
             failing,
         }
@@ -72,6 +68,31 @@ impl MemoryDisk {
         ensures { result.now ≡ get part (disk_image self.now) }
     {
         self.parts.bytes(part)
+    }
+
+    /// The disk that a crash now leaves, where its bytes in doubt are taken from `picks`, part by part in the order of
+    /// `Part` and by rising place, and are 0 when these are used up. The parts keep the length that reads give. The
+    /// disk has no failing calls, no byte in doubt, and its clock and count are 0. This takes no memory.
+    pub fn crash(self, picks: &[u8]) -> Result<MemoryDisk, NoMemory>
+        ensures done { IsOk result }
+        ensures image { IfOk result (λ disk. disk_image disk ≡ image_picked self.parts picks.now) }
+        ensures allowed { IfOk result (λ disk. MayLeave self.parts (disk_image disk)) }
+        ensures lengths { IfOk result (λ disk. (part : Part) → length (get part (disk_image disk)) ≡ length (get part (disk_image self))) }
+        ensures sure { IfOk result (λ disk. (c : Image) → MayLeave disk.parts c ↔ (c ≡ disk_image disk)) }
+        ensures clock { IfOk result (λ disk. disk.history.clock ≡ 0) }
+        ensures faults { IfOk result (λ disk. disk.faults ≡ 0) }
+        ensures failing { IfOk result (λ disk. disk.failing.items ≡ []) }
+    {
+        let alloc = *self.failing.allocator();
+        let mut parts = self.parts;
+        parts.crash(picks);
+        Ok(MemoryDisk {
+            parts,
+            history: History::new(alloc),
+            counts: Counts::new(),
+            faults: 0,
+            failing: Vec::new(alloc),
+        })
     }
 
     // Counts a call, and says whether it is one that fails.

@@ -33,6 +33,19 @@ pub(crate) struct Counts {
 }
 
 impl Counts {
+    /// No call.
+    pub(crate) fn new() -> Counts
+        ensures { result ≡ record { len = 0; read = 0; write = 0; cut = 0; sync = 0 } }
+    {
+        Counts {
+            len: 0,
+            read: 0,
+            write: 0,
+            cut: 0,
+            sync: 0,
+        }
+    }
+
     /// Counts a call, and says its number. At 2^64 - 1 the count stays.
     pub(crate) fn next(&mut self, kind: CallKind) -> u64
         ensures number { result ≡ count_of kind self.old }

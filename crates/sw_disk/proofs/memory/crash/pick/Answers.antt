@@ -13,6 +13,7 @@ loop-i-preserved c =
     let picks = drop c.loop-i.used c.args.picks.now in
     let rest = drop c.pick_at.new.used c.args.picks.now in
     record {
+      within = call.within at.within;
       rest = rest_step marks first c.loop-i.bytes c.pick_at.new.bytes picks rest c.loop-i.i within size at.rest call.bytes call.used;
       so_far = sym (picked_step marks first c.loop-i.bytes c.pick_at.new.bytes picks rest c.loop-i.i within size at.rest call.bytes call.used) ∙ at.so_far;
       left = sym (left_step marks first c.loop-i.bytes c.pick_at.new.bytes picks rest c.loop-i.i within size at.rest call.bytes call.used) ∙ at.left;
