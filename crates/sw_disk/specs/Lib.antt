@@ -1,4 +1,6 @@
 pub mod Doubts
+pub mod Files
+pub mod Lengths
 pub mod Memory
 pub mod MemoryLaws
 pub mod Picks

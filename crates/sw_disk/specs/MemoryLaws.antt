@@ -9,7 +9,7 @@ use Rattle.sw_rules.specs.Faults.{Rose}
 use Rattle.sw_rules.specs.Image.{Image, get}
 use Rattle.sw_disk.specs.Doubts.{Fits, Leaves}
 use Rattle.sw_disk.specs.Memory.{MayLeave, PartLeaves, HadLeft, image_of}
-use Rattle.sw_disk.specs.Plain.{vec_small}
+use Rattle.sw_disk.specs.Lengths.{vec_small}
 use Rattle.sw_disk.specs.declared.memory.history.Past.{Past}
 use Rattle.sw_disk.specs.declared.memory.part.MemoryPart.{MemoryPart}
 use Rattle.sw_disk.specs.declared.memory.parts.Parts.{Parts}
