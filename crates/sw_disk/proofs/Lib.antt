@@ -1,2 +1,7 @@
+mod Doubts
+mod Lifted
+mod Marks
+mod Moved
+mod PickSteps
 pub mod Moments
 pub mod Tears

@@ -4,8 +4,13 @@
 #![tactic(auto)]
 
 mod disk;
+mod file;
+mod memory;
 mod plain;
+mod span;
 
 pub use disk::{Disk, Failed};
+pub use file::FileDisk;
+pub use memory::{CallKind, Failing, MemoryDisk};
 pub use plain::PlainDisk;
 pub use sw_rules::Part;

@@ -1,16 +1,13 @@
 //! A disk in memory, all of whose calls are done at once.
 
-ghost use Rattle.std.specs.Prelude.{◌≡◌, ◌+◌, ◌-◌, ◌^◌, ◌≤◌, Some, min, length, take, vec_len, OnOk, OnErr, refl};
-ghost use Rattle.sw_rules.specs.DiskRule.{written, ReadsAt};
-ghost use Rattle.sw_rules.specs.Image.{get};
-ghost use Rattle.sw_disk.specs.Plain.{image_of, parts_small};
-
 use crate::disk::{Disk, Failed};
+use crate::span::{overwrite, read_into};
 use sw_rules::{Bytes, Part};
 
-/// A disk in memory without failing calls: it fails only for want of memory. Each call is done at once, so that a
-/// crash leaves what reads give. Of moments that are past it keeps nothing.
-#[derive(Drop)]
+/// A disk in memory without failing calls: only a write can fail, and only for want of memory. Each call is done at
+/// once, so that a crash leaves what reads give. Of moments that are past it keeps nothing, so no call copies more
+/// than the bytes that it is given.
+#[derive(Debug, Drop)]
 pub struct PlainDisk {
     root: Vec<u8>,
     left: Vec<u8>,
@@ -20,11 +17,13 @@ pub struct PlainDisk {
 }
 
 impl PlainDisk {
+    ghost use Rattle.std.specs.Prelude.{◌≡◌};
+    ghost use Rattle.sw_rules.specs.Image.{get};
+    ghost use Rattle.sw_disk.specs.Plain.{plain_image};
+
     /// A disk whose parts hold these bytes; it takes no memory. Its clock and its count are 0.
     pub fn new(root: Bytes, left: Bytes, right: Bytes) -> PlainDisk
-        ensures root { result.root.items ≡ root }
-        ensures left { result.left.items ≡ left }
-        ensures right { result.right.items ≡ right }
+        ensures image { plain_image result ≡ record { root = root; left = left; right = right } }
         ensures clock { result.clock ≡ 0 }
         ensures faults { result.faults ≡ 0 }
     {
@@ -38,7 +37,7 @@ impl PlainDisk {
     }
 
     fn part(&self, part: Part) -> &[u8]
-        ensures { result.now ≡ get part (image_of self.now.root self.now.left self.now.right) }
+        ensures { result.now ≡ get part (plain_image self.now) }
     {
         match part {
             Part::Root => &self.root,
@@ -48,39 +47,17 @@ impl PlainDisk {
     }
 }
 
-// Writes bytes over what a vector holds from a place on, and past its end.
-fn overwrite(file: &mut Vec<u8>, at: usize, bytes: &[u8]) -> Result<(), Failed>
-    requires { at ≤ vec_len file.old }
-    ensures ok { OnOk result (file.new.items ≡ written at bytes.now file.old.items) }
-    ensures err { OnErr result (file.new.items ≡ file.old.items) }
-{
-    let over = bytes.len().min(file.len() - at);
-    if file.extend_from_slice(bytes.split_at(over).1).is_err() {
-        return Err(Failed);
-    }
-    file[at..at + over].copy_from_slice(bytes.split_at(over).0);
-    Ok(())
-}
-
-// Reads what is there from a place on.
-fn read_into(file: &[u8], at: u64, into: &mut [u8]) -> usize
-    ensures fits { result ≤ length into.new }
-    ensures bytes { ReadsAt file.now at into.new result }
-{
-    let from = (at as usize).min(file.len());
-    let count = into.len().min(file.len() - from);
-    into[..count].copy_from_slice(&file[from..from + count]);
-    count
-}
-
 impl Disk for PlainDisk {
-    ghost use Rattle.std.proofs.Common.{inl};
+    ghost use Rattle.std.specs.Prelude.{◌≡◌, ◌≤◌, Some, refl, length, take, IfOk, IsOk, OnOk, OnErr};
+    ghost use Rattle.sw_rules.specs.Image.{Image, get, put};
+    ghost use Rattle.sw_rules.specs.DiskRule.{written, Elapses, HasCause, ReadsAt};
+    ghost use Rattle.sw_disk.specs.Plain.{plain_image, plain_small};
 
-    ghost seen = { λ d. Some (image_of d.root d.left d.right) };
+    ghost seen = { λ d. Some (plain_image d) };
 
-    ghost may_leave = { λ d c. c ≡ image_of d.root d.left d.right };
+    ghost may_leave = { λ d c. c ≡ plain_image d };
 
-    ghost left_since = { λ d t c. c ≡ image_of d.root d.left d.right };
+    ghost left_since = { λ d t c. c ≡ plain_image d };
 
     ghost clock = { λ d. d.clock };
 
@@ -92,19 +69,38 @@ impl Disk for PlainDisk {
 
     ghost only_now = { λ d c goes left. left };
 
-    ghost bounded = { λ d part. parts_small d.root d.left d.right part };
+    ghost bounded = { plain_small };
 
-    fn len(&mut self, part: Part) -> Result<u64, Failed> {
+    fn len(&mut self, part: Part) -> Result<u64, Failed>
+        ensures done { IsOk result }
+        ensures length { IfOk result (λ n. n ≡ length (get part (plain_image self.old))) }
+        ensures image { plain_image self.new ≡ plain_image self.old }
+        ensures time { Elapses self.old.clock self.new.clock (λ t c. c ≡ plain_image self.old) (λ t c. c ≡ plain_image self.new) (λ c. c ≡ plain_image self.new) }
+        ensures faults { self.new.faults ≡ self.old.faults }
+    {
         self.clock = self.clock.saturating_add(1);
         Ok(self.part(part).len() as u64)
     }
 
-    fn read_at(&mut self, part: Part, at: u64, into: &mut [u8]) -> Result<usize, Failed> {
+    fn read_at(&mut self, part: Part, at: u64, into: &mut [u8]) -> Result<usize, Failed>
+        ensures done { IsOk result }
+        ensures fits { IfOk result (λ n. n ≤ length into.new) }
+        ensures bytes { IfOk result (ReadsAt (get part (plain_image self.old)) at into.new) }
+        ensures image { plain_image self.new ≡ plain_image self.old }
+        ensures time { Elapses self.old.clock self.new.clock (λ t c. c ≡ plain_image self.old) (λ t c. c ≡ plain_image self.new) (λ c. c ≡ plain_image self.new) }
+        ensures faults { self.new.faults ≡ self.old.faults }
+    {
         self.clock = self.clock.saturating_add(1);
         Ok(read_into(self.part(part), at, into))
     }
 
-    fn write_at(&mut self, part: Part, at: u64, bytes: &[u8]) -> Result<(), Failed> {
+    fn write_at(&mut self, part: Part, at: u64, bytes: &[u8]) -> Result<(), Failed>
+        requires { at ≤ length (get part (plain_image self.old)) }
+        ensures ok { OnOk result (plain_image self.new ≡ put part (written at bytes.now (get part (plain_image self.old))) (plain_image self.old)) }
+        ensures err { OnErr result (plain_image self.new ≡ plain_image self.old) }
+        ensures time { Elapses self.old.clock self.new.clock (λ t c. c ≡ plain_image self.old) (λ t c. c ≡ plain_image self.new) (λ c. c ≡ plain_image self.new) }
+        ensures cause { HasCause self.old.faults self.new.faults result }
+    {
         self.clock = self.clock.saturating_add(1);
         let place = at as usize;
         let done = match part {
@@ -121,7 +117,13 @@ impl Disk for PlainDisk {
         }
     }
 
-    fn cut(&mut self, part: Part, len: u64) -> Result<(), Failed> {
+    fn cut(&mut self, part: Part, len: u64) -> Result<(), Failed>
+        requires { len ≤ length (get part (plain_image self.old)) }
+        ensures done { IsOk result }
+        ensures image { plain_image self.new ≡ put part (take len (get part (plain_image self.old))) (plain_image self.old) }
+        ensures time { Elapses self.old.clock self.new.clock (λ t c. c ≡ plain_image self.old) (λ t c. c ≡ plain_image self.new) (λ c. c ≡ plain_image self.new) }
+        ensures faults { self.new.faults ≡ self.old.faults }
+    {
         self.clock = self.clock.saturating_add(1);
         match part {
             Part::Root => self.root.truncate(len as usize),
@@ -131,7 +133,12 @@ impl Disk for PlainDisk {
         Ok(())
     }
 
-    fn sync(&mut self) -> Result<(), Failed> {
+    fn sync(&mut self) -> Result<(), Failed>
+        ensures done { IsOk result }
+        ensures image { plain_image self.new ≡ plain_image self.old }
+        ensures time { Elapses self.old.clock self.new.clock (λ t c. c ≡ plain_image self.old) (λ t c. c ≡ plain_image self.new) (λ c. c ≡ plain_image self.new) }
+        ensures faults { self.new.faults ≡ self.old.faults }
+    {
         self.clock = self.clock.saturating_add(1);
         Ok(())
     }

@@ -1,0 +1,60 @@
+-- What a disk in memory holds, and what a crash may leave of it.
+use Rattle.std.specs.Prelude.{◌≡◌, ◌⊎◌, ◌<◌, ◌≤◌, ◌^◌, ◌-◌, ℕ, List, [], ◌∷◌, Bool, length}
+use Rattle.std.specs.List.{All}
+use Rattle.sw_rules.specs.declared.disk.Part.{Part}
+use Rattle.sw_rules.specs.declared.disk.Part.TheVariants.{Root, Left, Right}
+use Rattle.sw_rules.specs.Faults.{Rose}
+use Rattle.sw_rules.specs.Image.{Image, get}
+use Rattle.sw_disk.specs.Doubts.{Leaves}
+use Rattle.sw_disk.specs.Script.{count_of, counted, is_listed}
+use Rattle.sw_disk.specs.declared.memory.MemoryDisk.{MemoryDisk}
+use Rattle.sw_disk.specs.declared.memory.history.Past.{Past}
+use Rattle.sw_disk.specs.declared.memory.part.MemoryPart.{MemoryPart}
+use Rattle.sw_disk.specs.declared.memory.parts.Parts.{Parts}
+use Rattle.sw_disk.specs.declared.memory.script.CallKind.{CallKind}
+
+-- own: the part of a name
+abbrev pub member : Part → Parts → MemoryPart
+member Root parts = parts.root
+member Left parts = parts.left
+member Right parts = parts.right
+
+-- own: what reads give
+abbrev pub image_of : Parts → Image
+image_of parts = record { root = parts.root.bytes.items; left = parts.left.bytes.items; right = parts.right.bytes.items }
+
+-- own: bytes that a crash now may leave of one part
+abbrev pub PartLeaves : MemoryPart → List ℕ → Type 0
+PartLeaves part c = Leaves part.touched part.doubts.items part.bytes.items c
+
+-- own: an image that a crash now may leave
+pub record MayLeave (parts : Parts) (c : Image) : Type 0 where
+  pub root : PartLeaves parts.root c.root
+  pub left : PartLeaves parts.left c.left
+  pub right : PartLeaves parts.right c.right
+
+-- own: an image that a crash at one of the moments that are past may have left, at or after a clock
+abbrev pub HadLeft : List Past → ℕ → Image → Type 0
+HadLeft [] t c = ⊥
+HadLeft (was ∷ past) t c = ((t ≤ was.clock) × MayLeave was.parts c) ⊎ HadLeft past t c
+
+-- own: an image that a crash at some moment since a clock may have left
+abbrev pub LeftSince : MemoryDisk → ℕ → Image → Type 0
+LeftSince disk t c = MayLeave disk.parts c ⊎ HadLeft disk.history.past.items t c
+
+-- own: what reads give of a disk
+abbrev pub disk_image : MemoryDisk → Image
+disk_image disk = image_of disk.parts
+
+-- own: the next call of a kind is one that fails
+abbrev pub fails_next : CallKind → MemoryDisk → Bool
+fails_next kind disk = is_listed kind (count_of kind disk.counts) disk.failing.items
+
+-- own: nothing is forgotten of what a crash at some moment may have left
+abbrev pub Keeps : MemoryDisk → MemoryDisk → Type 0
+Keeps old new = (t : ℕ) (c : Image) → t ≤ old.history.clock → LeftSince old t c → LeftSince new t c
+
+-- own: a call of a kind was counted, and the calls that fail are the same
+pub record FollowsScript (kind : CallKind) (old new : MemoryDisk) : Type 0 where
+  pub counts : new.counts ≡ counted kind old.counts
+  pub failing : new.failing ≡ old.failing

@@ -1,0 +1,295 @@
+//! A disk in memory that knows what a crash at each moment may have left.
+
+mod crash;
+mod history;
+mod part;
+mod parts;
+mod script;
+
+pub use script::{CallKind, Failing};
+
+use crate::disk::{Disk, Failed};
+use crate::span::read_into;
+use history::History;
+use part::MemoryPart;
+use parts::Parts;
+use script::{Counts, fails};
+use sw_rules::{Bytes, NoMemory, Part};
+
+/// A disk in memory for tests: it can fail at given calls, and it knows which images a crash at each moment since
+/// its making may have left.
+///
+/// Of what is past it keeps what the parts were at each sync that answered `Ok`. Between two of these the images that
+/// a crash may leave only become more, so that the last moment before the sync has those of all moments before it.
+#[derive(Debug, Drop)]
+pub struct MemoryDisk {
+    pub(crate) parts: Parts,
+    pub(crate) history: History,
+    pub(crate) counts: Counts,
+    pub(crate) faults: u64,
+    pub(crate) failing: Vec<Failing>,
+}
+
+impl MemoryDisk {
+    ghost use Rattle.std.specs.Prelude.{ℕ, [], length, IsOk, ◌≡◌, ◌⊎◌, ◌↔◌, ◌+◌, ◌-◌, ◌^◌, ◌≤◌, min, OnOk, OnErr, IfOk, IsErr, IsTrue};
+    ghost use Rattle.sw_rules.specs.Faults.{Rose};
+    ghost use Rattle.sw_rules.specs.DiskRule.{HasCause};
+    ghost use Rattle.sw_rules.specs.Image.{Image, get};
+    ghost use Rattle.sw_disk.specs.Memory.{disk_image, image_of, MayLeave, HadLeft, LeftSince, fails_next};
+    ghost use Rattle.sw_disk.specs.Picks.{image_picked};
+    ghost use Rattle.sw_disk.specs.Script.{counted};
+    ghost use Rattle.sw_rules.specs.declared.disk.Part.{Part};
+
+    /// A disk whose parts hold these bytes, none of them in doubt, and whose clock and count are 0; it takes no
+    /// memory.
+    pub fn new(root: Bytes, left: Bytes, right: Bytes, failing: Vec<Failing>) -> MemoryDisk
+        ensures image { disk_image result ≡ record { root = root; left = left; right = right } }
+        ensures sure { (c : Image) → MayLeave result.parts c ↔ (c ≡ disk_image result) }
+        ensures clock { result.history.clock ≡ 0 }
+        ensures faults { result.faults ≡ 0 }
+        ensures failing { result.failing ≡ failing }
+    {
+        let alloc = *failing.allocator();
+        MemoryDisk {
+            parts: Parts {
+                root: MemoryPart::new(root.into_vec()),
+                left: MemoryPart::new(left.into_vec()),
+                right: MemoryPart::new(right.into_vec()),
+            },
+            history: History::new(alloc),
+            counts: Counts::new(),
+            faults: 0,
+            failing,
+        }
+    }
+
+    /// What reads give of a part; it takes no memory.
+    pub fn image(&self, part: Part) -> &[u8]
+        ensures { result.now ≡ get part (disk_image self.now) }
+    {
+        self.parts.bytes(part)
+    }
+
+    /// The disk that a crash now leaves, where its bytes in doubt are taken from `picks`, part by part in the order of
+    /// `Part` and by rising place, and are 0 when these are used up. The parts keep the length that reads give. The
+    /// disk has no failing calls, no byte in doubt, and its clock and count are 0. This takes no memory.
+    pub fn crash(self, picks: &[u8]) -> Result<MemoryDisk, NoMemory>
+        ensures done { IsOk result }
+        ensures image { IfOk result (λ disk. disk_image disk ≡ image_picked self.parts picks.now) }
+        ensures allowed { IfOk result (λ disk. MayLeave self.parts (disk_image disk)) }
+        ensures lengths { IfOk result (λ disk. (part : Part) → length (get part (disk_image disk)) ≡ length (get part (disk_image self))) }
+        ensures sure { IfOk result (λ disk. (c : Image) → MayLeave disk.parts c ↔ (c ≡ disk_image disk)) }
+        ensures clock { IfOk result (λ disk. disk.history.clock ≡ 0) }
+        ensures faults { IfOk result (λ disk. disk.faults ≡ 0) }
+        ensures failing { IfOk result (λ disk. disk.failing.items ≡ []) }
+    {
+        let alloc = *self.failing.allocator();
+        let mut parts = self.parts;
+        parts.crash(picks);
+        Ok(MemoryDisk {
+            parts,
+            history: History::new(alloc),
+            counts: Counts::new(),
+            faults: 0,
+            failing: Vec::new(alloc),
+        })
+    }
+
+    // Counts a call, and says whether it is one that fails.
+    fn begin(&mut self, kind: CallKind) -> bool
+        ensures fails { result ≡ fails_next kind self.old }
+        ensures clock { self.new.history.clock ≡ min (self.old.history.clock + 1) (2 ^ 64 - 1) }
+        ensures later { self.old.history.clock ≤ self.new.history.clock }
+        ensures past { self.new.history.past ≡ self.old.history.past }
+        ensures counts { self.new.counts ≡ counted kind self.old.counts }
+        ensures parts { self.new.parts ≡ self.old.parts }
+        ensures faults { self.new.faults ≡ self.old.faults }
+        ensures failing { self.new.failing ≡ self.old.failing }
+    {
+        self.history.tick();
+        let number = self.counts.next(kind);
+        fails(&self.failing, kind, number)
+    }
+
+    // Makes sure what reads give, and keeps what the parts were; where `fails`, nothing.
+    fn settle(&mut self, entry: u64, fails: bool) -> Result<(), Failed>
+        requires { Rose entry self.old.history.clock }
+        ensures image { disk_image self.new ≡ disk_image self.old }
+        ensures ok { OnOk result ((c : Image) → MayLeave self.new.parts c ↔ (c ≡ disk_image self.old)) }
+        ensures err { OnErr result ((self.new.parts ≡ self.old.parts) × (self.new.history.past.items ≡ self.old.history.past.items)) }
+        ensures past { OnOk result ((t : ℕ) (c : Image) → HadLeft self.new.history.past.items t c ↔ (HadLeft self.old.history.past.items t c ⊎ ((t ≤ entry) × MayLeave self.old.parts c))) }
+        ensures fails { IsTrue fails → IsErr result }
+        ensures clock { self.new.history.clock ≡ self.old.history.clock }
+        ensures counts { self.new.counts ≡ self.old.counts }
+        ensures faults { self.new.faults ≡ self.old.faults }
+        ensures failing { self.new.failing ≡ self.old.failing }
+    {
+        if fails {
+            return Err(Failed);
+        }
+        let was = self.parts.copy()?;
+        self.history.keep(entry, was)?;
+        self.parts.settle();
+        Ok(())
+    }
+
+    // Counts a fault where there is one.
+    fn end(&mut self, done: Result<(), Failed>) -> Result<(), Failed>
+        ensures same { result ≡ done }
+        ensures cause { HasCause self.old.faults self.new.faults result }
+        ensures history { self.new.history ≡ self.old.history }
+        ensures counts { self.new.counts ≡ self.old.counts }
+        ensures parts { self.new.parts ≡ self.old.parts }
+        ensures failing { self.new.failing ≡ self.old.failing }
+    {
+        match done {
+            Ok(()) => Ok(()),
+            Err(Failed) => {
+                self.faults = self.faults.saturating_add(1);
+                Err(Failed)
+            }
+        }
+    }
+
+    // Counts a call that has nothing to do but to answer.
+    fn ask(&mut self, kind: CallKind) -> Result<(), Failed>
+        ensures listed { IsErr result ↔ IsTrue (fails_next kind self.old) }
+        ensures clock { self.new.history.clock ≡ min (self.old.history.clock + 1) (2 ^ 64 - 1) }
+        ensures later { self.old.history.clock ≤ self.new.history.clock }
+        ensures past { self.new.history.past ≡ self.old.history.past }
+        ensures counts { self.new.counts ≡ counted kind self.old.counts }
+        ensures parts { self.new.parts ≡ self.old.parts }
+        ensures failing { self.new.failing ≡ self.old.failing }
+        ensures cause { HasCause self.old.faults self.new.faults result }
+    {
+        let done = if self.begin(kind) { Err(Failed) } else { Ok(()) };
+        self.end(done)
+    }
+}
+
+impl Disk for MemoryDisk {
+    ghost use Rattle.std.specs.Prelude.{◌≡◌, ◌↔◌, ◌⊎◌, ◌≤◌, Some, length, take, OnOk, OnErr, IfOk, IsErr, IsTrue};
+    ghost use Rattle.std.proofs.Common.{inl};
+    ghost use Rattle.sw_rules.specs.Image.{Image, get, put};
+    ghost use Rattle.sw_rules.specs.DiskRule.{OnPart, written, FailedWrite, FailedCut, Torn, PendingCut, Follows, Within, Only, Elapses, HasCause, ReadsAt};
+    ghost use Rattle.sw_disk.specs.declared.memory.script.CallKind.TheVariants.{Len, Read, Write, Cut, Sync};
+    ghost use Rattle.sw_disk.specs.Doubts.{Exactly};
+    ghost use Rattle.sw_disk.specs.Memory.{disk_image, MayLeave, LeftSince, Keeps, FollowsScript, fails_next};
+    ghost use Rattle.sw_disk.specs.MemoryLaws.{leaves_image, current, image_small};
+
+    ghost seen = { λ d. Some (disk_image d) };
+
+    ghost may_leave = { λ d c. MayLeave d.parts c };
+
+    ghost left_since = { LeftSince };
+
+    ghost clock = { λ d. d.history.clock };
+
+    ghost faults = { λ d. d.faults };
+
+    ghost shows = { λ d. leaves_image d.parts };
+
+    ghost counts_now = { λ d t c le left. inl left };
+
+    ghost only_now = { λ d c goes left. current d.parts d.history.past.items d.history.clock c goes d.history.in_order left };
+
+    ghost bounded = { λ d part. image_small d.parts part };
+
+    fn len(&mut self, part: Part) -> Result<u64, Failed>
+        ensures length { IfOk result (λ n. n ≡ length (get part (disk_image self.old))) }
+        ensures seen { disk_image self.new ≡ disk_image self.old }
+        ensures crash { Within (MayLeave self.new.parts) (MayLeave self.old.parts) }
+        ensures time { Elapses self.old.history.clock self.new.history.clock (LeftSince self.old) (LeftSince self.new) (MayLeave self.new.parts) }
+        ensures cause { HasCause self.old.faults self.new.faults result }
+        ensures exact { Within (MayLeave self.old.parts) (MayLeave self.new.parts) }
+        ensures kept { Keeps self.old self.new }
+        ensures listed { IsErr result ↔ IsTrue (fails_next Len self.old) }
+        ensures script { FollowsScript Len self.old self.new }
+    {
+        match self.ask(CallKind::Len) {
+            Ok(()) => Ok(self.parts.bytes(part).len() as u64),
+            Err(Failed) => Err(Failed),
+        }
+    }
+
+    fn read_at(&mut self, part: Part, at: u64, into: &mut [u8]) -> Result<usize, Failed>
+        ensures fits { IfOk result (λ n. n ≤ length into.new) }
+        ensures bytes { IfOk result (ReadsAt (get part (disk_image self.old)) at into.new) }
+        ensures seen { disk_image self.new ≡ disk_image self.old }
+        ensures crash { Within (MayLeave self.new.parts) (MayLeave self.old.parts) }
+        ensures time { Elapses self.old.history.clock self.new.history.clock (LeftSince self.old) (LeftSince self.new) (MayLeave self.new.parts) }
+        ensures cause { HasCause self.old.faults self.new.faults result }
+        ensures exact { Within (MayLeave self.old.parts) (MayLeave self.new.parts) }
+        ensures kept { Keeps self.old self.new }
+        ensures listed { IsErr result ↔ IsTrue (fails_next Read self.old) }
+        ensures script { FollowsScript Read self.old self.new }
+    {
+        match self.ask(CallKind::Read) {
+            Ok(()) => Ok(read_into(self.parts.bytes(part), at, into)),
+            Err(Failed) => Err(Failed),
+        }
+    }
+
+    fn write_at(&mut self, part: Part, at: u64, bytes: &[u8]) -> Result<(), Failed>
+        requires { at ≤ length (get part (disk_image self.old)) }
+        ensures ok { OnOk result (disk_image self.new ≡ put part (written at bytes.now (get part (disk_image self.old))) (disk_image self.old)) }
+        ensures err { OnErr result (OnPart part (FailedWrite at (length bytes.now)) (disk_image self.old) (disk_image self.new)) }
+        ensures crash { Follows (OnPart part (Torn (length (get part (disk_image self.old))) at (length bytes.now))) (MayLeave self.old.parts) (MayLeave self.new.parts) }
+        ensures time { Elapses self.old.history.clock self.new.history.clock (LeftSince self.old) (LeftSince self.new) (MayLeave self.new.parts) }
+        ensures cause { HasCause self.old.faults self.new.faults result }
+        ensures exact { OnOk result (Exactly (OnPart part (Torn (length (get part (disk_image self.old))) at (length bytes.now))) (MayLeave self.old.parts) (MayLeave self.new.parts)) }
+        // It wanted memory before it began, or the range is in doubt.
+        ensures failed { OnErr result ((self.new.parts ≡ self.old.parts) ⊎ Exactly (OnPart part (Torn (length (get part (disk_image self.old))) at (length bytes.now))) (MayLeave self.old.parts) (MayLeave self.new.parts)) }
+        ensures kept { Keeps self.old self.new }
+        ensures listed { IsTrue (fails_next Write self.old) → IsErr result }
+        ensures script { FollowsScript Write self.old self.new }
+    {
+        let fails = self.begin(CallKind::Write);
+        let done = self.parts.write(part, at as usize, bytes, fails);
+        self.end(done)
+    }
+
+    fn cut(&mut self, part: Part, len: u64) -> Result<(), Failed>
+        requires { len ≤ length (get part (disk_image self.old)) }
+        ensures ok { OnOk result (disk_image self.new ≡ put part (take len (get part (disk_image self.old))) (disk_image self.old)) }
+        ensures err { OnErr result (OnPart part (FailedCut len) (disk_image self.old) (disk_image self.new)) }
+        ensures crash { Follows (OnPart part (PendingCut len)) (MayLeave self.old.parts) (MayLeave self.new.parts) }
+        ensures time { Elapses self.old.history.clock self.new.history.clock (LeftSince self.old) (LeftSince self.new) (MayLeave self.new.parts) }
+        ensures cause { HasCause self.old.faults self.new.faults result }
+        ensures exact { OnOk result (Exactly (OnPart part (PendingCut len)) (MayLeave self.old.parts) (MayLeave self.new.parts)) }
+        // It wanted memory before it began, or the length is in doubt.
+        ensures failed { OnErr result ((self.new.parts ≡ self.old.parts) ⊎ Exactly (OnPart part (PendingCut len)) (MayLeave self.old.parts) (MayLeave self.new.parts)) }
+        ensures kept { Keeps self.old self.new }
+        ensures listed { IsTrue (fails_next Cut self.old) → IsErr result }
+        ensures script { FollowsScript Cut self.old self.new }
+    {
+        let fails = self.begin(CallKind::Cut);
+        let done = self.parts.cut(part, len as usize, fails);
+        self.end(done)
+    }
+
+    fn sync(&mut self) -> Result<(), Failed>
+        ensures durable { OnOk result (Only (disk_image self.old) (MayLeave self.new.parts)) }
+        ensures seen { disk_image self.new ≡ disk_image self.old }
+        ensures crash { Within (MayLeave self.new.parts) (MayLeave self.old.parts) }
+        ensures time { Elapses self.old.history.clock self.new.history.clock (LeftSince self.old) (LeftSince self.new) (MayLeave self.new.parts) }
+        ensures cause { HasCause self.old.faults self.new.faults result }
+        ensures failed { OnErr result (Within (MayLeave self.old.parts) (MayLeave self.new.parts)) }
+        ensures kept { Keeps self.old self.new }
+        ensures listed { IsTrue (fails_next Sync self.old) → IsErr result }
+        ensures script { FollowsScript Sync self.old self.new }
+    {
+        let entry = self.history.clock;
+        let fails = self.begin(CallKind::Sync);
+        let done = self.settle(entry, fails);
+        self.end(done)
+    }
+
+    fn clock(&self) -> u64 {
+        self.history.clock
+    }
+
+    fn faults(&self) -> u64 {
+        self.faults
+    }
+}
