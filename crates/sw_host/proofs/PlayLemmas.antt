@@ -24,7 +24,7 @@ use Rattle.sw_rules.specs.Storage.{nothing}
 use Rattle.sw_rules.proofs.Controllers.{controlled}
 use Rattle.sw_rules.proofs.HistoryLemmas.{AllStampedAt, AllStampedAt-snoc, EachLater-snoc, Legal-snoc, after-snoc, stamped_standing}
 use Rattle.sw_host.specs.Plain.{IsPlain}
-use Rattle.sw_host.specs.Play.{AreUnstamped, IsSoFar, lane_entry, opening}
+use Rattle.sw_host.specs.Play.{AreUnstamped, HasActed, HasPlayed, IsSoFar, lane_entry, opening}
 use Rattle.sw_host.specs.Replies.{IsBare}
 
 -- the maker of an action's event
@@ -95,7 +95,7 @@ goes_on actions n history state new happened reply notices so_far got stepped ba
     let left : moved state entry ≡ new = ap (state_after state) stepped in
     let recorded : recorded_event (one_lane actions) 0 n ≡ Some happening = ap (option_map (event_of_action (Lane 0 n))) got in
     let is_next : next_action (one_lane actions) history 0 ≡ Some happening =
-        subst (λ (k : ℕ). recorded_event (one_lane actions) 0 k ≡ Some happening) (sym so_far.made) recorded in
+    subst (λ (k : ℕ). recorded_event (one_lane actions) 0 k ≡ Some happening) (sym so_far.made) recorded in
     let is_step : IsStep history state entry = record {
       maker = sym (who_of-event_of_action (Lane 0 n) happened);
       step = subst (λ (s : State). Step state happening reply notices s) (sym left) stepped;
@@ -108,9 +108,9 @@ goes_on actions n history state new happened reply notices so_far got stepped ba
     record {
       legal = Legal-snoc nothing history entry so_far.legal (subst (λ (s : State). IsStep history s entry) (sym so_far.state_is) is_step);
       follows = EachLater-snoc (IsRecorded (one_lane actions)) nothing history entry so_far.follows
-        (subst (λ (s : State). IsRecorded (one_lane actions) history s entry) (sym so_far.state_is) is_recorded);
+          (subst (λ (s : State). IsRecorded (one_lane actions) history s entry) (sym so_far.state_is) is_recorded);
       picked = EachLater-snoc (IsPicked (one_lane actions)) nothing history entry so_far.picked
-        (subst (λ (s : State). IsPicked (one_lane actions) history s entry) (sym so_far.state_is) is_picked);
+          (subst (λ (s : State). IsPicked (one_lane actions) history s entry) (sym so_far.state_is) is_picked);
       stamps = unstamped-snoc history entry so_far.stamps refl;
       made = count-snoc 0 history entry ∙ ap (λ (k : ℕ). k + 1) so_far.made;
       state_is = after-snoc nothing history entry so_far.legal.opens ∙ ap (λ (s : State). moved s entry) so_far.state_is ∙ left;
@@ -145,3 +145,21 @@ is_whole actions history state so_far =
         owed = ap (λ (s : State). s.owed) left;
       };
     }
+
+-- the next action has happened
+pub has_gone_on : (actions : List Action) (n : ℕ) (before history : List Entry) (old new : State) (happened : Action)
+    → IsSoFar actions n before old → slice_get actions n ≡ Some happened → HasActed n happened before old history new
+    → IsSoFar actions (n + 1) history new
+has_gone_on actions n before history old new happened so_far got acted =
+    subst (λ (h : List Entry). IsSoFar actions (n + 1) h new) (sym acted.entered)
+    (goes_on actions n before old new happened acted.answer acted.notices so_far got acted.step acted.bare)
+
+-- the element behind a front of this length
+pub at_seam : (front : List Action) (x : Action) (rest : List Action) → slice_get (front ++ x ∷ rest) (length front) ≡ Some x
+at_seam [] x rest = refl
+at_seam (first ∷ front) x rest = at_seam front x rest
+
+-- a recording of one lane whose actions have all happened
+pub whole_of_played : (recording : Recording) (actions : List Action) (history : List Entry) → recording ≡ one_lane actions → HasPlayed actions history → IsWholeRun recording nothing 0 0 history
+whole_of_played recording actions history is played =
+    subst (λ (r : Recording). IsWholeRun r nothing 0 0 history) (sym is) (is_whole actions history played.0 played.1)

@@ -1,5 +1,5 @@
 -- A history on its way: the first actions of one lane have happened.
-use Rattle.std.specs.Prelude.{◌≡◌, ℕ, List, [], ◌∷◌}
+use Rattle.std.specs.Prelude.{◌≡◌, ℕ, List, [], ◌∷◌, ◌++◌, length}
 use Rattle.sw_rules.specs.declared.answers.Answer.{Answer}
 use Rattle.sw_rules.specs.declared.answers.Answer.TheVariants as answer
 use Rattle.sw_rules.specs.declared.answers.Notice.{Notice}
@@ -13,6 +13,7 @@ use Rattle.sw_rules.specs.Grammar.{one_lane}
 use Rattle.sw_rules.specs.History.{Legal, after}
 use Rattle.sw_rules.specs.Picks.{Follows, Seq, made_by}
 use Rattle.sw_rules.specs.State.{State, initial}
+use Rattle.sw_rules.specs.Step.{Step}
 use Rattle.sw_rules.specs.Storage.{nothing}
 use Rattle.sw_host.specs.Replies.{IsBare}
 
@@ -52,3 +53,15 @@ pub record IsSoFar (actions : List Action) (n : ℕ) (history : List Entry) (sta
   pub made : made_by 0 history ≡ n
   pub state_is : after nothing history ≡ state
   pub bare : IsBare state
+
+-- an action of lane 0 has happened at this position: one entry more, which is a step
+pub record HasActed (at : ℕ) (action : Action) (before : List Entry) (old : State) (history : List Entry) (new : State) : Type 0 where
+  pub answer : Answer
+  pub notices : List Notice
+  pub entered : history ≡ before ++ lane_entry at action answer notices ∷ []
+  pub step : Step old (event_of_action (Lane 0 at) action) answer notices new
+  pub bare : IsBare new
+
+-- all these actions have happened
+abbrev pub HasPlayed : List Action → List Entry → Type 0
+HasPlayed actions history = (state : State) × IsSoFar actions (length actions) history state

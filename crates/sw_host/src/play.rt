@@ -1,0 +1,86 @@
+//! A recording is run to its end.
+
+ghost use Rattle.std.specs.Prelude.{◌≡◌, ◌≤◌, ◌∷◌, [], length, All, IfOk, OnOk};
+ghost use Rattle.sw_rules.specs.Grammar.{IsBuilt, IsBuiltRecording, actions_limit};
+ghost use Rattle.sw_rules.specs.Run.{IsWholeRun};
+ghost use Rattle.sw_rules.specs.Storage.{nothing};
+ghost use Rattle.sw_host.specs.Play.{HasActed, HasPlayed, opening};
+ghost use Rattle.sw_host.specs.Replies.{IsBare};
+
+use crate::acting::event_of_action;
+use crate::host::Host;
+use std::alloc::Global;
+use sw_rules::{Action, Answer, Entry, Event, Items, NoMemory, Recording, Who};
+
+/// The entry of a restart from nothing.
+fn opening(alloc: Global) -> Entry
+    ensures { result ≡ opening }
+{
+    Entry {
+        pass: 0,
+        who: Who::Host,
+        event: Event::Restarted { who: Who::Host },
+        answer: Answer::Restarted {
+            registrations: 0,
+            caches: 0,
+        },
+        notices: Items::new(alloc),
+        stamp: 0,
+    }
+}
+
+/// The action of lane 0 at a position happens: it is one step, and one entry more.
+#[tactic(auto, using(crate::proofs::PlayLemmas::plain_of_built))]
+fn act(
+    alloc: Global,
+    host: &mut Host,
+    history: &mut Vec<Entry>,
+    at: u32,
+    action: Action,
+) -> Result<(), NoMemory>
+    requires built { IsBuilt action }
+    requires bare { IsBare host.old }
+    ensures { OnOk result (HasActed at action history.old.items host.old history.new.items host.new) }
+{
+    let who = Who::Lane { lane: 0, at };
+    let event = event_of_action(who, action);
+    let reply = host.apply(alloc, &event)?;
+    history.push(Entry {
+        pass: 0,
+        who,
+        event,
+        answer: reply.answer,
+        notices: reply.notices,
+        stamp: 0,
+    })?;
+    Ok(())
+}
+
+/// The actions of the one lane happen in order.
+fn play_lane(alloc: Global, actions: Vec<Action>) -> Result<Vec<Entry>, NoMemory>
+    requires built { All IsBuilt actions.items }
+    requires few { length actions.items ≤ actions_limit }
+    ensures { IfOk result (λ history. HasPlayed actions.items history.items) }
+{
+    let mut host = Host::new(alloc);
+    let mut history = Vec::new(alloc);
+    history.push(opening(alloc))?;
+    let mut at = 0;
+    for action in actions {
+        act(alloc, &mut host, &mut history, at, action)?;
+        at += 1;
+    }
+    Ok(history)
+}
+
+/// Runs a recording of one lane to its end. It takes as many steps as there are actions.
+pub fn play(alloc: Global, recording: Recording) -> Result<Vec<Entry>, NoMemory>
+    requires { IsBuiltRecording recording }
+    ensures { IfOk result (λ history. IsWholeRun recording nothing 0 0 history.items) }
+{
+    let Some(actions) = recording.lanes.into_vec().into_iter().next() else {
+        unreachable!()
+    };
+    let history = play_lane(alloc, actions.into_vec())?;
+    Ok(history)
+}

@@ -10,7 +10,7 @@ use Rattle.sw_host.proofs.host.Host.keep.Goals as goal
 pub invariant_of-self-2 : goal.invariant_of-self-2
 invariant_of-self-2 c =
     let rows_are : c.put_pair.new.rows ≡ with_cache c.args.key.now c.args.name.now (with_pair c.args.pair) c.self.inside.caches.items =
-        c.in_ok-put_pair.ensures.ok ∙ ap (with_cache c.args.key.now c.args.name.now (with_pair c.args.pair)) c.deref_mut.ensures.value in
+    c.in_ok-put_pair.ensures.ok ∙ ap (with_cache c.args.key.now c.args.name.now (with_pair c.args.pair)) c.deref_mut.ensures.value in
     let kept : length c.put_pair.new.rows ≡ c.self.inside.caches.len = omega (arith, c.put_pair.auto.rows, c.deref_mut.ensures.len) in
     let written = with_items_is c.self.inside.caches c.put_pair.new.rows kept in
     subst (λ (rows : List KeptCache). ArePlainCaches rows) (sym (written ∙ rows_are))
