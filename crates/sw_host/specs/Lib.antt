@@ -1,3 +1,4 @@
 pub mod Plain
 pub mod Play
 pub mod Replies
+pub mod Stands

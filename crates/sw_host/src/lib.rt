@@ -6,3 +6,8 @@ mod caches;
 mod host;
 mod place;
 mod play;
+mod statuses;
+mod top;
+
+pub use statuses::Status;
+pub use top::run;
