@@ -1,13 +1,15 @@
 -- One turn, step after step: what the seat is at each, and that it may make the next.
-use Rattle.std.proofs.Common.{◌≡◌, ◌≢◌, ℕ, ◌+◌, ◌%◌, ◌^◌, ◌<◌, ◌≤◌, List, [], ◌∷◌, length, Option, Some, None, sym, refl, ap, ◌∙◌, subst, arith}
-use mathlib.Core.Option.{none}
-use Rattle.atomic_table.specs.Table.{State, step, Allows, rest}
+use Rattle.std.proofs.Common.{◌≡◌, ◌≢◌, ℕ, ◌+◌, ◌%◌, ◌^◌, ◌<◌, ◌≤◌, List, [], ◌∷◌, length, Option, Some, None, All, sym, refl, ap, ◌∙◌, subst, arith}
+use mathlib.Core.Option.{none, some, some-injective}
+use lib.ListN.{get_elem?}
+use Rattle.atomic_table.specs.Table.{State, step, Allows, Splits, Final, Seen, rest}
 use Rattle.sw_lock.specs.declared.view.View.{View}
+use Rattle.sw_lock.specs.declared.view.Note.{Note}
 use Rattle.sw_lock.specs.declared.view.Place.TheVariants.{Away, Out, Counted}
 use Rattle.sw_lock.specs.Entries.{ThenOwn, ThenOthers}
-use Rattle.sw_lock.specs.Turns.{Kept}
-use Rattle.sw_lock.specs.Steps.{Sat, At, IsIdle, Found, Advanced, Took, holding, counting, with_ticket, without, counted, passed}
-use Rattle.sw_lock.proofs.Turns.{adds, passes_on}
+use Rattle.sw_lock.specs.Turns.{Kept, Knows}
+use Rattle.sw_lock.specs.Steps.{Sat, At, IsIdle, IsFirst, gave, further, Found, Advanced, Took, holding, counting, with_ticket, without, counted, passed}
+use Rattle.sw_lock.proofs.Turns.{adds, passes_on, splits, closes}
 use Rattle.sw_lock.proofs.Stands.{longer}
 
 module _ {X : Type 0} where
@@ -45,6 +47,12 @@ module _ {V E B : Type 0} (base : V → B) (log : V → List E) (maker : E → �
   counted_seat m m3 m4 ticket x y e told =
       told y (ap (λ (n : Sat V E). n.1) e) ∙ ap (λ (n : Sat V E). counting base log maker passes n y) e
 
+  -- the first pass may make a further one
+  pub splits_first : (opened : V) (made id next : ℕ) (m : Sat V E) → IsFirst log opened next m → IsIdle m → next < made → Splits (Kept base log maker passes opened made) id m.0 (gave m.0) (further m.0)
+  splits_first opened made id next m is idle few =
+      let alone = idle.alone in let many : m.0.made ≡ next = ap (λ (n : Sat V E). n.0.made) is in
+      splits base log maker passes opened made id m.0 (ap (λ (n : Sat V E). n.0.number) is) idle.ticket idle.place (omega arith) (ap (λ (n : Sat V E). n.0.opened) is) (omega arith)
+
   module _ (opened : V) (made : ℕ) {G O : Type 0} (steps : V → G → ℕ → V → O → Type 0) where
     pub counts_turn : (slots id added ticket pass : ℕ) (m m3 : Sat V E) (x y : V) (given : G) (answer : O) → IsIdle m → m3 ≡ has m ticket x y
         → pass ≡ m.0.number → Advanced base log maker steps x given pass y answer added
@@ -78,3 +86,21 @@ module _ {V E B : Type 0} (base : V → B) (log : V → List E) (maker : E → �
       known = let most = f.knows.most in let l = longer maker pass (log x) (log y) a.own in omega arith;
       seat = done ∙ ap without e;
     }
+
+module _ {V E B : Type 0} (base : V → B) (log : V → List E) (maker : E → ℕ) (passes : B → ℕ) (opened : V) (made : ℕ) where
+  -- what was in the slot at the end
+  pub closed_slot : (id : ℕ) (v : View V E) (ws : List ℕ) (xs : List (Option V)) (slot : Option V) → v.place ≡ Away → 0 < v.passes → made ≤ v.passes
+      → Final (Seen (Kept base log maker passes opened made) id v) ws xs → get_elem? xs 0 ≡ some slot
+      → (x : V) × (slot ≡ Some x) × (base x ≡ base opened) × Knows maker v.number v.seen v.known (log x) × All (λ n. Knows maker n.number n.seen n.known (log x)) v.joined
+  closed_slot id v ws xs slot away live all final here =
+      let told = closes base log maker passes opened made id v ws xs away live all final in
+      (told.0, some-injective slot (Some told.0) (sym here ∙ told.1), told.2, told.3, told.4)
+
+  pub closed_value : (id : ℕ) (v : View V E) (ws : List ℕ) (xs : List (Option V)) (slot : Option V) (value : V) → v.place ≡ Away → 0 < v.passes → made ≤ v.passes
+      → Final (Seen (Kept base log maker passes opened made) id v) ws xs → get_elem? xs 0 ≡ some slot → slot ≡ Some value
+      → (base value ≡ base opened) × Knows maker v.number v.seen v.known (log value) × All (λ n. Knows maker n.number n.seen n.known (log value)) v.joined
+  closed_value id v ws xs slot value away live all final here is =
+      let told = closed_slot id v ws xs slot away live all final here in
+      let both : Some told.0 ≡ Some value = sym told.1 ∙ is in
+      let same : told.0 ≡ value = cc in
+      subst (λ (x : V). (base x ≡ base opened) × Knows maker v.number v.seen v.known (log x) × All (λ n. Knows maker n.number n.seen n.known (log x)) v.joined) same (told.2, told.3, told.4)

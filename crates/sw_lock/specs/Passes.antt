@@ -1,8 +1,12 @@
 -- What clauses see of the lock, of its passes, and of one turn.
-use Rattle.std.specs.Prelude.{◌≡◌, ◌≤◌, ◌<◌, ◌+◌, ◌^◌, ℕ, List, length, Option, Some}
+use Rattle.std.specs.Prelude.{◌≡◌, ◌≤◌, ◌<◌, ◌+◌, ◌^◌, ℕ, List, [], map, length, Option, Some, None}
 use Rattle.sw_lock.specs.declared.logged.Logged.{Ghosts}
 use Rattle.sw_lock.specs.declared.pass.Pass.{Pass}
 use Rattle.sw_lock.specs.declared.lock.Shared.{Shared}
+use Rattle.atomic_table.specs.declared.shared.Seat.{Seat}
+use Rattle.sw_lock.specs.declared.view.View.{View}
+use Rattle.sw_lock.specs.declared.view.Place.TheVariants.{Away}
+use Rattle.sw_lock.specs.Steps.{note}
 use Rattle.sw_lock.specs.Entries.{ThenOwn, ThenOthers}
 
 module _ {T E G O : Type 0} where
@@ -60,3 +64,12 @@ module _ {T E G O : Type 0} {g : Ghosts T E G O} where
     pub own : ThenOwn g.maker (number old) (g.log before) (g.log after)
     pub steps : g.steps before given (number old) after answer
     pub seen : seen new ≡ g.log after
+
+  -- own: a seat that stands for this pass and for those
+  pub record IsGathered (first : Pass T E G O g) (others : List (Pass T E G O g)) (seat : Seat (Option T) (View T E)) : Type 0 where
+    pub empty : seat.me.1 ≡ []
+    pub ticket : seat.me.0.ticket ≡ None
+    pub place : seat.me.0.place ≡ Away
+    pub stands : seat.me.0.passes ≡ length others + 1
+    pub own : note seat.me.0 ≡ note first.seat.me.0
+    pub joined : seat.me.0.joined ≡ map (λ p. note p.seat.me.0) others

@@ -1,6 +1,7 @@
 //! A lock.
 #![tactic(auto)]
 
+mod close;
 mod lock;
 mod logged;
 mod make;

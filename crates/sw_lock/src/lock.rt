@@ -1,5 +1,5 @@
 //! The lock, and what its calls hand back besides.
-ghost use Rattle.std.specs.Prelude.{◌≡◌};
+ghost use Rattle.std.specs.Prelude.{◌≡◌, ◌<◌};
 
 use crate::logged::Logged;
 use crate::pass::Pass;
@@ -13,6 +13,7 @@ pub struct Shared<T: Logged> {
     pub(crate) table: Table<Option<T>, View<T, T::Entry>, Start<T>, Turns<T>, Global>,
     pub(crate) made: u32,
     ghost sized: { (table.shared.table_id.words ≡ 3) × (table.shared.table_id.slots ≡ 1) },
+    ghost some: { 0 < made },
     ghost told: { made ≡ table.shared.key.made },
 }
 

@@ -17,6 +17,19 @@ pub struct Pass<T: Logged> {
     ghost bounded: { turns ≤ 2 ^ 40 },
 }
 
+impl<T: Logged> Pass<T> {
+    pub(crate) fn into_seat(self) -> Seat<Option<T>, View<T, T::Entry>>
+        ensures { result ≡ self.seat }
+    {
+        let Self {
+            seat,
+            number: _,
+            turns: _,
+        } = self;
+        seat
+    }
+}
+
 impl<T: Logged> Drop for Pass<T> {
     fn drop(self) {
         let Self {
