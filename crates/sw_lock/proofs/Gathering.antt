@@ -29,11 +29,11 @@ module _ {T E G O : Type 0} {g : Ghosts T E G O} where
         stands = let is = ap (λ (m : Sat T E). m.0.passes) e in omega (arith, length-append others (pass ∷ []));
         own = ap (λ (m : Sat T E). note m.0) e ∙ so_far.own;
         joined =
-          ap (λ (m : Sat T E). m.0.joined) e
-          ∙ (ap (λ (l : List (Note E)). (seat.me.0.joined ++ note pass.seat.me.0 ∷ []) ++ l) idle.joined
-          ∙ (append-nil (seat.me.0.joined ++ note pass.seat.me.0 ∷ [])
-          ∙ (ap (λ (l : List (Note E)). l ++ note pass.seat.me.0 ∷ []) so_far.joined
-          ∙ sym (map-append (λ (p : Pass T E G O g). note p.seat.me.0) others (pass ∷ [])))));
+            ap (λ (m : Sat T E). m.0.joined) e
+            ∙ (ap (λ (l : List (Note E)). (seat.me.0.joined ++ note pass.seat.me.0 ∷ []) ++ l) idle.joined
+            ∙ (append-nil (seat.me.0.joined ++ note pass.seat.me.0 ∷ [])
+            ∙ (ap (λ (l : List (Note E)). l ++ note pass.seat.me.0 ∷ []) so_far.joined
+            ∙ sym (map-append (λ (p : Pass T E G O g). note p.seat.me.0) others (pass ∷ [])))));
       }
 
   -- what is known of each pass, once one seat stands for them all
@@ -43,5 +43,5 @@ module _ {T E G O : Type 0} {g : Ghosts T E G O} where
   gathered_all P first others all seat so_far parts own joined =
       let Q : Pass T E G O g → Type 0 = λ p. P (note p.seat.me.0) in
       All-same Q all (others ++ first ∷ []) parts (All-push Q others first
-        (λ k d below. subst P (get_or-map (λ (p : Pass T E G O g). note p.seat.me.0) others k d (note d.seat.me.0) below) (subst (λ (ns : List (Note E)). All P ns) so_far.joined joined k (note d.seat.me.0) (omega (arith, length-map others (λ (p : Pass T E G O g). note p.seat.me.0)))))
-        (subst P so_far.own own))
+      (λ k d below. subst P (get_or-map (λ (p : Pass T E G O g). note p.seat.me.0) others k d (note d.seat.me.0) below) (subst (λ (ns : List (Note E)). All P ns) so_far.joined joined k (note d.seat.me.0) (omega (arith, length-map others (λ (p : Pass T E G O g). note p.seat.me.0)))))
+      (subst P so_far.own own))

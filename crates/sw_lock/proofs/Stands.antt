@@ -68,7 +68,7 @@ module _ {E : Type 0} (maker : E → ℕ) where
     spent_else : (views : List (View V E)) (me : ℕ) (v w : View V E) → Has views me v → 0 < v.passes → (k : ℕ) → Spent views k → (k ≢ me) × Spent (set views me w) k
     spent_else views me v w h live k z =
         let ne : k ≢ me = λ e. let same : z.0 ≡ v = at_one views me z.0 v (subst (λ (i : ℕ). Has views i z.0) e z.1) h in
-          let none = ap (λ (u : View V E). u.passes) same in let no_pass = z.2 in absurd (omega arith) in
+        let none = ap (λ (u : View V E). u.passes) same in let no_pass = z.2 in absurd (omega arith) in
         (ne, (z.0, set_else views me k w ne ∙ z.1, z.2))
 
     -- one view changes what it has seen, and the history grows by entries of its pass
@@ -83,15 +83,15 @@ module _ {E : Type 0} (maker : E → ℕ) where
         let long = length-set views me w in let spent = spent_else views me v w h live in
         ⊎_elim
         (λ mine. subst (λ (x : View V E). Stands maker opened (set views me w) more id x) mine.1 (
-          let s = old me v h live in record {
-            number = number ∙ (s.number ∙ sym mine.0);
-            start = start ∙ s.start;
-            own = subst (λ (n : ℕ). Knows maker n w.seen w.known more) (sym number) own;
-            joined = subst (λ (ns : List (Note E)). All (λ n. Knows maker n.number n.seen n.known more × Spent (set views me w) n.number) ns) (sym joined)
-                (All-weaker (λ n. Knows maker n.number n.seen n.known history × Spent views n.number) (λ n. Knows maker n.number n.seen n.known more × Spent (set views me w) n.number)
-                (λ n k. let away = spent n.number k.1 in (knows_grow n.number me n.known n.seen history more away.0 k.0 g, away.1)) v.joined s.joined);
-            first = λ zero_is. let is : me ≡ 0 = sym mine.0 ∙ zero_is in (made ∙ ((s.first is).0 ∙ sym long), λ k least. first is k (omega arith));
-          }))
+        let s = old me v h live in record {
+          number = number ∙ (s.number ∙ sym mine.0);
+          start = start ∙ s.start;
+          own = subst (λ (n : ℕ). Knows maker n w.seen w.known more) (sym number) own;
+          joined = subst (λ (ns : List (Note E)). All (λ n. Knows maker n.number n.seen n.known more × Spent (set views me w) n.number) ns) (sym joined)
+              (All-weaker (λ n. Knows maker n.number n.seen n.known history × Spent views n.number) (λ n. Knows maker n.number n.seen n.known more × Spent (set views me w) n.number)
+              (λ n k. let away = spent n.number k.1 in (knows_grow n.number me n.known n.seen history more away.0 k.0 g, away.1)) v.joined s.joined);
+          first = λ zero_is. let is : me ≡ 0 = sym mine.0 ∙ zero_is in (made ∙ ((s.first is).0 ∙ sym long), λ k least. first is k (omega arith));
+        }))
         (λ other. stands_moved views (set views me w) history more me id u g (at_lt views me v h) spent (λ _. long) other.0 (old id u other.1 stands))
         (at_set views me id w u has)
 
@@ -105,19 +105,19 @@ module _ {E : Type 0} (maker : E → ℕ) where
         let new : List (View V E) = set views me (gave v) ++ further v ∷ [] in
         let long : length new ≡ length views + 1 = omega (arith, length-append (set views me (gave v)) (further v ∷ []), length-set views me (gave v)) in
         let spent : (k : ℕ) → Spent views k → (k ≢ me) × Spent new k =
-          λ k z. let away = spent_else views me v (gave v) h live k z in let z' = away.1 in (away.0, (z'.0, at_longer (set views me (gave v)) (further v ∷ []) k z'.0 z'.1, z'.2)) in
+        λ k z. let away = spent_else views me v (gave v) h live k z in let z' = away.1 in (away.0, (z'.0, at_longer (set views me (gave v)) (further v ∷ []) k z'.0 z'.1, z'.2)) in
         ⊎_elim
         (λ there. ⊎_elim
-            (λ mine. subst (λ (x : View V E). Stands maker opened new history id x) mine.1 (record {
-              number = s.number ∙ sym mine.0;
-              start = s.start;
-              own = s.own;
-              joined = All-weaker (λ n. Knows maker n.number n.seen n.known history × Spent views n.number) (λ n. Knows maker n.number n.seen n.known history × Spent new n.number)
-                  (λ n k. (k.0, (spent n.number k.1).1)) v.joined s.joined;
-              first = λ _. (omega arith, λ k least. f.1 k (omega arith));
-            }))
-            (λ other. stands_moved views new history history me id u (nothing_own me history) (at_lt views me v h) spent (λ at_zero. absurd (other.0 (at_zero ∙ sym zero_is))) other.0 (old id u other.1 stands))
-            (at_set views me id (gave v) u there))
+        (λ mine. subst (λ (x : View V E). Stands maker opened new history id x) mine.1 (record {
+          number = s.number ∙ sym mine.0;
+          start = s.start;
+          own = s.own;
+          joined = All-weaker (λ n. Knows maker n.number n.seen n.known history × Spent views n.number) (λ n. Knows maker n.number n.seen n.known history × Spent new n.number)
+              (λ n k. (k.0, (spent n.number k.1).1)) v.joined s.joined;
+          first = λ _. (omega arith, λ k least. f.1 k (omega arith));
+        }))
+        (λ other. stands_moved views new history history me id u (nothing_own me history) (at_lt views me v h) spent (λ at_zero. absurd (other.0 (at_zero ∙ sym zero_is))) other.0 (old id u other.1 stands))
+        (at_set views me id (gave v) u there))
         (λ last. let is = last.0 in subst (λ (x : View V E). Stands maker opened new history id x) last.1 (record {
           number = omega (arith, length-set views me (gave v));
           start = s.start;
@@ -138,7 +138,7 @@ module _ {E : Type 0} (maker : E → ℕ) where
         let new : List (View V E) = set between other gone in
         let long : length new ≡ length views = length-set between other gone ∙ length-set views me (together v w) in
         let spent : (i : ℕ) → Spent views i → (i ≢ me) × Spent new i =
-          λ i z. let one = spent_else views me v (together v w) h live i z in (one.0, (spent_else between other w gone k' live' i one.1).1) in
+        λ i z. let one = spent_else views me v (together v w) h live i z in (one.0, (spent_else between other w gone k' live' i one.1).1) in
         let Had : Note E → Type 0 = λ n. Knows maker n.number n.seen n.known history × Spent views n.number in
         let Now : Note E → Type 0 = λ n. Knows maker n.number n.seen n.known history × Spent new n.number in
         let on : (ns : List (Note E)) → All Had ns → All Now ns = λ ns all. All-weaker Had Now (λ n x. (x.0, (spent n.number x.1).1)) ns all in
@@ -147,13 +147,13 @@ module _ {E : Type 0} (maker : E → ℕ) where
         ⊎_elim
         (λ mine. let none = ap (λ (x : View V E). x.passes) mine.1 in absurd (omega arith))
         (λ there_still. ⊎_elim
-            (λ mine. subst (λ (x : View V E). Stands maker opened new history id x) mine.1 (record {
-              number = s.number ∙ sym mine.0;
-              start = s.start;
-              own = s.own;
-              joined = All-append Now (v.joined ++ note w ∷ []) w.joined (All-push Now v.joined (note w) (on v.joined s.joined) (t.own, there)) (on w.joined t.joined);
-              first = λ zero_is. let f = s.first (sym mine.0 ∙ zero_is) in (f.0 ∙ sym long, λ i least. f.1 i (omega arith));
-            }))
-            (λ third. stands_moved views new history history me id u (nothing_own me history) (at_lt views me v h) spent (λ _. long) third.0 (old id u third.1 stands))
-            (at_set views me id (together v w) u there_still.1))
+        (λ mine. subst (λ (x : View V E). Stands maker opened new history id x) mine.1 (record {
+          number = s.number ∙ sym mine.0;
+          start = s.start;
+          own = s.own;
+          joined = All-append Now (v.joined ++ note w ∷ []) w.joined (All-push Now v.joined (note w) (on v.joined s.joined) (t.own, there)) (on w.joined t.joined);
+          first = λ zero_is. let f = s.first (sym mine.0 ∙ zero_is) in (f.0 ∙ sym long, λ i least. f.1 i (omega arith));
+        }))
+        (λ third. stands_moved views new history history me id u (nothing_own me history) (at_lt views me v h) spent (λ _. long) third.0 (old id u third.1 stands))
+        (at_set views me id (together v w) u there_still.1))
         (at_set between other id gone u has)

@@ -60,8 +60,8 @@ module _ {V E B : Type 0} (base : V → B) (log : V → List E) (maker : E → �
     counts_turn slots id added ticket pass m m3 x y given answer idle e number a =
         let alone = idle.alone in
         subst (λ (n : Sat V E). Allows (Kept base log maker passes opened made) slots id n 0 (λ n. (n + added) % 2 ^ 64) (counted base log maker passes (step slots 0 added 0 none) n)) (sym e)
-            (adds base log maker passes opened made slots id added (has m ticket x y) y refl (λ e. cc) (omega arith)
-              (subst (λ (k : ℕ). ThenOwn maker k (log x) (log y)) number a.own) a.added_are a.small)
+        (adds base log maker passes opened made slots id added (has m ticket x y) y refl (λ e. cc) (omega arith)
+        (subst (λ (k : ℕ). ThenOwn maker k (log x) (log y)) number a.own) a.added_are a.small)
 
     pub passes_turn : (slots id added ticket pass : ℕ) (m m2 m4 : Sat V E) (x y : V) (given : G) (answer : O) → IsIdle m → m.0.opened ≡ Some opened
         → Found base log maker passes (with_ticket m ticket) x m2 → Advanced base log maker steps x given pass y answer added
@@ -70,7 +70,7 @@ module _ {V E B : Type 0} (base : V → B) (log : V → List E) (maker : E → �
     passes_turn slots id added ticket pass m m2 m4 x y given answer idle start f a e =
         let alone = idle.alone in
         subst (λ (n : Sat V E). Allows (Kept base log maker passes opened made) slots id n 2 (λ n. (n + 1) % 2 ^ 64) (passed (step slots 2 1 0 none) n)) (sym e)
-            (passes_on base log maker passes opened made slots id (counting base log maker passes (has m ticket x y) y) y refl (λ e. cc) (omega arith) (a.base_is ∙ (f.base_is opened start).0) refl)
+        (passes_on base log maker passes opened made slots id (counting base log maker passes (has m ticket x y) y) y refl (λ e. cc) (omega arith) (a.base_is ∙ (f.base_is opened start).0) refl)
 
     pub took : (added ticket pass : ℕ) (m m2 m4 m5 : Sat V E) (x y : V) (given : G) (answer : O) → m.0.opened ≡ Some opened → pass ≡ m.0.number
         → Found base log maker passes (with_ticket m ticket) x m2 → Advanced base log maker steps x given pass y answer added

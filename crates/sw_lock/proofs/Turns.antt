@@ -41,12 +41,17 @@ module _ {V E B : Type 0} (base : V → B) (log : V → List E) (maker : E → �
   slot_same : (homes : List (maybe.Option (Option V))) (views : List (View V E)) (history : List E) (me : ℕ) (v w : View V E)
       → Slot base log maker passes opened homes views history → Has views me v → w.place ≡ v.place → w.seen ≡ v.seen → (0 < v.passes → 0 < w.passes) → Slot base log maker passes opened homes (set views me w) history
   slot_same homes views history me v w slot h place seen stood = ⊎_elim
-      (λ home. inl (home.0, home.1, home.2, home.3,
-        (λ id u has. ⊎_elim (λ mine. ap (λ (x : View V E). x.place) (sym mine.1) ∙ (place ∙ home.4 me v h)) (λ other. home.4 id u other.1) (at_set views me id w u has))))
+      (λ home. inl (
+        home.0,
+        home.1,
+        home.2,
+        home.3,
+        (λ id u has. ⊎_elim (λ mine. ap (λ (x : View V E). x.place) (sym mine.1) ∙ (place ∙ home.4 me v h)) (λ other. home.4 id u other.1) (at_set views me id w u has)),
+      ))
       (λ out. dite (ℕ_discrete out.0 me)
-        (λ e. let same : out.1 ≡ v = at_one views me out.1 v (subst (λ (i : ℕ). Has views i out.1) e out.3) h in
-          inr (me, w, out.2, set_here views me w (at_lt views me v h), (λ away. out.4 (ap (λ (x : View V E). x.place) same ∙ (sym place ∙ away))), seen ∙ (ap (λ (x : View V E). x.seen) (sym same) ∙ out.5), stood (subst (λ (x : View V E). 0 < x.passes) same out.6)))
-        (λ ne. inr (out.0, out.1, out.2, set_else views me out.0 w ne ∙ out.3, out.4, out.5, out.6)))
+      (λ e. let same : out.1 ≡ v = at_one views me out.1 v (subst (λ (i : ℕ). Has views i out.1) e out.3) h in
+      inr (me, w, out.2, set_here views me w (at_lt views me v h), (λ away. out.4 (ap (λ (x : View V E). x.place) same ∙ (sym place ∙ away))), seen ∙ (ap (λ (x : View V E). x.seen) (sym same) ∙ out.5), stood (subst (λ (x : View V E). 0 < x.passes) same out.6)))
+      (λ ne. inr (out.0, out.1, out.2, set_else views me out.0 w ne ∙ out.3, out.4, out.5, out.6)))
       slot
 
   -- a seat that has a place in the turn has the value
@@ -55,8 +60,8 @@ module _ {V E B : Type 0} (base : V → B) (log : V → List E) (maker : E → �
   slot_out homes views history next served me v slot t h place = ⊎_elim
       (λ home. absurd (place (home.4 me v h)))
       (λ out. let same_place : out.0 ≡ me = t.distinct out.0 me served (out.1, out.3, t.holder out.0 out.1 out.3 out.4) (v, h, t.holder me v h place) in
-        let same : out.1 ≡ v = at_one views me out.1 v (subst (λ (i : ℕ). Has views i out.1) same_place out.3) h in
-        (out.2, ap (λ (x : View V E). x.seen) (sym same) ∙ out.5))
+      let same : out.1 ≡ v = at_one views me out.1 v (subst (λ (i : ℕ). Has views i out.1) same_place out.3) h in
+      (out.2, ap (λ (x : View V E). x.seen) (sym same) ∙ out.5))
       slot
 
   -- where a seat without a place is served, the value is at home
@@ -66,8 +71,8 @@ module _ {V E B : Type 0} (base : V → B) (log : V → List E) (maker : E → �
   slot_home homes views history next served me v slot t h place ticket = ⊎_elim
       (λ home. (home.0, home.1, home.2, home.3))
       (λ out. let same_place : out.0 ≡ me = t.distinct out.0 me served (out.1, out.3, t.holder out.0 out.1 out.3 out.4) (v, h, ticket) in
-        let same : out.1 ≡ v = at_one views me out.1 v (subst (λ (i : ℕ). Has views i out.1) same_place out.3) h in
-        absurd (out.4 (ap (λ (x : View V E). x.place) same ∙ place)))
+      let same : out.1 ≡ v = at_one views me out.1 v (subst (λ (i : ℕ). Has views i out.1) same_place out.3) h in
+      absurd (out.4 (ap (λ (x : View V E). x.place) same ∙ place)))
       slot
 
   slot_longer : (homes : List (maybe.Option (Option V))) (views : List (View V E)) (history : List E) (w : View V E) → Slot base log maker passes opened homes views history → w.place ≡ Away
@@ -81,8 +86,15 @@ module _ {V E B : Type 0} (base : V → B) (log : V → List E) (maker : E → �
       → Slot base log maker passes opened homes (set views me gone) history
   slot_gone homes views history me v slot h away = ⊎_elim
       (λ home. inl (home.0, home.1, home.2, home.3, (λ id u has. ⊎_elim (λ mine. ap (λ (x : View V E). x.place) (sym mine.1)) (λ other. home.4 id u other.1) (at_set views me id gone u has))))
-      (λ out. inr (out.0, out.1, out.2,
-        set_else views me out.0 gone (λ e. out.4 (ap (λ (x : View V E). x.place) (at_one views me out.1 v (subst (λ (i : ℕ). Has views i out.1) e out.3) h) ∙ away)) ∙ out.3, out.4, out.5, out.6))
+      (λ out. inr (
+        out.0,
+        out.1,
+        out.2,
+        set_else views me out.0 gone (λ e. out.4 (ap (λ (x : View V E). x.place) (at_one views me out.1 v (subst (λ (i : ℕ). Has views i out.1) e out.3) h) ∙ away)) ∙ out.3,
+        out.4,
+        out.5,
+        out.6,
+      ))
       slot
 
   abbrev Rule : State (Option V) (View V E) → Type 0
@@ -108,7 +120,7 @@ module _ {V E B : Type 0} (base : V → B) (log : V → List E) (maker : E → �
           tickets = tickets_drawn s.views kept.next kept.served id v w kept.tickets h idle refl away;
           counts = counts_set s.views kept.next made id 1 v w kept.counts h refl refl (omega arith);
           told = kept.told;
-        slot = slot_same s.homes s.views kept.history id v w kept.slot h refl refl (λ stood. stood);
+          slot = slot_same s.homes s.views kept.history id v w kept.slot h refl refl (λ stood. stood);
           views = stands_set maker opened s.views kept.history kept.history id v w kept.views (nothing_own maker id kept.history) h live refl refl refl refl r.own (λ zero_is. (r.first zero_is).1);
         },
         ap (λ (n : ℕ). let x : Sat V E = (record m.0 { ticket = Some n; turns = m.0.turns + 1 }, m.1) in x) (sym found),
@@ -132,7 +144,7 @@ module _ {V E B : Type 0} (base : V → B) (log : V → List E) (maker : E → �
           counts = subst (λ (n : ℕ). Counts (set s.views id w) n made) (omega arith)
               (counts_set s.views kept.next made id 0 v w kept.counts h refl (omega arith) (kept.counts.bound id v h));
           told = kept.told;
-        slot = slot_same s.homes s.views kept.history id v w kept.slot h refl refl (λ stood. stood);
+          slot = slot_same s.homes s.views kept.history id v w kept.slot h refl refl (λ stood. stood);
           views = stands_set maker opened s.views kept.history kept.history id v w kept.views (nothing_own maker id kept.history) h live refl refl refl refl
               (record { others = own.others; least = omega arith; most = omega arith }) (λ zero_is. (r.first zero_is).1);
         },
@@ -148,39 +160,41 @@ module _ {V E B : Type 0} (base : V → B) (log : V → List E) (maker : E → �
       let words : set s.words 2 (get_or s.words 2 0) ≡ length kept.history ∷ kept.next ∷ kept.served ∷ [] = ap (λ (ws : List ℕ). set ws 2 (get_or ws 2 0)) kept.words in
       dite (ℕ_discrete ticket kept.served)
       (λ mine.
-        let served : v.ticket ≡ Some kept.served = drawn ∙ ap (λ (n : ℕ). Some n) mine in
-        let home = slot_home s.homes s.views kept.history kept.next kept.served id v kept.slot kept.tickets h away served in
-        let x : V = home.0 in
-        let w : View V E = holding base log maker passes v x in
-        let few = kept.counts.few in let number_is = r.number in let inside = at_lt s.views id v h in
+      let served : v.ticket ≡ Some kept.served = drawn ∙ ap (λ (n : ℕ). Some n) mine in
+      let home = slot_home s.homes s.views kept.history kept.next kept.served id v kept.slot kept.tickets h away served in
+      let x : V = home.0 in
+      let w : View V E = holding base log maker passes v x in
+      let few = kept.counts.few in let number_is = r.number in let inside = at_lt s.views id v h in (
+        w,
+        takes 0 (Some x),
+        ap (λ (hs : List (maybe.Option (Option V))). get_elem? hs 0) home.1,
+        record {
+          next = kept.next;
+          served = kept.served;
+          history = kept.history;
+          words = words;
+          tickets = tickets_same s.views kept.next kept.served id v w kept.tickets h refl (λ _. served);
+          counts = subst (λ (n : ℕ). Counts (set s.views id w) n made) (omega arith)
+              (counts_set s.views kept.next made id 0 v w kept.counts h refl (omega arith) (kept.counts.bound id v h));
+          told = kept.told;
+          slot = inr (id, w, ap (λ (hs : List (maybe.Option (Option V))). set hs 0 none) home.1, set_here s.views id w inside, (λ e. cc), home.3, live);
+          views = stands_set maker opened s.views kept.history kept.history id v w kept.views (nothing_own maker id kept.history) h live refl refl refl refl
+              (subst (λ (seen : List E). Knows maker v.number seen (length seen) kept.history) (sym home.3) (record { others = nothing_others maker v.number kept.history; least = omega arith; most = omega arith }))
+              (λ zero_is k least. subst (λ (seen : List E). ThenOthers maker k seen kept.history) (sym home.3) (nothing_others maker k kept.history));
+        },
         (
-          w,
-          takes 0 (Some x),
-          ap (λ (hs : List (maybe.Option (Option V))). get_elem? hs 0) home.1,
-          record {
-            next = kept.next;
-            served = kept.served;
-            history = kept.history;
-            words = words;
-            tickets = tickets_same s.views kept.next kept.served id v w kept.tickets h refl (λ _. served);
-            counts = subst (λ (n : ℕ). Counts (set s.views id w) n made) (omega arith)
-                (counts_set s.views kept.next made id 0 v w kept.counts h refl (omega arith) (kept.counts.bound id v h));
-            told = kept.told;
-            slot = inr (id, w, ap (λ (hs : List (maybe.Option (Option V))). set hs 0 none) home.1, set_here s.views id w inside, (λ e. cc), home.3, live);
-            views = stands_set maker opened s.views kept.history kept.history id v w kept.views (nothing_own maker id kept.history) h live refl refl refl refl
-                (subst (λ (seen : List E). Knows maker v.number seen (length seen) kept.history) (sym home.3) (record { others = nothing_others maker v.number kept.history; least = omega arith; most = omega arith }))
-                (λ zero_is k least. subst (λ (seen : List E). ThenOthers maker k seen kept.history) (sym home.3) (nothing_others maker k kept.history));
-          },
-          (
-            (λ _. (x, record {
+          (λ _. (
+            x,
+            record {
               seat = refl;
               knows = subst (λ (seen : List E). Knows maker v.number v.seen v.known seen) (sym home.3) own;
               base_is = λ o is. let same : Some o ≡ Some opened = sym is ∙ r.start in let one : o ≡ opened = cc in
                   (home.2 ∙ ap base (sym one), subst (λ (z : V). v.number < passes (base z)) (sym one) (omega arith));
-            })),
-            (λ not. absurd (not (served ∙ ap (λ (n : ℕ). Some n) (sym found)))),
-          ),
-        ))
+            },
+          )),
+          (λ not. absurd (not (served ∙ ap (λ (n : ℕ). Some n) (sym found)))),
+        ),
+      ))
       (λ not_mine. (
         v,
         keeps,
@@ -194,7 +208,7 @@ module _ {V E B : Type 0} (base : V → B) (log : V → List E) (maker : E → �
           counts = subst (λ (n : ℕ). Counts (set s.views id v) n made) (omega arith)
               (counts_set s.views kept.next made id 0 v v kept.counts h refl (omega arith) (kept.counts.bound id v h));
           told = kept.told;
-        slot = slot_same s.homes s.views kept.history id v v kept.slot h refl refl (λ stood. stood);
+          slot = slot_same s.homes s.views kept.history id v v kept.slot h refl refl (λ stood. stood);
           views = stands_set maker opened s.views kept.history kept.history id v v kept.views (nothing_own maker id kept.history) h live refl refl refl refl own (λ zero_is. (r.first zero_is).1);
         },
         ((λ e. let is : Some ticket ≡ Some kept.served = sym drawn ∙ (e ∙ ap (λ (n : ℕ). Some n) found) in let one : ticket ≡ kept.served = cc in absurd (not_mine one)), (λ _. refl)),
@@ -260,7 +274,7 @@ module _ {V E B : Type 0} (base : V → B) (log : V → List E) (maker : E → �
             same_base,
             same_log ∙ out.1,
             (λ i u has. ⊎_elim (λ mine. ap (λ (z : View V E). z.place) (sym mine.1))
-              (λ other. ⊎_elim (λ away. away) (λ there. absurd (other.0 (t.distinct i id kept.served (u, other.1, t.holder i u other.1 there) (v, h, served)))) (away_or u.place)) (at_set s.views id i w u has)),
+                (λ other. ⊎_elim (λ away. away) (λ there. absurd (other.0 (t.distinct i id kept.served (u, other.1, t.holder i u other.1 there) (v, h, served)))) (away_or u.place)) (at_set s.views id i w u has)),
           );
           views = stands_set maker opened s.views kept.history kept.history id v w kept.views (nothing_own maker id kept.history) h live refl refl refl refl r.own (λ zero_is. (r.first zero_is).1);
         },
@@ -350,9 +364,9 @@ module _ {V E B : Type 0} (base : V → B) (log : V → List E) (maker : E → �
         home.2,
         subst (λ (es : List E). Knows maker v.number v.seen v.known es) (sym home.3) r.own,
         subst (λ (es : List E). All (λ n. Knows maker n.number n.seen n.known es) v.joined) (sym home.3)
-          (All-weaker (λ n. Knows maker n.number n.seen n.known kept.history × Spent s.views n.number) (λ n. Knows maker n.number n.seen n.known kept.history) (λ n x. x.0) v.joined r.joined),
+            (All-weaker (λ n. Knows maker n.number n.seen n.known kept.history × Spent s.views n.number) (λ n. Knows maker n.number n.seen n.known kept.history) (λ n x. x.0) v.joined r.joined),
       ))
       (λ out. dite (ℕ_discrete out.0 id)
-        (λ e. let same : out.1 ≡ v = at_one s.views id out.1 v (subst (λ (i : ℕ). Has s.views i out.1) e out.3) h in absurd (out.4 (ap (λ (x : View V E). x.place) same ∙ away)))
-        (λ ne. let two = total_two (λ (u : View V E). u.passes) s.views id out.0 v out.1 gone refl h out.3 ne in let stand = kept.counts.stand in let few = kept.counts.few in let out_live = out.6 in absurd (omega arith)))
+      (λ e. let same : out.1 ≡ v = at_one s.views id out.1 v (subst (λ (i : ℕ). Has s.views i out.1) e out.3) h in absurd (out.4 (ap (λ (x : View V E). x.place) same ∙ away)))
+      (λ ne. let two = total_two (λ (u : View V E). u.passes) s.views id out.0 v out.1 gone refl h out.3 ne in let stand = kept.counts.stand in let few = kept.counts.few in let out_live = out.6 in absurd (omega arith)))
       kept.slot

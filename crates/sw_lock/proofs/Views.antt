@@ -72,9 +72,9 @@ module _ {V E : Type 0} where
       → Tickets (set views me w) next served
   tickets_same views next served me v w t h same own =
       let back : (id k : ℕ) → Draws (set views me w) id k → Draws views id k =
-        λ id k d. ⊎_elim (λ mine. (v, subst (λ (i : ℕ). Has views i v) (sym mine.0) h, sym same ∙ mine.1)) (λ other. other.1) (draws_set views me w id k d) in
+      λ id k d. ⊎_elim (λ mine. (v, subst (λ (i : ℕ). Has views i v) (sym mine.0) h, sym same ∙ mine.1)) (λ other. other.1) (draws_set views me w id k d) in
       let on : (id k : ℕ) → Draws views id k → Draws (set views me w) id k =
-        λ id k d. dite (ℕ_discrete id me) (λ e. subst (λ (i : ℕ). Draws (set views me w) i k) (sym e) (draws_here views me v w k h (same ∙ draws_is views me v id k h d e))) (λ ne. draws_else views me w id k ne d) in
+      λ id k d. dite (ℕ_discrete id me) (λ e. subst (λ (i : ℕ). Draws (set views me w) i k) (sym e) (draws_here views me v w k h (same ∙ draws_is views me v id k h d e))) (λ ne. draws_else views me w id k ne d) in
       record {
         ordered = t.ordered;
         within = λ id k d. t.within id k (back id k d);
@@ -124,7 +124,7 @@ module _ {V E : Type 0} where
   pub tickets_snoc : (views : List (View V E)) (next served : ℕ) (w : View V E) → Tickets views next served → w.ticket ≡ None → w.place ≡ Away → Tickets (views ++ w ∷ []) next served
   tickets_snoc views next served w t no_ticket away =
       let back : (id k : ℕ) → Draws (views ++ w ∷ []) id k → Draws views id k =
-        λ id k d. ⊎_elim (λ old. (d.0, old, d.2)) (λ new. let s : None ≡ Some k = sym no_ticket ∙ (ap (λ (u : View V E). u.ticket) new ∙ d.2) in cc) (at_snoc views w d.0 id d.1) in
+      λ id k d. ⊎_elim (λ old. (d.0, old, d.2)) (λ new. let s : None ≡ Some k = sym no_ticket ∙ (ap (λ (u : View V E). u.ticket) new ∙ d.2) in cc) (at_snoc views w d.0 id d.1) in
       record {
         ordered = t.ordered;
         within = λ id k d. t.within id k (back id k d);

@@ -9,6 +9,7 @@ use atomic_table::Table;
 use std::alloc::Global;
 
 /// A value and the turns of its passes.
+#[derive(Drop)]
 pub struct Shared<T: Logged> {
     pub(crate) table: Table<Option<T>, View<T, T::Entry>, Start<T>, Turns<T>, Global>,
     pub(crate) made: u32,
@@ -18,6 +19,7 @@ pub struct Shared<T: Logged> {
 }
 
 /// Fewer passes were given than were made. All comes back.
+#[derive(Drop)]
 pub struct Missing<T: Logged> {
     pub shared: Shared<T>,
     pub passes: Vec<Pass<T>>,

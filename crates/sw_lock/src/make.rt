@@ -1,5 +1,5 @@
 //! Making a lock with its passes.
-ghost use Rattle.std.specs.Prelude.{◌≡◌, ◌≤◌, ◌<◌, ◌+◌, ℕ, [], ◌∷◌, ◌++◌, length, All, map, vec_len, vec_capacity,  Some, IfOk, IfErr};
+ghost use Rattle.std.specs.Prelude.{◌≡◌, ◌≤◌, ◌<◌, ◌+◌, ℕ, [], ◌∷◌, ◌++◌, length, All, map, vec_len, vec_capacity, Some, IfOk, IfErr};
 ghost use Rattle.std.specs.List.{range_with_len};
 ghost use Rattle.sw_lock.specs.Steps.{IsFirst};
 ghost use Rattle.sw_lock.specs.Passes.{number, seen, known, turns, opened_of, made_of, IsPassOf, IsNew};
@@ -72,11 +72,7 @@ impl<T: Logged> Shared<T> {
     }
 
     // All passes, in the order of their numbers, in a list that has room for them.
-    fn deal(
-        &self,
-        seat: Seat<Option<T>, View<T, T::Entry>>,
-        mut all: Vec<Pass<T>>,
-    ) -> Vec<Pass<T>>
+    fn deal(&self, seat: Seat<Option<T>, View<T, T::Entry>>, mut all: Vec<Pass<T>>) -> Vec<Pass<T>>
         requires table { seat.table_id ≡ self.now.table.shared.table_id }
         requires first { IsFirst T.log (opened_of self.now) 1 seat.me }
         requires some { 0 < made_of self.now }

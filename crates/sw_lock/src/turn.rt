@@ -17,7 +17,9 @@ use std::thread::yield_now;
 
 // The words of the table.
 const ENTRIES: usize = 0;
+
 const NEXT: usize = 1;
+
 const SERVED: usize = 2;
 
 // A pass makes no more turns than these.
@@ -25,6 +27,7 @@ const MOST_TURNS: u64 = 1 << 40;
 
 // Looks at the served word before a waiting thread begins to yield, and before it parks.
 const SPINS: u32 = 64;
+
 const YIELDS: u32 = 80;
 
 // A park compares these bits of a word.
@@ -64,12 +67,7 @@ impl<T: Logged> Shared<T> {
     }
 
     // Waits until the ticket is served. The seat has the value then.
-    fn wait_for<R: Wait>(
-        &self,
-        rt: &R,
-        seat: &mut Seat<Option<T>, View<T, T::Entry>>,
-        ticket: u64,
-    )
+    fn wait_for<R: Wait>(&self, rt: &R, seat: &mut Seat<Option<T>, View<T, T::Entry>>, ticket: u64)
         requires table { seat.old.table_id ≡ self.now.table.shared.table_id }
         requires drawn { seat.old.me.0.ticket ≡ Some ticket }
         requires place { seat.old.me.0.place ≡ Away }
@@ -114,7 +112,9 @@ impl<T: Logged> Shared<T> {
         let ticket = self.draw(seat);
         self.wait_for(rt, seat, ticket);
         let (answer, added) = advance(seat.slot_mut(&self.table.shared, 0), given, pass);
-        self.table.shared.fetch_add::<Count<T>>(seat, ENTRIES, added);
+        self.table
+            .shared
+            .fetch_add::<Count<T>>(seat, ENTRIES, added);
         let served = self.table.shared.fetch_add::<PassOn>(seat, SERVED, 1);
         self.wake(served);
         answer

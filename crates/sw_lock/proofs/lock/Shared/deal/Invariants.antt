@@ -11,5 +11,5 @@ invariant-loop-next g l = record {
   new : All (IsNew l.self) l.all.items;
   count : length l.all.items + 1 ≡ l.next;
   numbers : map number l.all.items ≡ range_with_len 1 (length l.all.items);
-  room : vec_capacity l.initial.all ≤ vec_capacity l.all
+  room : vec_capacity l.initial.all ≤ vec_capacity l.all;
 }

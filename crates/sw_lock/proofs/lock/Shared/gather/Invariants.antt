@@ -11,5 +11,5 @@ invariant-loop-pass g l = record {
   left : into_iter_len l.pass-iterator ≡ length (into_iter_items l.pass-iterator);
   same : All (λ p. p.seat.table_id ≡ l.self.table.shared.table_id) (into_iter_items l.pass-iterator);
   table : l.seat.table_id ≡ l.self.table.shared.table_id;
-  gathered : IsGathered l.fn.first l.yielded l.seat
+  gathered : IsGathered l.fn.first l.yielded l.seat;
 }

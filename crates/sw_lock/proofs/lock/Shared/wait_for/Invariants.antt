@@ -6,5 +6,5 @@ invariant-wait g l = record {
   can : (goal.iterator-wait g).can_next l.iterator';
   ends : (goal.iterator-wait g).is_finite l.iterator';
   table : l.seat.table_id ≡ l.initial.seat.table_id;
-  seat : l.seat.me ≡ l.initial.seat.me
+  seat : l.seat.me ≡ l.initial.seat.me;
 }
