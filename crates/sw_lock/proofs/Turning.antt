@@ -1,14 +1,13 @@
 -- One turn, step after step: what the seat is at each, and that it may make the next.
-use Rattle.std.proofs.Common.{◌≡◌, ◌≢◌, ℕ, ◌+◌, ◌%◌, ◌^◌, ◌<◌, ◌≤◌, List, [], ◌∷◌, length, Option, Some, None, All, sym, refl, ap, ◌∙◌, subst, arith}
+use Rattle.std.proofs.Common.{◌≡◌, ℕ, ◌+◌, ◌%◌, ◌^◌, ◌<◌, ◌≤◌, List, [], ◌∷◌, Option, Some, All, sym, refl, ap, ◌∙◌, subst, arith}
 use mathlib.Core.Option.{none, some, some-injective}
 use lib.ListN.{get_elem?}
-use Rattle.atomic_table.specs.Table.{State, step, Allows, Splits, Final, Seen, rest}
+use Rattle.atomic_table.specs.Table.{step, Allows, Splits, Final, Seen, rest}
 use Rattle.sw_lock.specs.declared.view.View.{View}
-use Rattle.sw_lock.specs.declared.view.Note.{Note}
-use Rattle.sw_lock.specs.declared.view.Place.TheVariants.{Away, Out, Counted}
-use Rattle.sw_lock.specs.Entries.{ThenOwn, ThenOthers}
+use Rattle.sw_lock.specs.declared.view.Place.TheVariants.{Away}
+use Rattle.sw_lock.specs.Entries.{ThenOwn}
 use Rattle.sw_lock.specs.Turns.{Kept, Knows}
-use Rattle.sw_lock.specs.Steps.{Sat, At, IsIdle, IsFirst, gave, further, Found, Advanced, Took, holding, counting, with_ticket, without, counted, passed}
+use Rattle.sw_lock.specs.Steps.{Sat, IsIdle, IsFirst, gave, further, Found, Advanced, Took, holding, counting, with_ticket, without, counted, passed}
 use Rattle.sw_lock.proofs.Turns.{adds, passes_on, splits, closes}
 use Rattle.sw_lock.proofs.Stands.{longer}
 

@@ -1,22 +1,21 @@
 -- Each step of the lock keeps its rule.
-use Rattle.std.proofs.Common.{◌≡◌, ◌≢◌, ◌⊎◌, ℕ, zero, suc, ◌+◌, ◌-◌, ◌*◌, ◌%◌, ◌^◌, ◌<◌, ◌≤◌, List, [], ◌∷◌, ◌++◌, length, set, get_or, map, Option, Some, None, All, sym, refl, ap, ◌∙◌, subst, inl, inr, ⊎_elim, arith, append_assoc, length-append, length-set}
+use Rattle.std.proofs.Common.{◌≡◌, ◌≢◌, ◌⊎◌, ℕ, zero, suc, ◌+◌, ◌*◌, ◌%◌, ◌^◌, ◌<◌, ◌≤◌, List, [], ◌∷◌, ◌++◌, length, set, get_or, map, Option, Some, None, All, sym, refl, ap, ◌∙◌, subst, inl, inr, ⊎_elim, arith, length-set}
 use Rattle.std.proofs.lemmas.List.Elements.{All-nil, All-weaker}
 use mathlib.Core.Logic.{dite}
 use mathlib.Core.Option.{some, none, some-injective, some-ne-none}
 use mathlib.Core.Option as maybe
 use native.Mathlib.Decide.{ℕ_discrete}
 use lib.ListN.{get_elem?}
-use Rattle.atomic_table.specs.Table.{State, Me, Step, step, keeps, takes, gives, Allows, Splits, Joins, Final, Seen, opening, stepped, homes_after}
+use Rattle.atomic_table.specs.Table.{State, step, keeps, takes, gives, Allows, Splits, Joins, Final, Seen, opening, homes_after}
 use Rattle.atomic_table.proofs.Lists.{at_set, set_here, set_else, at_longer, at_snoc}
 use Rattle.sw_lock.specs.declared.view.View.{View}
-use Rattle.sw_lock.specs.declared.view.Note.{Note}
 use Rattle.sw_lock.specs.declared.view.Place.{Place}
 use Rattle.sw_lock.specs.declared.view.Place.TheVariants.{Away, Out, Counted}
 use Rattle.sw_lock.specs.Entries.{ThenOwn, ThenOthers}
-use Rattle.sw_lock.specs.Turns.{Has, Draws, Spent, total, Tickets, Counts, Knows, Stands, Slot, Kept}
-use Rattle.sw_lock.specs.Steps.{Sat, At, newcomer, gave, further, together, note, gone, drew, passed, looked, holding, Found, saw, counted}
-use Rattle.sw_lock.proofs.Views.{at_lt, at_one, total_least, total_two, tickets_same, tickets_drawn, tickets_passed, tickets_snoc, tickets_joined, counts_set, counts_snoc, counts_joined, next_small}
-use Rattle.sw_lock.proofs.Stands.{at_snoc_place, nothing_own, nothing_others, longer, stands_set, stands_split, stands_joined}
+use Rattle.sw_lock.specs.Turns.{Has, Spent, Tickets, Counts, Knows, Stands, Slot, Kept}
+use Rattle.sw_lock.specs.Steps.{Sat, newcomer, gave, further, together, gone, drew, passed, looked, holding, saw, counted}
+use Rattle.sw_lock.proofs.Views.{at_lt, at_one, total_two, tickets_same, tickets_drawn, tickets_passed, tickets_snoc, tickets_joined, counts_set, counts_snoc, counts_joined, next_small}
+use Rattle.sw_lock.proofs.Stands.{nothing_own, nothing_others, stands_set, stands_split, stands_joined}
 
 at_single : {A : Type 0} (a b : A) (j : ℕ) → get_elem? (a ∷ []) j ≡ some b → (j ≡ 0) × (a ≡ b)
 at_single a b zero e = (refl, some-injective a b e)

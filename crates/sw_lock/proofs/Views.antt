@@ -1,18 +1,14 @@
 -- What the rule says of the views, where one of them changes, a new one comes, or two become one.
-use Rattle.std.proofs.Common.{◌≡◌, ◌≢◌, ◌⊎◌, ℕ, zero, suc, ◌+◌, ◌-◌, ◌*◌, ◌^◌, ◌<◌, ◌≤◌, List, [], ◌∷◌, ◌++◌, length, set, Option, Some, None, All, sym, refl, ap, ◌∙◌, subst, inl, inr, ⊎_elim, arith, append_assoc, length-append, length-set}
-use Rattle.std.proofs.lemmas.List.{append-nil}
-use Rattle.std.proofs.lemmas.List.Elements.{All-nil, All-append, All-push, All-weaker}
+use Rattle.std.proofs.Common.{◌≡◌, ◌≢◌, ◌⊎◌, ℕ, zero, suc, ◌+◌, ◌*◌, ◌^◌, ◌<◌, ◌≤◌, List, [], ◌∷◌, ◌++◌, length, set, Some, None, sym, refl, ap, ◌∙◌, subst, inl, inr, ⊎_elim, arith, length-append, length-set}
 use mathlib.Core.Logic.{dite}
 use mathlib.Core.Option.{some, some-injective, some-ne-none}
 use native.Mathlib.Decide.{ℕ_discrete}
 use lib.ListN.{get_elem?}
-use Rattle.atomic_table.proofs.Lists.{at_set, set_here, set_else, at_longer, at_snoc, at_last}
+use Rattle.atomic_table.proofs.Lists.{at_set, set_here, set_else, at_longer, at_snoc}
 use Rattle.sw_lock.specs.declared.view.View.{View}
-use Rattle.sw_lock.specs.declared.view.Note.{Note}
 use Rattle.sw_lock.specs.declared.view.Place.TheVariants.{Away}
-use Rattle.sw_lock.specs.Entries.{ThenOwn, ThenOthers}
-use Rattle.sw_lock.specs.Turns.{Has, Draws, Spent, total, Tickets, Counts, Knows, Stands}
-use Rattle.sw_lock.specs.Steps.{gave, further, together, note, gone}
+use Rattle.sw_lock.specs.Turns.{Has, Draws, total, Tickets, Counts}
+use Rattle.sw_lock.specs.Steps.{together, gone}
 
 module _ {A : Type 0} where
   pub at_lt : (l : List A) (i : ℕ) (a : A) → get_elem? l i ≡ some a → i < length l

@@ -1,5 +1,5 @@
 -- What clauses see of the lock, of its passes, and of one turn.
-use Rattle.std.specs.Prelude.{◌≡◌, ◌≤◌, ◌<◌, ◌+◌, ◌^◌, ℕ, List, [], map, length, Option, Some, None}
+use Rattle.std.specs.Prelude.{◌≡◌, ◌+◌, ℕ, List, [], map, length, Option, Some, None}
 use Rattle.sw_lock.specs.declared.logged.Logged.{Ghosts}
 use Rattle.sw_lock.specs.declared.pass.Pass.{Pass}
 use Rattle.sw_lock.specs.declared.lock.Shared.{Shared}

@@ -1,12 +1,11 @@
 -- The rule of the lock: three words, one slot and the views of all passes, between any two steps.
-use Rattle.std.specs.Prelude.{◌≡◌, ◌≢◌, ◌⊎◌, ℕ, ◌+◌, ◌*◌, ◌^◌, ◌<◌, ◌≤◌, List, [], ◌∷◌, length, All, Option, Some, None}
+use Rattle.std.specs.Prelude.{◌≡◌, ◌≢◌, ◌⊎◌, ℕ, ◌+◌, ◌*◌, ◌^◌, ◌<◌, ◌≤◌, List, [], ◌∷◌, length, All, Option, Some}
 use mathlib.Core.Option.{some, none}
 use mathlib.Core.Option as maybe
 use lib.ListN.{get_elem?}
 use Rattle.atomic_table.specs.Table.{State}
 use Rattle.sw_lock.specs.declared.view.View.{View}
-use Rattle.sw_lock.specs.declared.view.Note.{Note}
-use Rattle.sw_lock.specs.declared.view.Place.TheVariants.{Away, Out, Counted}
+use Rattle.sw_lock.specs.declared.view.Place.TheVariants.{Away}
 use Rattle.sw_lock.specs.Entries.{ThenOthers}
 
 module _ {V E : Type 0} where

@@ -1,4 +1,4 @@
-use Rattle.std.proofs.Common.{◌≡◌, ◌≤◌, length, All}
+use Rattle.std.proofs.Common.{◌≤◌, length}
 use Rattle.std.proofs.lemmas.List.Elements.{All-weaker}
 use Rattle.sw_lock.specs.declared.pass.Pass.{Pass}
 use Rattle.sw_lock.specs.declared.view.Note.{Note}

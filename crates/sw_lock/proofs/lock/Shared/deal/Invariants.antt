@@ -1,4 +1,4 @@
-use Rattle.std.proofs.Common.{◌≡◌, ◌≤◌, ◌+◌, length, All, map, vec_len, vec_capacity}
+use Rattle.std.proofs.Common.{◌≡◌, ◌≤◌, ◌+◌, length, All, map, vec_capacity}
 use Rattle.std.specs.List.{range_with_len}
 use Rattle.sw_lock.specs.Steps.{IsFirst}
 use Rattle.sw_lock.specs.Passes.{number, opened_of, IsNew}

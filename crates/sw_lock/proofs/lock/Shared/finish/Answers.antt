@@ -1,4 +1,3 @@
-use Rattle.std.proofs.Common.{◌≡◌, ◌≤◌, Some, None, sym, ◌∙◌, arith}
 use Rattle.sw_lock.proofs.Turning.{closed_slot, closed_value}
 use Rattle.sw_lock.proofs.lock.Shared.finish.Goals as goal
 

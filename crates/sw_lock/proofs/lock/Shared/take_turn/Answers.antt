@@ -1,6 +1,6 @@
-use Rattle.std.proofs.Common.{◌≡◌, ℕ, ◌<◌, List, Option, Some, sym, refl, ap, ◌∙◌, subst, arith}
+use Rattle.std.proofs.Common.{◌<◌, Some, sym, ap, ◌∙◌, subst, arith}
 use Rattle.sw_lock.specs.Steps.{Sat}
-use Rattle.sw_lock.proofs.Turning.{has, slot_there, slot_is, drew_found, found_seat, worked_seat, counted_seat, counts_turn, passes_turn, took}
+use Rattle.sw_lock.proofs.Turning.{slot_there, slot_is, drew_found, found_seat, worked_seat, counted_seat, counts_turn, passes_turn, took}
 use Rattle.sw_lock.proofs.lock.Shared.take_turn.Goals as goal
 
 pub slot_mut-requires : goal.slot_mut-requires

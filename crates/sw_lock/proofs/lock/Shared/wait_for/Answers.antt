@@ -1,4 +1,4 @@
-use Rattle.std.proofs.Common.{arith, ap, ◌∙◌, ◌≡◌, ℕ}
+use Rattle.std.proofs.Common.{arith, ap, ◌∙◌}
 use Rattle.sw_lock.specs.Steps.{Sat}
 use Rattle.sw_lock.proofs.Turns.{sees}
 use Rattle.sw_lock.proofs.lock.Shared.wait_for.Goals as goal
