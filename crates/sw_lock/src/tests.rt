@@ -15,12 +15,13 @@ struct Mark {
 }
 
 #[derive(Drop)]
-struct Marks {
+struct Marks<D> {
     list: Vec<Mark>,
     passes: u32,
+    held: D,
 }
 
-impl Logged for Marks {
+impl<D> Logged for Marks<D> {
     type Entry = Mark;
 
     type Given = u64;
@@ -52,7 +53,7 @@ impl Logged for Marks {
     }
 }
 
-fn make_turns<R: Wait>(rt: &R, lock: &Shared<Marks>, pass: &mut Pass<Marks>, turns: u64)
+fn make_turns<D, R: Wait>(rt: &R, lock: &Shared<Marks<D>>, pass: &mut Pass<Marks<D>>, turns: u64)
     requires { IsPassOf lock.now pass.old }
     ensures { IsPassOf lock.now pass.new }
 {
@@ -61,10 +62,10 @@ fn make_turns<R: Wait>(rt: &R, lock: &Shared<Marks>, pass: &mut Pass<Marks>, tur
     }
 }
 
-fn all_turns<R: Threads + Wait + Sync>(
+fn all_turns<D: Send, R: Threads + Wait + Sync>(
     rt: &R,
-    lock: &Shared<Marks>,
-    passes: &mut [Pass<Marks>],
+    lock: &Shared<Marks<D>>,
+    passes: &mut [Pass<Marks<D>>],
     turns: u64,
 )
     requires { All (IsPassOf lock.now) passes.old }
@@ -80,6 +81,7 @@ fn each_pass_has_its_turns_in_its_order(rt: HostRuntime) -> Result<(), Fail> {
         let marks = Marks {
             list: Vec::with_capacity(rt.alloc(), passes as usize * turns as usize)?,
             passes,
+            held: (),
         };
         let Ok((lock, mut all)) = Shared::new(rt.alloc(), marks, passes) else {
             panic!(rt; "no memory")
@@ -101,8 +103,8 @@ fn each_pass_has_its_turns_in_its_order(rt: HostRuntime) -> Result<(), Fail> {
 // What a pass is told before and after an entry, and after a turn that makes none.
 fn looks<R: Wait>(
     rt: &R,
-    lock: &Shared<Marks>,
-    pass: &mut Pass<Marks>,
+    lock: &Shared<Marks<()>>,
+    pass: &mut Pass<Marks<()>>,
 ) -> (u64, bool, u64, bool, u64)
     requires { IsPassOf lock.now pass.old }
     ensures { IsPassOf lock.now pass.new }
@@ -119,6 +121,7 @@ fn a_look_after_an_entry_tells_of_it(rt: HostRuntime) -> Result<(), Fail> {
     let marks = Marks {
         list: Vec::with_capacity(rt.alloc(), 1)?,
         passes: 1,
+        held: (),
     };
     let Ok((lock, mut all)) = Shared::new(rt.alloc(), marks, 1) else {
         panic!(rt; "no memory")
@@ -135,6 +138,7 @@ fn a_lock_closes_with_all_its_passes_only(rt: HostRuntime) -> Result<(), Fail> {
     let marks = Marks {
         list: Vec::new(rt.alloc()),
         passes: 2,
+        held: (),
     };
     let Ok((lock, mut all)) = Shared::new(rt.alloc(), marks, 2) else {
         panic!(rt; "no memory")
