@@ -1,0 +1,47 @@
+-- One seat takes in the passes one after another.
+use Rattle.std.proofs.Common.{◌≡◌, List, [], ◌∷◌, ◌++◌, length, Option, All, sym, refl, ap, ◌∙◌, subst, arith, length-append}
+use Rattle.std.proofs.lemmas.List.{append-nil, get_or-map, length-map}
+use Rattle.std.proofs.lemmas.List.Elements.{All-push, All-same}
+use mathlib.Core.List.{map-append}
+use Rattle.atomic_table.specs.declared.shared.Seat.{Seat}
+use Rattle.sw_lock.specs.declared.logged.Logged.{Ghosts}
+use Rattle.sw_lock.specs.declared.pass.Pass.{Pass}
+use Rattle.sw_lock.specs.declared.view.View.{View}
+use Rattle.sw_lock.specs.declared.view.Note.{Note}
+use Rattle.sw_lock.specs.Steps.{Sat, IsIdle, note, together}
+use Rattle.sw_lock.specs.Passes.{IsGathered}
+
+pub nothing_left : {X : Type 0} (l : List X) → length l ≡ 0 → l ≡ []
+nothing_left [] h = refl
+nothing_left (x ∷ xs) h = absurd (omega arith)
+
+module _ {T E G O : Type 0} {g : Ghosts T E G O} where
+  pub gathered_more : (first : Pass T E G O g) (others : List (Pass T E G O g)) (pass : Pass T E G O g) (seat new : Seat (Option T) (View T E))
+      → IsGathered first others seat → IsIdle pass.seat.me
+      → (let m : Sat T E = (together seat.me.0 pass.seat.me.0, seat.me.1) in new.me ≡ m)
+      → IsGathered first (others ++ pass ∷ []) new
+  gathered_more first others pass seat new so_far idle e =
+      let alone = idle.alone in let many = so_far.stands in
+      record {
+        empty = ap (λ (m : Sat T E). m.1) e ∙ so_far.empty;
+        ticket = ap (λ (m : Sat T E). m.0.ticket) e ∙ so_far.ticket;
+        place = ap (λ (m : Sat T E). m.0.place) e ∙ so_far.place;
+        stands = let is = ap (λ (m : Sat T E). m.0.passes) e in omega (arith, length-append others (pass ∷ []));
+        own = ap (λ (m : Sat T E). note m.0) e ∙ so_far.own;
+        joined =
+            ap (λ (m : Sat T E). m.0.joined) e
+            ∙ (ap (λ (l : List (Note E)). (seat.me.0.joined ++ note pass.seat.me.0 ∷ []) ++ l) idle.joined
+            ∙ (append-nil (seat.me.0.joined ++ note pass.seat.me.0 ∷ [])
+            ∙ (ap (λ (l : List (Note E)). l ++ note pass.seat.me.0 ∷ []) so_far.joined
+            ∙ sym (map-append (λ (p : Pass T E G O g). note p.seat.me.0) others (pass ∷ [])))));
+      }
+
+  -- what is known of each pass, once one seat stands for them all
+  pub gathered_all : (P : Note E → Type 0) (first : Pass T E G O g) (others all : List (Pass T E G O g)) (seat : Seat (Option T) (View T E))
+      → IsGathered first others seat → all ≡ others ++ first ∷ [] → P (note seat.me.0) → All P seat.me.0.joined
+      → All (λ p. P (note p.seat.me.0)) all
+  gathered_all P first others all seat so_far parts own joined =
+      let Q : Pass T E G O g → Type 0 = λ p. P (note p.seat.me.0) in
+      All-same Q all (others ++ first ∷ []) parts (All-push Q others first
+      (λ k d below. subst P (get_or-map (λ (p : Pass T E G O g). note p.seat.me.0) others k d (note d.seat.me.0) below) (subst (λ (ns : List (Note E)). All P ns) so_far.joined joined k (note d.seat.me.0) (omega (arith, length-map others (λ (p : Pass T E G O g). note p.seat.me.0)))))
+      (subst P so_far.own own))

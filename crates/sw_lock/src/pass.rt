@@ -1,0 +1,41 @@
+//! A pass, through which one thread makes its turns.
+ghost use Rattle.std.specs.Prelude.{◌≡◌, ◌≤◌, ◌^◌};
+ghost use Rattle.sw_lock.specs.Steps.{IsIdle};
+
+use crate::logged::Logged;
+use crate::view::View;
+use atomic_table::Seat;
+
+/// The right to make turns, for one thread at a time. It knows what of the history it has seen.
+pub struct Pass<T: Logged> {
+    pub(crate) seat: Seat<Option<T>, View<T, T::Entry>>,
+    pub(crate) number: u32,
+    pub(crate) turns: u64,
+    ghost idle: { IsIdle seat.me },
+    ghost numbered: { number ≡ seat.me.0.number },
+    ghost counted: { turns ≡ seat.me.0.turns },
+    ghost bounded: { turns ≤ 2 ^ 40 },
+}
+
+impl<T: Logged> Pass<T> {
+    pub(crate) fn into_seat(self) -> Seat<Option<T>, View<T, T::Entry>>
+        ensures { result ≡ self.seat }
+    {
+        let Self {
+            seat,
+            number: _,
+            turns: _,
+        } = self;
+        seat
+    }
+}
+
+impl<T: Logged> Drop for Pass<T> {
+    fn drop(self) {
+        let Self {
+            seat: _,
+            number: _,
+            turns: _,
+        } = self;
+    }
+}
