@@ -1,10 +1,8 @@
 -- What a disk in memory holds, and what a crash may leave of it.
-use Rattle.std.specs.Prelude.{◌≡◌, ◌⊎◌, ◌<◌, ◌≤◌, ◌^◌, ◌-◌, ℕ, List, [], ◌∷◌, Bool, length}
-use Rattle.std.specs.List.{All}
+use Rattle.std.specs.Prelude.{◌≡◌, ◌⊎◌, ◌≤◌, ℕ, List, [], ◌∷◌, Bool}
 use Rattle.sw_rules.specs.declared.disk.Part.{Part}
 use Rattle.sw_rules.specs.declared.disk.Part.TheVariants.{Root, Left, Right}
-use Rattle.sw_rules.specs.Faults.{Rose}
-use Rattle.sw_rules.specs.Image.{Image, get}
+use Rattle.sw_rules.specs.Image.{Image}
 use Rattle.sw_disk.specs.Doubts.{Leaves}
 use Rattle.sw_disk.specs.Script.{count_of, counted, is_listed}
 use Rattle.sw_disk.specs.declared.memory.MemoryDisk.{MemoryDisk}

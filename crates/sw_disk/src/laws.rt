@@ -21,5 +21,4 @@ pub fn left_alone<D: Disk>()
         → ForTold (D.seen old) (λ image. Follows (OnPart part (PendingCut len)) (D.may_leave old) (D.may_leave new))
         → Tells (D.seen old) (D.seen new) (λ a b. b ≡ put part (get part b) a)
         → IsSure other (D.seen old) (D.may_leave old) → IsSure other (D.seen new) (D.may_leave new) }
-{
-}
+{}

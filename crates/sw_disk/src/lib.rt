@@ -16,3 +16,6 @@ pub use laws::left_alone;
 pub use memory::{CallKind, Failing, MemoryDisk};
 pub use plain::PlainDisk;
 pub use sw_rules::Part;
+
+#[cfg(test)]
+mod tests;

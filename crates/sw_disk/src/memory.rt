@@ -6,13 +6,12 @@ mod part;
 mod parts;
 mod script;
 
-pub use script::{CallKind, Failing};
-
 use crate::disk::{Disk, Failed};
 use crate::span::read_into;
 use history::History;
 use part::MemoryPart;
 use parts::Parts;
+pub use script::{CallKind, Failing};
 use script::{Counts, fails};
 use sw_rules::{Bytes, NoMemory, Part};
 
@@ -162,7 +161,11 @@ impl MemoryDisk {
         ensures failing { self.new.failing ≡ self.old.failing }
         ensures cause { HasCause self.old.faults self.new.faults result }
     {
-        let done = if self.begin(kind) { Err(Failed) } else { Ok(()) };
+        let done = if self.begin(kind) {
+            Err(Failed)
+        } else {
+            Ok(())
+        };
         self.end(done)
     }
 }
