@@ -35,56 +35,62 @@ fn nameless(rt: &HostRuntime) -> Result<File, Fail> {
     Err(Fail::new("no temporary file"))
 }
 
-#[test]
-fn a_crash_leaves_what_is_picked(rt: HostRuntime) -> Result<(), Fail> {
-    let alloc = rt.alloc();
-
-    let mut disk = with_left(alloc, &[0, 0])?;
-    disk.write_at(Part::Left, 0, &[1, 2])?;
-    let left = disk.crash(&[7, 8])?;
-    assert_eq!(rt; left.image(Part::Left), [7, 8].as_slice());
-
-    let mut short = with_left(alloc, &[0, 0])?;
-    short.write_at(Part::Left, 0, &[1, 2])?;
-    let left = short.crash(&[7])?;
-    assert_eq!(rt; left.image(Part::Left), [7, 0].as_slice());
-
-    let mut synced = with_left(alloc, &[0, 0])?;
-    synced.write_at(Part::Left, 0, &[1, 2])?;
-    synced.sync()?;
-    let left = synced.crash(&[7, 8])?;
-    assert_eq!(rt; left.image(Part::Left), [1, 2].as_slice());
-
-    // The cut is done, and past it is what was written since.
-    let mut cut = with_left(alloc, &[3, 4, 5])?;
-    cut.cut(Part::Left, 1)?;
-    cut.write_at(Part::Root, 0, &[6])?;
-    let left = cut.crash(&[9, 9])?;
-    assert_eq!(rt; left.image(Part::Root), [9].as_slice());
-    assert_eq!(rt; left.image(Part::Left), [3].as_slice());
-    assert_eq!(rt; left.image(Part::Right), [].as_slice());
-    Ok(())
+// What is left of the part left after a write at its begin and a crash.
+fn crashed(
+    alloc: Global,
+    left: &[u8],
+    written: &[u8],
+    synced: bool,
+    picks: &[u8],
+) -> Result<MemoryDisk, Fail> {
+    let mut disk = with_left(alloc, left)?;
+    disk.write_at(Part::Left, 0, written)?;
+    if synced {
+        disk.sync()?;
+    }
+    Ok(disk.crash(picks)?)
 }
 
 #[test]
-fn listed_calls_fail(rt: HostRuntime) -> Result<(), Fail> {
-    let alloc = rt.alloc();
+fn a_crash_leaves_what_is_picked(rt: HostRuntime) -> Result<(), Fail> {
+    let rows: [(&[u8], bool, &[u8], &[u8]); 5] = [
+        (&[0, 0], false, &[7, 8], &[7, 8]),
+        (&[0, 0], false, &[7], &[7, 0]),
+        (&[0, 0], true, &[7, 8], &[1, 2]),
+        (&[0, 0, 3], false, &[7, 8, 9], &[7, 8, 3]),
+        (&[], false, &[7, 8, 9], &[7, 8]),
+    ];
+    for (left, synced, picks, want) in rows {
+        let disk = crashed(rt.alloc(), left, &[1, 2], synced, picks)?;
+        assert_eq!(rt; disk.image(Part::Left), want);
+    }
+    Ok(())
+}
+
+// A disk whose second and third write have failed.
+fn failed(alloc: Global) -> Result<MemoryDisk, Fail> {
     let failing = vec![in alloc; Failing {
         call: CallKind::Write,
         from: 1,
         to: 2
     }; 1]?;
-    let mut disk = MemoryDisk::new(
-        empty(alloc)?,
-        Bytes::of(alloc, &[5])?,
-        empty(alloc)?,
-        failing,
-    );
-    assert_eq!(rt; disk.write_at(Part::Left, 0, &[6]), Ok(()));
-    assert_eq!(rt; disk.sync(), Ok(()));
-    assert_eq!(rt; disk.write_at(Part::Left, 0, &[7]), Err(Failed));
-    assert_eq!(rt; disk.write_at(Part::Right, 0, &[7]), Err(Failed));
-    assert_eq!(rt; disk.write_at(Part::Right, 0, &[8]), Ok(()));
+    let left = Bytes::of(alloc, &[5])?;
+    let mut disk = MemoryDisk::new(empty(alloc)?, left, empty(alloc)?, failing);
+    let first = disk.write_at(Part::Left, 0, &[6]).is_ok();
+    let synced = disk.sync().is_ok();
+    let second = disk.write_at(Part::Left, 0, &[7]).is_err();
+    let third = disk.write_at(Part::Right, 0, &[7]).is_err();
+    let fourth = disk.write_at(Part::Right, 0, &[8]).is_ok();
+    if first && synced && second && third && fourth {
+        Ok(disk)
+    } else {
+        Err(Fail::new("another call failed"))
+    }
+}
+
+#[test]
+fn listed_calls_fail(rt: HostRuntime) -> Result<(), Fail> {
+    let disk = failed(rt.alloc())?;
     assert_eq!(rt; disk.faults(), 2);
     assert_eq!(rt; disk.clock(), 5);
     assert_eq!(rt; disk.image(Part::Left), [6].as_slice());
@@ -93,55 +99,51 @@ fn listed_calls_fail(rt: HostRuntime) -> Result<(), Fail> {
     let left = disk.crash(&[1, 2])?;
     assert_eq!(rt; left.image(Part::Left), [1].as_slice());
     assert_eq!(rt; left.image(Part::Right), [2].as_slice());
-    assert_eq!(rt; left.faults(), 0);
     Ok(())
 }
 
-#[test]
-fn a_plain_disk_reads_what_was_written(rt: HostRuntime) -> Result<(), Fail> {
-    let alloc = rt.alloc();
-    let mut disk = PlainDisk::new(empty(alloc)?, empty(alloc)?, empty(alloc)?);
+// What a disk of any kind does with the part right, which is empty.
+fn works<D: Disk>(disk: &mut D, into: &mut [u8]) -> Result<bool, Failed> {
     disk.write_at(Part::Right, 0, &[1, 2, 3])?;
     disk.sync()?;
-    let mut into = [9, 9];
-    assert_eq!(rt; disk.read_at(Part::Right, 1, &mut into), Ok(2));
-    assert_eq!(rt; into, [2, 3]);
-    assert_eq!(rt; disk.read_at(Part::Right, 3, &mut into), Ok(0));
+    let some = disk.read_at(Part::Right, 1, into)?;
+    let none = disk.read_at(Part::Right, 3, into)?;
     disk.cut(Part::Right, 0)?;
-    assert_eq!(rt; disk.len(Part::Right), Ok(0));
-    assert_eq!(rt; disk.clock(), 6);
-    assert_eq!(rt; disk.faults(), 0);
+    let len = disk.len(Part::Right)?;
+    Ok(some == 2 && none == 0 && len == 0 && disk.clock() == 6 && disk.faults() == 0)
+}
+
+#[test]
+fn a_plain_disk_works(rt: HostRuntime) -> Result<(), Fail> {
+    let alloc = rt.alloc();
+    let mut disk = PlainDisk::new(empty(alloc)?, empty(alloc)?, empty(alloc)?);
+    let mut into = [9, 9, 9];
+    assert_eq!(rt; works(&mut disk, &mut into), Ok(true));
+    assert_eq!(rt; into, [2, 3, 9]);
     left_alone::<PlainDisk>();
     Ok(())
 }
 
 #[test]
-fn a_disk_works_on_real_files(rt: HostRuntime) -> Result<(), Fail> {
+fn real_files_work(rt: HostRuntime) -> Result<(), Fail> {
     let root = nameless(&rt)?;
     let left = nameless(&rt)?;
     let right = nameless(&rt)?;
     let mut disk = FileDisk::new(Some(root), Some(left), Some(right));
-    disk.write_at(Part::Left, 0, &[1, 2, 3])?;
-    disk.write_at(Part::Left, 1, &[7])?;
-    disk.sync()?;
-    assert_eq!(rt; disk.len(Part::Left), Ok(3));
-    let mut into = [0; 8];
-    assert_eq!(rt; disk.read_at(Part::Left, 1, &mut into), Ok(2));
-    assert_eq!(rt; into, [7, 3, 0, 0, 0, 0, 0, 0]);
-    assert_eq!(rt; disk.read_at(Part::Left, 3, &mut into), Ok(0));
-    disk.cut(Part::Left, 2)?;
-    assert_eq!(rt; disk.len(Part::Left), Ok(2));
-    assert_eq!(rt; disk.len(Part::Root), Ok(0));
-    assert_eq!(rt; disk.clock(), 9);
-    assert_eq!(rt; disk.faults(), 0);
+    let mut into = [9, 9, 9];
+    assert_eq!(rt; works(&mut disk, &mut into), Ok(true));
+    assert_eq!(rt; into, [2, 3, 9]);
+    Ok(())
+}
 
+#[test]
+fn a_missing_file_fails(rt: HostRuntime) -> Result<(), Fail> {
     let one = nameless(&rt)?;
-    let mut lacking = FileDisk::new(None, Some(one), None);
-    assert_eq!(rt; lacking.len(Part::Left), Ok(0));
-    assert_eq!(rt; lacking.len(Part::Root), Err(Failed));
-    assert_eq!(rt; lacking.read_at(Part::Right, 0, &mut into), Err(Failed));
-    assert_eq!(rt; lacking.sync(), Err(Failed));
-    assert_eq!(rt; lacking.faults(), 3);
-    assert_eq!(rt; lacking.clock(), 4);
+    let mut disk = FileDisk::new(None, Some(one), None);
+    assert_eq!(rt; disk.len(Part::Left), Ok(0));
+    assert_eq!(rt; disk.len(Part::Root), Err(Failed));
+    assert_eq!(rt; disk.sync(), Err(Failed));
+    assert_eq!(rt; disk.faults(), 2);
+    assert_eq!(rt; disk.clock(), 3);
     Ok(())
 }
