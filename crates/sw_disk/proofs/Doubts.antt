@@ -160,8 +160,9 @@ torn_front end at n bytes d c fits long front torn = record {
     inside le =
         let is : end ≡ at + n + (end - (at + n)) = omega (arith, le) in
         let dropped : drop (at + n) bytes ≡ take (end - (at + n)) (drop (at + n) d) =
-            ap (drop (at + n)) (sym front) ∙ (ap (λ k. drop (at + n) (take k d)) is ∙ drop-take (at + n) (end - (at + n)) d) in
+        ap (drop (at + n)) (sym front) ∙ (ap (λ k. drop (at + n) (take k d)) is ∙ drop-take (at + n) (end - (at + n)) d) in
         sym (take_all (end - (at + n)) (take (end - (at + n)) (drop (at + n) d)) (omega (arith, length-take (end - (at + n)) (drop (at + n) d)))) ∙ ap (take (end - (at + n))) (sym dropped)
+
     past : end < at + n → take (end - (at + n)) (drop (at + n) d) ≡ take (end - (at + n)) (drop (at + n) bytes)
     past lt = let none : 0 ≡ end - (at + n) = omega (arith, lt) in subst (λ k. take k (drop (at + n) d) ≡ take k (drop (at + n) bytes)) none refl
 
@@ -169,12 +170,15 @@ write_touched : (marks : List Bool) (bytes now : List ℕ) (at n : ℕ) → leng
     → (c : List ℕ) → Fits now (marked at n marks) c → (d : List ℕ) × Fits bytes marks d × Torn (length bytes) at n d c
 write_touched marks bytes now at n short torn c fits =
     let same = torn_same (length marks) (length bytes) at n bytes now short short torn in
-    let long : length marks ≤ length c = omega (arith, fits_long now (marked at n marks) c fits, length-marked at n marks) in
-    (mended bytes marks c, mended_fits bytes marks c short long, record {
-      before = mended_before at n bytes now marks c same fits;
-      behind = ap (take (length bytes - (at + n))) (mended_behind at n (at + n) bytes now marks c refl same fits);
-      no_shorter = omega (arith, length-mended bytes marks c);
-    })
+    let long : length marks ≤ length c = omega (arith, fits_long now (marked at n marks) c fits, length-marked at n marks) in (
+      mended bytes marks c,
+      mended_fits bytes marks c short long,
+      record {
+        before = mended_before at n bytes now marks c same fits;
+        behind = ap (take (length bytes - (at + n))) (mended_behind at n (at + n) bytes now marks c refl same fits);
+        no_shorter = omega (arith, length-mended bytes marks c);
+      },
+    )
 
 -- what may be left after a write, or after one that failed, is what might have been left before, with the write torn
 pub write_back : (touched : Bool) (marks : List Bool) (bytes now : List ℕ) (at n : ℕ) → length marks ≤ length bytes → at ≤ length bytes → Torn (length bytes) at n bytes now
@@ -189,14 +193,14 @@ pub write_forth : (touched : Bool) (marks : List Bool) (bytes now : List ℕ) (a
     → (c d : List ℕ) → Leaves touched marks bytes d → Torn (length bytes) at n d c → Leaves true (marked at n (marks_of touched marks bytes)) now c
 write_forth true marks bytes now at n short torn c d left step =
     fits_forth at n bytes now marks d c left
-      (torn_same (length marks) (length bytes) at n bytes now short short torn)
-      (torn_same (length marks) (length bytes) at n d c short (fits_long bytes marks d left) step)
+    (torn_same (length marks) (length bytes) at n bytes now short short torn)
+    (torn_same (length marks) (length bytes) at n d c short (fits_long bytes marks d left) step)
 write_forth false marks bytes now at n short torn c d left step =
     let none = replicate (length bytes) false in
     let short' : length none ≤ length bytes = omega (arith, length-replicate (length bytes) false) in
     fits_forth at n bytes now none bytes c (fits_itself bytes none short')
-      (torn_same (length none) (length bytes) at n bytes now short' short' torn)
-      (torn_same (length none) (length bytes) at n bytes c short' short' (subst (λ l. Torn (length bytes) at n l c) left step))
+    (torn_same (length none) (length bytes) at n bytes now short' short' torn)
+    (torn_same (length none) (length bytes) at n bytes c short' short' (subst (λ l. Torn (length bytes) at n l c) left step))
 
 -- After a cut: the front of what fits, and behind it what reads gave before.
 abbrev rejoined : ℕ → List ℕ → List Bool → List ℕ → List ℕ
@@ -256,8 +260,10 @@ written_torn at new old fits = record {
   where
     front : length (take at old) ≡ at
     front = omega (arith, length-take at old)
+
     before : take at (written at new old) ≡ take at old
     before = ap (take at) (append_assoc (take at old) new (drop (at + length new) old)) ∙ take_at (take at old) (new ++ drop (at + length new) old) at front
+
     behind : drop (at + length new) (written at new old) ≡ drop (at + length new) old
     behind = drop_at (take at old ++ new) (drop (at + length new) old) (at + length new) (omega (arith, length-append (take at old) new, front))
 
@@ -276,15 +282,15 @@ module _ (touched touched' : Bool) (marks marks' : List Bool) (bytes now : List 
       → Exactly (Torn (length bytes) at n) (Leaves touched marks bytes) (Leaves touched' marks' now)
   wrote at n are fits torn =
       subst (λ t. Exactly (Torn (length bytes) at n) (Leaves touched marks bytes) (Leaves t marks' now)) (sym is_touched)
-        (subst (λ m. Exactly (Torn (length bytes) at n) (Leaves touched marks bytes) (Leaves true m now)) (sym are)
-          (record { nothing_else = write_back touched marks bytes now at n short fits torn; each = write_forth touched marks bytes now at n short torn }))
+      (subst (λ m. Exactly (Torn (length bytes) at n) (Leaves touched marks bytes) (Leaves true m now)) (sym are)
+      (record { nothing_else = write_back touched marks bytes now at n short fits torn; each = write_forth touched marks bytes now at n short torn }))
 
   pub clipped : (len : ℕ) → marks' ≡ take len (marks_of touched marks bytes) → len ≤ length bytes → take len now ≡ take len bytes
       → Exactly (PendingCut len) (Leaves touched marks bytes) (Leaves touched' marks' now)
   clipped len are fits same =
       subst (λ t. Exactly (PendingCut len) (Leaves touched marks bytes) (Leaves t marks' now)) (sym is_touched)
-        (subst (λ m. Exactly (PendingCut len) (Leaves touched marks bytes) (Leaves true m now)) (sym are)
-          (record { nothing_else = cut_back touched marks bytes now len short fits same; each = cut_forth touched marks bytes now len same }))
+      (subst (λ m. Exactly (PendingCut len) (Leaves touched marks bytes) (Leaves true m now)) (sym are)
+      (record { nothing_else = cut_back touched marks bytes now len short fits same; each = cut_forth touched marks bytes now len same }))
 
 -- what is so is so after each outcome
 pub on_ok : {T E : Type 0} (result : Result T E) (P : Type 0) → P → OnOk result P

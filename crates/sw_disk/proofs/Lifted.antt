@@ -3,7 +3,7 @@ use Rattle.std.proofs.Common.{◌≡◌, ◌⊎◌, inl, inr, ℕ, List, refl, s
 use Rattle.std.specs.Prelude.{Result, Ok, Err, OnOk, OnErr}
 use Rattle.sw_rules.specs.declared.disk.Part.{Part}
 use Rattle.sw_rules.specs.declared.disk.Part.TheVariants.{Root, Left, Right}
-use Rattle.sw_rules.specs.Image.{Image, get, put}
+use Rattle.sw_rules.specs.Image.{get, put}
 use Rattle.sw_rules.specs.DiskRule.{OnPart}
 use Rattle.sw_disk.specs.Doubts.{Exactly}
 use Rattle.sw_disk.specs.Memory.{PartLeaves, MayLeave, member}

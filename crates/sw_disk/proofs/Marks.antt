@@ -1,5 +1,5 @@
 -- The marks of a part of a disk in memory.
-use Rattle.std.proofs.Common.{◌≡◌, ◌+◌, ◌-◌, ◌≤◌, min, ℕ, zero, suc, List, [], ◌∷◌, ◌++◌, Bool, true, false, length, take, drop, replicate, refl, ◌∙◌, ap, arith}
+use Rattle.std.proofs.Common.{◌≡◌, ◌+◌, ◌-◌, min, ℕ, zero, suc, List, [], ◌∷◌, ◌++◌, Bool, true, length, take, drop, replicate, refl, ◌∙◌, ap, arith}
 use Rattle.sw_disk.specs.Doubts.{marked}
 
 -- the marks, by the places before the range, those in it and those behind it

@@ -1,5 +1,5 @@
 -- One place more of the image that a crash leaves.
-use Rattle.std.proofs.Common.{◌≡◌, ◌<◌, ◌≤◌, ◌+◌, ℕ, suc, List, [], ◌∷◌, ◌++◌, Bool, true, false, if◌then◌else◌, length, take, drop, set, get_or, refl, sym, ◌∙◌, ap, subst, arith, append_assoc}
+use Rattle.std.proofs.Common.{◌≡◌, ◌<◌, ◌≤◌, ◌+◌, ℕ, suc, List, [], ◌∷◌, ◌++◌, Bool, true, false, if◌then◌else◌, length, take, drop, set, get_or, refl, sym, ◌∙◌, ap, arith, append_assoc}
 use Rattle.std.proofs.lemmas.List.{drop_more, drop-drop, take_more_set, drop-set-lt}
 use Rattle.sw_disk.specs.Picks.{in_doubt, later_marks, first_pick, later_picks, picked, picks_left, picked_of, part_picked, part_left, image_picked}
 use Rattle.sw_rules.specs.declared.disk.Part.{Part}

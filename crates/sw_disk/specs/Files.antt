@@ -1,5 +1,5 @@
 -- Which of its files a disk has.
-use Rattle.std.specs.Prelude.{Option, Bool, true}
+use Rattle.std.specs.Prelude.{Bool}
 use Rattle.std.specs.Option.{is_some}
 use Rattle.sw_rules.specs.declared.disk.Part.{Part}
 use Rattle.sw_rules.specs.declared.disk.Part.TheVariants.{Root, Left, Right}

@@ -1,10 +1,8 @@
 -- What a disk in memory holds, and what a crash may leave of it.
-use Rattle.std.specs.Prelude.{◌≡◌, ◌⊎◌, ◌<◌, ◌≤◌, ◌^◌, ◌-◌, ℕ, List, [], ◌∷◌, Bool, length}
-use Rattle.std.specs.List.{All}
+use Rattle.std.specs.Prelude.{◌≡◌, ◌⊎◌, ◌≤◌, ℕ, List, [], ◌∷◌, Bool}
 use Rattle.sw_rules.specs.declared.disk.Part.{Part}
 use Rattle.sw_rules.specs.declared.disk.Part.TheVariants.{Root, Left, Right}
-use Rattle.sw_rules.specs.Faults.{Rose}
-use Rattle.sw_rules.specs.Image.{Image, get}
+use Rattle.sw_rules.specs.Image.{Image}
 use Rattle.sw_disk.specs.Doubts.{Leaves}
 use Rattle.sw_disk.specs.Script.{count_of, counted, is_listed}
 use Rattle.sw_disk.specs.declared.memory.MemoryDisk.{MemoryDisk}
@@ -12,6 +10,7 @@ use Rattle.sw_disk.specs.declared.memory.history.Past.{Past}
 use Rattle.sw_disk.specs.declared.memory.part.MemoryPart.{MemoryPart}
 use Rattle.sw_disk.specs.declared.memory.parts.Parts.{Parts}
 use Rattle.sw_disk.specs.declared.memory.script.CallKind.{CallKind}
+use Rattle.sw_disk.specs.declared.memory.script.Failing.{Failing}
 
 -- own: the part of a name
 abbrev pub member : Part → Parts → MemoryPart
@@ -45,6 +44,26 @@ LeftSince disk t c = MayLeave disk.parts c ⊎ HadLeft disk.history.past.items t
 -- own: what reads give of a disk
 abbrev pub disk_image : MemoryDisk → Image
 disk_image disk = image_of disk.parts
+
+-- own: an image that a crash now may leave of a disk
+abbrev pub CrashLeaves : MemoryDisk → Image → Type 0
+CrashLeaves disk c = MayLeave disk.parts c
+
+-- own: how many calls were made
+abbrev pub clock_of : MemoryDisk → ℕ
+clock_of disk = disk.history.clock
+
+-- own: how often a call failed
+abbrev pub faults_of : MemoryDisk → ℕ
+faults_of disk = disk.faults
+
+-- own: the calls that fail
+abbrev pub failing_of : MemoryDisk → List Failing
+failing_of disk = disk.failing.items
+
+-- own: what reads give, and what a crash may leave, is as it was
+abbrev pub SameParts : MemoryDisk → MemoryDisk → Type 0
+SameParts old new = new.parts ≡ old.parts
 
 -- own: the next call of a kind is one that fails
 abbrev pub fails_next : CallKind → MemoryDisk → Bool

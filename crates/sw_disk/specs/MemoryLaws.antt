@@ -1,5 +1,5 @@
 -- Why a disk in memory keeps the laws of a disk.
-use Rattle.std.specs.Prelude.{◌≡◌, ◌⊎◌, ◌<◌, ◌≤◌, ◌^◌, ◌-◌, ℕ, List, [], ◌∷◌, Bool, true, false, length}
+use Rattle.std.specs.Prelude.{◌⊎◌, ◌<◌, ◌≤◌, ◌^◌, ◌-◌, ℕ, List, [], ◌∷◌, Bool, true, false, length}
 use Rattle.std.specs.List.{All}
 use Rattle.std.proofs.Common.{inl, inr, refl, le_of_suc-le-suc, not-suc-le-zero, lt_of_le_of_lt, lt_irrefl}
 use Rattle.std.proofs.lemmas.List.Elements.{All-head, All-tail}

@@ -1,5 +1,5 @@
 -- What a plain disk in memory holds.
-use Rattle.std.specs.Prelude.{◌<◌, ◌^◌, ℕ, length}
+use Rattle.std.specs.Prelude.{◌<◌, ◌^◌, length}
 use Rattle.sw_rules.specs.declared.disk.Part.{Part}
 use Rattle.sw_rules.specs.declared.disk.Part.TheVariants.{Root, Left, Right}
 use Rattle.sw_rules.specs.Image.{Image, get}

@@ -5,12 +5,17 @@
 
 mod disk;
 mod file;
+mod laws;
 mod memory;
 mod plain;
 mod span;
 
 pub use disk::{Disk, Failed};
 pub use file::FileDisk;
+pub use laws::left_alone;
 pub use memory::{CallKind, Failing, MemoryDisk};
 pub use plain::PlainDisk;
 pub use sw_rules::Part;
+
+#[cfg(test)]
+mod tests;

@@ -6,13 +6,12 @@ mod part;
 mod parts;
 mod script;
 
-pub use script::{CallKind, Failing};
-
 use crate::disk::{Disk, Failed};
 use crate::span::read_into;
 use history::History;
 use part::MemoryPart;
 use parts::Parts;
+pub use script::{CallKind, Failing};
 use script::{Counts, fails};
 use sw_rules::{Bytes, NoMemory, Part};
 
@@ -35,7 +34,7 @@ impl MemoryDisk {
     ghost use Rattle.sw_rules.specs.Faults.{Rose};
     ghost use Rattle.sw_rules.specs.DiskRule.{HasCause};
     ghost use Rattle.sw_rules.specs.Image.{Image, get};
-    ghost use Rattle.sw_disk.specs.Memory.{disk_image, image_of, MayLeave, HadLeft, LeftSince, fails_next};
+    ghost use Rattle.sw_disk.specs.Memory.{disk_image, CrashLeaves, clock_of, faults_of, failing_of, MayLeave, HadLeft, LeftSince, fails_next};
     ghost use Rattle.sw_disk.specs.Picks.{image_picked};
     ghost use Rattle.sw_disk.specs.Script.{counted};
     ghost use Rattle.sw_rules.specs.declared.disk.Part.{Part};
@@ -44,10 +43,10 @@ impl MemoryDisk {
     /// memory.
     pub fn new(root: Bytes, left: Bytes, right: Bytes, failing: Vec<Failing>) -> MemoryDisk
         ensures image { disk_image result ≡ record { root = root; left = left; right = right } }
-        ensures sure { (c : Image) → MayLeave result.parts c ↔ (c ≡ disk_image result) }
-        ensures clock { result.history.clock ≡ 0 }
-        ensures faults { result.faults ≡ 0 }
-        ensures failing { result.failing ≡ failing }
+        ensures sure { (c : Image) → CrashLeaves result c ↔ (c ≡ disk_image result) }
+        ensures clock { clock_of result ≡ 0 }
+        ensures faults { faults_of result ≡ 0 }
+        ensures failing { failing_of result ≡ failing.items }
     {
         let alloc = *failing.allocator();
         MemoryDisk {
@@ -76,12 +75,12 @@ impl MemoryDisk {
     pub fn crash(self, picks: &[u8]) -> Result<MemoryDisk, NoMemory>
         ensures done { IsOk result }
         ensures image { IfOk result (λ disk. disk_image disk ≡ image_picked self.parts picks.now) }
-        ensures allowed { IfOk result (λ disk. MayLeave self.parts (disk_image disk)) }
+        ensures allowed { IfOk result (λ disk. CrashLeaves self (disk_image disk)) }
         ensures lengths { IfOk result (λ disk. (part : Part) → length (get part (disk_image disk)) ≡ length (get part (disk_image self))) }
-        ensures sure { IfOk result (λ disk. (c : Image) → MayLeave disk.parts c ↔ (c ≡ disk_image disk)) }
-        ensures clock { IfOk result (λ disk. disk.history.clock ≡ 0) }
-        ensures faults { IfOk result (λ disk. disk.faults ≡ 0) }
-        ensures failing { IfOk result (λ disk. disk.failing.items ≡ []) }
+        ensures sure { IfOk result (λ disk. (c : Image) → CrashLeaves disk c ↔ (c ≡ disk_image disk)) }
+        ensures clock { IfOk result (λ disk. clock_of disk ≡ 0) }
+        ensures faults { IfOk result (λ disk. faults_of disk ≡ 0) }
+        ensures failing { IfOk result (λ disk. failing_of disk ≡ []) }
     {
         let alloc = *self.failing.allocator();
         let mut parts = self.parts;
@@ -162,7 +161,11 @@ impl MemoryDisk {
         ensures failing { self.new.failing ≡ self.old.failing }
         ensures cause { HasCause self.old.faults self.new.faults result }
     {
-        let done = if self.begin(kind) { Err(Failed) } else { Ok(()) };
+        let done = if self.begin(kind) {
+            Err(Failed)
+        } else {
+            Ok(())
+        };
         self.end(done)
     }
 }
@@ -174,18 +177,18 @@ impl Disk for MemoryDisk {
     ghost use Rattle.sw_rules.specs.DiskRule.{OnPart, written, FailedWrite, FailedCut, Torn, PendingCut, Follows, Within, Only, Elapses, HasCause, ReadsAt};
     ghost use Rattle.sw_disk.specs.declared.memory.script.CallKind.TheVariants.{Len, Read, Write, Cut, Sync};
     ghost use Rattle.sw_disk.specs.Doubts.{Exactly};
-    ghost use Rattle.sw_disk.specs.Memory.{disk_image, MayLeave, LeftSince, Keeps, FollowsScript, fails_next};
+    ghost use Rattle.sw_disk.specs.Memory.{disk_image, CrashLeaves, LeftSince, Keeps, SameParts, FollowsScript, clock_of, faults_of, fails_next};
     ghost use Rattle.sw_disk.specs.MemoryLaws.{leaves_image, current, image_small};
 
     ghost seen = { λ d. Some (disk_image d) };
 
-    ghost may_leave = { λ d c. MayLeave d.parts c };
+    ghost may_leave = { CrashLeaves };
 
     ghost left_since = { LeftSince };
 
-    ghost clock = { λ d. d.history.clock };
+    ghost clock = { clock_of };
 
-    ghost faults = { λ d. d.faults };
+    ghost faults = { faults_of };
 
     ghost shows = { λ d. leaves_image d.parts };
 
@@ -198,10 +201,10 @@ impl Disk for MemoryDisk {
     fn len(&mut self, part: Part) -> Result<u64, Failed>
         ensures length { IfOk result (λ n. n ≡ length (get part (disk_image self.old))) }
         ensures seen { disk_image self.new ≡ disk_image self.old }
-        ensures crash { Within (MayLeave self.new.parts) (MayLeave self.old.parts) }
-        ensures time { Elapses self.old.history.clock self.new.history.clock (LeftSince self.old) (LeftSince self.new) (MayLeave self.new.parts) }
-        ensures cause { HasCause self.old.faults self.new.faults result }
-        ensures exact { Within (MayLeave self.old.parts) (MayLeave self.new.parts) }
+        ensures crash { Within (CrashLeaves self.new) (CrashLeaves self.old) }
+        ensures time { Elapses (clock_of self.old) (clock_of self.new) (LeftSince self.old) (LeftSince self.new) (CrashLeaves self.new) }
+        ensures cause { HasCause (faults_of self.old) (faults_of self.new) result }
+        ensures exact { Within (CrashLeaves self.old) (CrashLeaves self.new) }
         ensures kept { Keeps self.old self.new }
         ensures listed { IsErr result ↔ IsTrue (fails_next Len self.old) }
         ensures script { FollowsScript Len self.old self.new }
@@ -216,10 +219,10 @@ impl Disk for MemoryDisk {
         ensures fits { IfOk result (λ n. n ≤ length into.new) }
         ensures bytes { IfOk result (ReadsAt (get part (disk_image self.old)) at into.new) }
         ensures seen { disk_image self.new ≡ disk_image self.old }
-        ensures crash { Within (MayLeave self.new.parts) (MayLeave self.old.parts) }
-        ensures time { Elapses self.old.history.clock self.new.history.clock (LeftSince self.old) (LeftSince self.new) (MayLeave self.new.parts) }
-        ensures cause { HasCause self.old.faults self.new.faults result }
-        ensures exact { Within (MayLeave self.old.parts) (MayLeave self.new.parts) }
+        ensures crash { Within (CrashLeaves self.new) (CrashLeaves self.old) }
+        ensures time { Elapses (clock_of self.old) (clock_of self.new) (LeftSince self.old) (LeftSince self.new) (CrashLeaves self.new) }
+        ensures cause { HasCause (faults_of self.old) (faults_of self.new) result }
+        ensures exact { Within (CrashLeaves self.old) (CrashLeaves self.new) }
         ensures kept { Keeps self.old self.new }
         ensures listed { IsErr result ↔ IsTrue (fails_next Read self.old) }
         ensures script { FollowsScript Read self.old self.new }
@@ -234,12 +237,12 @@ impl Disk for MemoryDisk {
         requires { at ≤ length (get part (disk_image self.old)) }
         ensures ok { OnOk result (disk_image self.new ≡ put part (written at bytes.now (get part (disk_image self.old))) (disk_image self.old)) }
         ensures err { OnErr result (OnPart part (FailedWrite at (length bytes.now)) (disk_image self.old) (disk_image self.new)) }
-        ensures crash { Follows (OnPart part (Torn (length (get part (disk_image self.old))) at (length bytes.now))) (MayLeave self.old.parts) (MayLeave self.new.parts) }
-        ensures time { Elapses self.old.history.clock self.new.history.clock (LeftSince self.old) (LeftSince self.new) (MayLeave self.new.parts) }
-        ensures cause { HasCause self.old.faults self.new.faults result }
-        ensures exact { OnOk result (Exactly (OnPart part (Torn (length (get part (disk_image self.old))) at (length bytes.now))) (MayLeave self.old.parts) (MayLeave self.new.parts)) }
+        ensures crash { Follows (OnPart part (Torn (length (get part (disk_image self.old))) at (length bytes.now))) (CrashLeaves self.old) (CrashLeaves self.new) }
+        ensures time { Elapses (clock_of self.old) (clock_of self.new) (LeftSince self.old) (LeftSince self.new) (CrashLeaves self.new) }
+        ensures cause { HasCause (faults_of self.old) (faults_of self.new) result }
+        ensures exact { OnOk result (Exactly (OnPart part (Torn (length (get part (disk_image self.old))) at (length bytes.now))) (CrashLeaves self.old) (CrashLeaves self.new)) }
         // It wanted memory before it began, or the range is in doubt.
-        ensures failed { OnErr result ((self.new.parts ≡ self.old.parts) ⊎ Exactly (OnPart part (Torn (length (get part (disk_image self.old))) at (length bytes.now))) (MayLeave self.old.parts) (MayLeave self.new.parts)) }
+        ensures failed { OnErr result (SameParts self.old self.new ⊎ Exactly (OnPart part (Torn (length (get part (disk_image self.old))) at (length bytes.now))) (CrashLeaves self.old) (CrashLeaves self.new)) }
         ensures kept { Keeps self.old self.new }
         ensures listed { IsTrue (fails_next Write self.old) → IsErr result }
         ensures script { FollowsScript Write self.old self.new }
@@ -253,12 +256,12 @@ impl Disk for MemoryDisk {
         requires { len ≤ length (get part (disk_image self.old)) }
         ensures ok { OnOk result (disk_image self.new ≡ put part (take len (get part (disk_image self.old))) (disk_image self.old)) }
         ensures err { OnErr result (OnPart part (FailedCut len) (disk_image self.old) (disk_image self.new)) }
-        ensures crash { Follows (OnPart part (PendingCut len)) (MayLeave self.old.parts) (MayLeave self.new.parts) }
-        ensures time { Elapses self.old.history.clock self.new.history.clock (LeftSince self.old) (LeftSince self.new) (MayLeave self.new.parts) }
-        ensures cause { HasCause self.old.faults self.new.faults result }
-        ensures exact { OnOk result (Exactly (OnPart part (PendingCut len)) (MayLeave self.old.parts) (MayLeave self.new.parts)) }
+        ensures crash { Follows (OnPart part (PendingCut len)) (CrashLeaves self.old) (CrashLeaves self.new) }
+        ensures time { Elapses (clock_of self.old) (clock_of self.new) (LeftSince self.old) (LeftSince self.new) (CrashLeaves self.new) }
+        ensures cause { HasCause (faults_of self.old) (faults_of self.new) result }
+        ensures exact { OnOk result (Exactly (OnPart part (PendingCut len)) (CrashLeaves self.old) (CrashLeaves self.new)) }
         // It wanted memory before it began, or the length is in doubt.
-        ensures failed { OnErr result ((self.new.parts ≡ self.old.parts) ⊎ Exactly (OnPart part (PendingCut len)) (MayLeave self.old.parts) (MayLeave self.new.parts)) }
+        ensures failed { OnErr result (SameParts self.old self.new ⊎ Exactly (OnPart part (PendingCut len)) (CrashLeaves self.old) (CrashLeaves self.new)) }
         ensures kept { Keeps self.old self.new }
         ensures listed { IsTrue (fails_next Cut self.old) → IsErr result }
         ensures script { FollowsScript Cut self.old self.new }
@@ -269,12 +272,12 @@ impl Disk for MemoryDisk {
     }
 
     fn sync(&mut self) -> Result<(), Failed>
-        ensures durable { OnOk result (Only (disk_image self.old) (MayLeave self.new.parts)) }
+        ensures durable { OnOk result (Only (disk_image self.old) (CrashLeaves self.new)) }
         ensures seen { disk_image self.new ≡ disk_image self.old }
-        ensures crash { Within (MayLeave self.new.parts) (MayLeave self.old.parts) }
-        ensures time { Elapses self.old.history.clock self.new.history.clock (LeftSince self.old) (LeftSince self.new) (MayLeave self.new.parts) }
-        ensures cause { HasCause self.old.faults self.new.faults result }
-        ensures failed { OnErr result (Within (MayLeave self.old.parts) (MayLeave self.new.parts)) }
+        ensures crash { Within (CrashLeaves self.new) (CrashLeaves self.old) }
+        ensures time { Elapses (clock_of self.old) (clock_of self.new) (LeftSince self.old) (LeftSince self.new) (CrashLeaves self.new) }
+        ensures cause { HasCause (faults_of self.old) (faults_of self.new) result }
+        ensures failed { OnErr result (Within (CrashLeaves self.old) (CrashLeaves self.new)) }
         ensures kept { Keeps self.old self.new }
         ensures listed { IsTrue (fails_next Sync self.old) → IsErr result }
         ensures script { FollowsScript Sync self.old self.new }

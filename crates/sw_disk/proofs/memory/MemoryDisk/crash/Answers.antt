@@ -1,4 +1,4 @@
-use Rattle.std.proofs.Common.{◌≡◌, length, ap, sym, ◌∙◌, subst}
+use Rattle.std.proofs.Common.{length, ap, sym, ◌∙◌, subst}
 use Rattle.sw_rules.specs.Image.{get}
 use Rattle.sw_disk.specs.Memory.{MayLeave}
 use Rattle.sw_disk.proofs.PickSteps.{picked_allowed, lengths_picked}

@@ -1,4 +1,4 @@
-use Rattle.std.proofs.Common.{◌≡◌, ◌⊎◌, ◌↔◌, ◌≤◌, ◌++◌, [], ◌∷◌, inl, inr, ⊎_elim, subst, sym}
+use Rattle.std.proofs.Common.{◌⊎◌, ◌↔◌, ◌≤◌, inl, inr, ⊎_elim, subst, sym}
 use Rattle.sw_disk.specs.Memory.{HadLeft, MayLeave}
 use Rattle.sw_disk.proofs.Moved.{had_left_pushed}
 use Rattle.sw_disk.proofs.memory.MemoryDisk.settle.Goals as goal

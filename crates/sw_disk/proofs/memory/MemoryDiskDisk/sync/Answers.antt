@@ -1,4 +1,4 @@
-use Rattle.std.proofs.Common.{◌≡◌, subst}
+use Rattle.std.proofs.Common.{subst}
 use Rattle.sw_disk.specs.Memory.{MayLeave}
 use Rattle.sw_disk.proofs.Moved.{sync_within}
 use Rattle.sw_disk.proofs.memory.MemoryDiskDisk.sync.Goals as goal

@@ -1,6 +1,5 @@
-use Rattle.std.proofs.Common.{◌≡◌, ◌⊎◌, ◌≤◌, inr, length, OnOk, OnErr, ap, sym, subst, arith}
+use Rattle.std.proofs.Common.{◌≡◌, ◌≤◌, inr, length, OnOk, OnErr, ap, sym, subst, arith}
 use Rattle.sw_rules.specs.DiskRule.{Torn, written}
-use Rattle.sw_disk.specs.Doubts.{Leaves, Exactly}
 use Rattle.sw_disk.proofs.Doubts.{wrote, torn_either, same_torn_write, on_ok, on_err}
 use Rattle.sw_disk.proofs.memory.part.MemoryPart.write.Goals as goal
 
@@ -20,8 +19,8 @@ returns-clause-exact c =
     let fits : c.args.at ≤ length old.bytes.items = omega (arith, c.requires, old.bytes.ok) in
     let kept = ap (λ v. v.items) c.doubt.ensures.bytes in
     let torn = torn_either c.overwrite.result c.args.at c.args.bytes.now old.bytes.items now fits
-      (subst (λ l. OnOk c.overwrite.result (now ≡ written c.args.at c.args.bytes.now l)) kept c.overwrite.ensures.ok)
-      (subst (λ l. OnErr c.overwrite.result (now ≡ l)) kept c.overwrite.ensures.err) in
+    (subst (λ l. OnOk c.overwrite.result (now ≡ written c.args.at c.args.bytes.now l)) kept c.overwrite.ensures.ok)
+    (subst (λ l. OnErr c.overwrite.result (now ≡ l)) kept c.overwrite.ensures.err) in
     on_ok c.overwrite.result _ (wrote old.touched new.touched old.doubts.items new.doubts.items old.bytes.items now c.in_ok-doubt.ensures.ok.0 old.short c.args.at (length c.args.bytes.now) c.in_ok-doubt.ensures.ok.1 fits torn)
 
 pub returns-clause-failed : goal.returns-clause-failed
@@ -32,6 +31,6 @@ returns-clause-failed c =
     let fits : c.args.at ≤ length old.bytes.items = omega (arith, c.requires, old.bytes.ok) in
     let kept = ap (λ v. v.items) c.doubt.ensures.bytes in
     let torn = torn_either c.overwrite.result c.args.at c.args.bytes.now old.bytes.items now fits
-      (subst (λ l. OnOk c.overwrite.result (now ≡ written c.args.at c.args.bytes.now l)) kept c.overwrite.ensures.ok)
-      (subst (λ l. OnErr c.overwrite.result (now ≡ l)) kept c.overwrite.ensures.err) in
+    (subst (λ l. OnOk c.overwrite.result (now ≡ written c.args.at c.args.bytes.now l)) kept c.overwrite.ensures.ok)
+    (subst (λ l. OnErr c.overwrite.result (now ≡ l)) kept c.overwrite.ensures.err) in
     on_err c.overwrite.result _ (inr (wrote old.touched new.touched old.doubts.items new.doubts.items old.bytes.items now c.in_ok-doubt.ensures.ok.0 old.short c.args.at (length c.args.bytes.now) c.in_ok-doubt.ensures.ok.1 fits torn))

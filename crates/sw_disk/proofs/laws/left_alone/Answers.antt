@@ -1,0 +1,14 @@
+use Rattle.sw_disk.proofs.Sure.{sure_synced, sure_asked, sure_written, sure_cut}
+use Rattle.sw_disk.proofs.laws.left_alone.Goals as goal
+
+pub returns-clause-synced : goal.returns-clause-synced
+returns-clause-synced g c disk part = sure_synced (g.D.Disk.seen disk) (g.D.Disk.may_leave disk) part
+
+pub returns-clause-asked : goal.returns-clause-asked
+returns-clause-asked g c old new part = sure_asked (g.D.Disk.seen old) (g.D.Disk.seen new) (g.D.Disk.may_leave old) (g.D.Disk.may_leave new) part
+
+pub returns-clause-written_elsewhere : goal.returns-clause-written_elsewhere
+returns-clause-written_elsewhere g c old new = sure_written (g.D.Disk.seen old) (g.D.Disk.seen new) (g.D.Disk.may_leave old) (g.D.Disk.may_leave new)
+
+pub returns-clause-cut_elsewhere : goal.returns-clause-cut_elsewhere
+returns-clause-cut_elsewhere g c old new = sure_cut (g.D.Disk.seen old) (g.D.Disk.seen new) (g.D.Disk.may_leave old) (g.D.Disk.may_leave new)
