@@ -4,6 +4,8 @@ ghost use Rattle.std.specs.Prelude.{◌≡◌, false};
 ghost use Rattle.std.specs.List.{list_all};
 ghost use Rattle.sw_rules.specs.Grammar as grammar;
 
+use crate::limits::TEXT_LIMIT;
+
 fn is_lower(byte: u8) -> bool
     ensures { result ≡ grammar.is_lower byte }
 {
@@ -45,5 +47,5 @@ fn is_plain_rest(bytes: &[u8]) -> bool
 pub fn is_plain_address(text: &[u8]) -> bool
     ensures { result ≡ grammar.is_plain_address text.now }
 {
-    text.len() <= 4096 && text.starts_with(b"https://") && is_plain_rest(text.split_at(8).1)
+    text.len() <= TEXT_LIMIT && text.starts_with(b"https://") && is_plain_rest(text.split_at(8).1)
 }

@@ -4,6 +4,7 @@ ghost use Rattle.std.specs.Prelude.{◌≡◌, IfOk};
 ghost use Rattle.serde_json.specs.View.{view};
 ghost use Rattle.sw_rules.specs.Grammar as grammar;
 
+use crate::limits::BODY_LIMIT;
 use crate::members::{address_member, has_only, name_member, number_member, text_member};
 use base64::DecodeAllocError;
 use base64::engine::general_purpose::STANDARD;
@@ -12,9 +13,6 @@ use std::alloc::Global;
 use sw_rules::{
     Action, Bytes, CacheMatch, CachePut, Items, NoMemory, Options, Place, Request, Response, Text,
 };
-
-/// The most bytes of a body.
-const BODY_LIMIT: usize = 1_048_576;
 
 /// A page's address without a partition.
 fn place_of(alloc: Global, at: &str) -> Result<Place, NoMemory>

@@ -5,6 +5,7 @@
 
 mod address;
 mod forms;
+mod limits;
 mod lines;
 mod members;
 mod recording;

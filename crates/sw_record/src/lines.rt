@@ -5,12 +5,10 @@ ghost use Rattle.std.specs.List.{list_all};
 ghost use Rattle.sw_rules.specs.Grammar as grammar;
 
 use crate::forms::action_of;
+use crate::limits::ACTIONS_LIMIT;
 use serde_json::Value;
 use std::alloc::{AllocError, Global};
 use sw_rules::{Action, Items, NoMemory};
-
-/// The most actions of a recording.
-pub const ACTIONS_LIMIT: usize = 65_536;
 
 /// Whether a byte is a space, a tab or a carriage return.
 fn is_blank(byte: u8) -> bool

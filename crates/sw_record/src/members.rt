@@ -7,6 +7,7 @@ ghost use Rattle.serde_json.specs.View.{view, members_view};
 ghost use Rattle.sw_rules.specs.Grammar as grammar;
 
 use crate::address::is_plain_address;
+use crate::limits::TEXT_LIMIT;
 use serde_json::{Map, Value};
 
 /// Whether a name is one of these.
@@ -60,5 +61,5 @@ pub fn address_member<'v>(name: &str, value: &'v Value) -> Option<&'v str>
 pub fn name_member(value: &Value) -> Option<&str>
     ensures { option_map (λ text. text.now) result ≡ grammar.name_member (view value.now) }
 {
-    text_member("name", value).filter(|text| text.len() <= 4096)
+    text_member("name", value).filter(|text| text.len() <= TEXT_LIMIT)
 }

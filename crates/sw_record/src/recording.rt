@@ -4,7 +4,8 @@ ghost use Rattle.std.specs.Prelude.{◌≡◌, Err, None, Some, IfOk};
 ghost use Rattle.sw_rules.specs.Grammar.{recording_of, IsBuiltRecording};
 ghost use Rattle.sw_record.specs.declared.recording.RecordingError.TheVariants as failure;
 
-use crate::lines::{ACTIONS_LIMIT, actions_of, first_lines};
+use crate::limits::ACTIONS_LIMIT;
+use crate::lines::{actions_of, first_lines};
 use std::alloc::{AllocError, Global};
 use sw_rules::{Items, NoMemory, Recording};
 
