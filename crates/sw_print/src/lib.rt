@@ -16,6 +16,8 @@ mod events;
 mod faults;
 mod lines;
 mod lists;
+#[cfg(test)]
+mod tests;
 
 /// The transcript of a history and its end, in UTF-8: a line for each entry in order, and the last line.
 pub fn print_history(alloc: Global, history: &[Entry], end: &End) -> Result<Text, NoMemory>

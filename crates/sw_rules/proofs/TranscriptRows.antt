@@ -54,7 +54,7 @@ call_row add = refl
 
 notices_row :
     line_of_entry (entry_of (event.Evaluated who.Host 0) answer.Installing
-        (notice.Worker 0 worker_state.Installing ∷ notice.Settled 0 (settlement.Registration 0) ∷ notice.UpdateFound 0 ∷ []))
+    (notice.Worker 0 worker_state.Installing ∷ notice.Settled 0 (settlement.Registration 0) ∷ notice.UpdateFound 0 ∷ []))
     ≡ codes "- evaluated j0 -> installing | w0 installing | settled j0 r0 | updatefound r0\n"
 unfolding digits
 notices_row = refl
@@ -67,52 +67,52 @@ two_lines place = refl
 
 ends_row : (place : Place) (put : CachePut) →
     map end_line
-        (end.Done ∷ end.Stalled 0 ∷ end.Disk [] ∷ end.Disk (event.CacheOpen (who.Lane 0 0) place [] ∷ event.Put (who.Lane 0 1) place put ∷ [])
-        ∷ end.Full (event.Run who.Host 3) ∷ end.Spent ∷ [])
+    (end.Done ∷ end.Stalled 0 ∷ end.Disk [] ∷ end.Disk (event.CacheOpen (who.Lane 0 0) place [] ∷ event.Put (who.Lane 0 1) place put ∷ [])
+    ∷ end.Full (event.Run who.Host 3) ∷ end.Spent ∷ [])
     ≡ codes "end done\n" ∷ codes "end stalled 0\n" ∷ codes "end disk\n" ∷ codes "end disk L0.0 cacheOpen, L0.1 put\n"
-        ∷ codes "end full - run j3\n" ∷ codes "end spent\n" ∷ []
+    ∷ codes "end full - run j3\n" ∷ codes "end spent\n" ∷ []
 unfolding digits
 ends_row place put = refl
 
 lists_row :
     map answer_text
-        (answer.Places (0 ∷ 1 ∷ 2 ∷ 3 ∷ 4 ∷ 5 ∷ 6 ∷ 7 ∷ 8 ∷ 9 ∷ 10 ∷ 11 ∷ 12 ∷ 13 ∷ 14 ∷ 15 ∷ 16 ∷ []) ∷ answer.Places [] ∷ answer.Registrations (0 ∷ 2 ∷ [])
-        ∷ answer.Names (codes "a" ∷ codes "b \"c\"" ∷ []) ∷ answer.Names [] ∷ [])
+    (answer.Places (0 ∷ 1 ∷ 2 ∷ 3 ∷ 4 ∷ 5 ∷ 6 ∷ 7 ∷ 8 ∷ 9 ∷ 10 ∷ 11 ∷ 12 ∷ 13 ∷ 14 ∷ 15 ∷ 16 ∷ []) ∷ answer.Places [] ∷ answer.Registrations (0 ∷ 2 ∷ [])
+    ∷ answer.Names (codes "a" ∷ codes "b \"c\"" ∷ []) ∷ answer.Names [] ∷ [])
     ≡ codes "17 0 1 2 3 4 5 6 7 8 9 10 11 12 13 14 15" ∷ codes "0" ∷ codes "2 r0 r2" ∷ codes "2 \"a\" \"b \\\"c\\\"\"" ∷ codes "0" ∷ []
 unfolding digits escape_byte
 lists_row = refl
 
 faults_row :
     map answer_text
-        (answer.Fault (fault.TypeError cause.Vary (Some 1)) ∷ answer.Fault (fault.TypeError cause.EscapedSlash None)
-        ∷ answer.Fault (fault.SecurityError security.ScriptOrigin) ∷ answer.Fault (fault.InvalidState state_cause.NoWorker)
-        ∷ answer.Fault (fault.InvalidStateAt 2) ∷ answer.Fault fault.Quota ∷ answer.Fault fault.CacheGone ∷ answer.Fault fault.NoRegistration ∷ [])
+    (answer.Fault (fault.TypeError cause.Vary (Some 1)) ∷ answer.Fault (fault.TypeError cause.EscapedSlash None)
+    ∷ answer.Fault (fault.SecurityError security.ScriptOrigin) ∷ answer.Fault (fault.InvalidState state_cause.NoWorker)
+    ∷ answer.Fault (fault.InvalidStateAt 2) ∷ answer.Fault fault.Quota ∷ answer.Fault fault.CacheGone ∷ answer.Fault fault.NoRegistration ∷ [])
     ≡ codes "TypeError vary 1" ∷ codes "TypeError escaped-slash" ∷ codes "SecurityError script-origin" ∷ codes "InvalidStateError no-worker"
-        ∷ codes "InvalidStateError 2" ∷ codes "QuotaExceededError" ∷ codes "CacheGone" ∷ codes "NoRegistration" ∷ []
+    ∷ codes "InvalidStateError 2" ∷ codes "QuotaExceededError" ∷ codes "CacheGone" ∷ codes "NoRegistration" ∷ []
 unfolding digits
 faults_row = refl
 
 answers_row :
     map answer_text
-        (answer.Truth true ∷ answer.Worker 1 ∷ answer.Registration 2 ∷ answer.Joined 4 3 ∷ answer.Fetch 5 ∷ answer.Preload true (codes "x") ∷ answer.Preload false (codes "true") ∷ [])
+    (answer.Truth true ∷ answer.Worker 1 ∷ answer.Registration 2 ∷ answer.Joined 4 3 ∷ answer.Fetch 5 ∷ answer.Preload true (codes "x") ∷ answer.Preload false (codes "true") ∷ [])
     ≡ codes "true" ∷ codes "w1" ∷ codes "r2" ∷ codes "j4 joined j3" ∷ codes "fetch 5" ∷ codes "on \"x\"" ∷ codes "off \"true\"" ∷ []
 unfolding digits escape_byte
 answers_row = refl
 
 more_notices :
     map notice_text
-        (notice.Mapped 0 ∷ notice.Unmapped 1 ∷ notice.Settled 2 (settlement.Truth false) ∷ notice.Settled 3 settlement.Done
-        ∷ notice.Settled 4 (settlement.Fault (fault.TypeError cause.Network None)) ∷ notice.ControllerChange 7 ∷ [])
+    (notice.Mapped 0 ∷ notice.Unmapped 1 ∷ notice.Settled 2 (settlement.Truth false) ∷ notice.Settled 3 settlement.Done
+    ∷ notice.Settled 4 (settlement.Fault (fault.TypeError cause.Network None)) ∷ notice.ControllerChange 7 ∷ [])
     ≡ codes "mapped r0" ∷ codes "unmapped r1" ∷ codes "settled j2 false" ∷ codes "settled j3 ok" ∷ codes "settled j4 TypeError network"
-        ∷ codes "controllerchange c7" ∷ []
+    ∷ codes "controllerchange c7" ∷ []
 unfolding digits
 more_notices = refl
 
 host_row :
     map mark
-        (event.Run who.Host 1 ∷ event.Fetched who.Host 1 None ∷ event.Installed who.Host 1 ∷ event.TryActivate who.Host 2 ∷ event.Activated who.Host 3
-        ∷ event.Added who.Host 4 [] ∷ event.Call (who.Handler 5 phase.Activate 0) call.Claim ∷ [])
+    (event.Run who.Host 1 ∷ event.Fetched who.Host 1 None ∷ event.Installed who.Host 1 ∷ event.TryActivate who.Host 2 ∷ event.Activated who.Host 3
+    ∷ event.Added who.Host 4 [] ∷ event.Call (who.Handler 5 phase.Activate 0) call.Claim ∷ [])
     ≡ codes "- run j1" ∷ codes "- fetched j1" ∷ codes "- installed j1" ∷ codes "- tryactivate r2" ∷ codes "- activated w3" ∷ codes "- added a4"
-        ∷ codes "w5.activate.0 claim" ∷ []
+    ∷ codes "w5.activate.0 claim" ∷ []
 unfolding digits
 host_row = refl
