@@ -40,7 +40,7 @@ https_kind : (scheme : List ℕ) → scheme ≡ codes "https" → scheme_type sc
 unfolding scheme_type default_port
 https_kind scheme e = ap scheme_type e
 
-special_kind : (scheme : List ℕ) → is_http scheme ≡ true → scheme_type scheme ≡ SpecialNotFile
+pub special_kind : (scheme : List ℕ) → is_http scheme ≡ true → scheme_type scheme ≡ SpecialNotFile
 special_kind scheme http =
     ⊎_elim (λ e. http_kind scheme ((bytes_eq-Decides scheme (codes "http")).0 e))
     (λ e. https_kind scheme ((bytes_eq-Decides scheme (codes "https")).0 e))

@@ -25,7 +25,7 @@ resolved_again base url base_text text base_parsed url_parsed base_valid url_val
     resolved_at (address_of other) some url
     (λ against. parse_url_idempotent (Some base) against text url (base_valid, canonical) url_valid url_ok)
 
-rule_is : {T : Type 0} (rule : Option T) (x : T) → ok_or rule Unparsed ≡ Ok x → rule ≡ Some x
+pub rule_is : {T : Type 0} (rule : Option T) (x : T) → ok_or rule Unparsed ≡ Ok x → rule ≡ Some x
 rule_is None x e = cc
 rule_is (Some found) x e = cc
 

@@ -11,7 +11,7 @@ mod trust;
 
 pub use address::{resolve, scope_url, script_url, without_fragment, without_query};
 pub use fault::UrlFault;
-pub use origin::{key_of, max_scope};
+pub use origin::{is_within_bound, key_of, max_scope};
 pub use trust::is_trustworthy;
 
 #[cfg(test)]

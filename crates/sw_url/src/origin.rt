@@ -1,8 +1,8 @@
 //! Storage keys and the bound of a scope.
 
 ghost use Rattle.std.specs.Prelude.{◌≡◌, ◌++◌, codes, string_bytes, IfOk, option_and_then, option_copied, option_map};
-ghost use Rattle.sw_rules.specs.Addresses.{address_of, allowed_bound, joined, parsed_against, parsed_origin, equal_origins, path_of, path_of_same_origin, origin_of, scope_bound};
-ghost use Rattle.sw_rules.specs.Keys.{key_of, partitioned};
+ghost use Rattle.sw_rules.specs.Addresses.{address_of, allowed_bound, joined, parsed_against, parsed_origin, equal_origins, is_within_bound, path_of, path_of_same_origin, origin_of, scope_bound};
+ghost use Rattle.sw_rules.specs.Keys.{key_of, key_origin, partitioned};
 
 use crate::fault::UrlFault;
 use crate::parsing::{is_http, joined, parsed, parsed_against};
@@ -21,7 +21,10 @@ pub fn key_of(
     address: &Text,
     partition: Option<&Text>,
 ) -> Result<Option<Text>, NoMemory>
-    ensures { IfOk result (λ key. key ≡ key_of address.now (option_copied partition.entry)) }
+    ensures key { IfOk result (λ key. key ≡ key_of address.now (option_copied partition.entry)) }
+
+    // A key's origin, which is what stands before its first `^`, is its address's origin.
+    ensures origin { IfOk result (λ key. option_map key_origin key ≡ origin_of address.now) }
 {
     match parsed(alloc, address.as_str()) {
         Ok(url) => match origin(alloc, &url)? {
@@ -49,6 +52,19 @@ pub fn max_scope(
     match allowed {
         Some(value) => allowed_bound(alloc, value.as_str(), script.as_str()),
         None => default_bound(alloc, script.as_str()),
+    }
+}
+
+/// The path of the scope starts with the bound, byte for byte (Service Workers, "Update"). A scope
+/// that doesn't parse isn't within.
+#[tactic(auto, unfolding(sw_rules::specs::Addresses::is_within_bound))]
+pub fn is_within_bound(alloc: Global, scope: &Text, bound: &Text) -> Result<bool, NoMemory>
+    ensures { IfOk result (λ within. within ≡ is_within_bound scope.now bound.now) }
+{
+    match parsed(alloc, scope.as_str()) {
+        Ok(url) => Ok(url.path().as_bytes().starts_with(bound.as_bytes())),
+        Err(UrlFault::NoMemory) => Err(NoMemory),
+        Err(_) => Ok(false),
     }
 }
 

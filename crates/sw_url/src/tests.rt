@@ -1,8 +1,8 @@
 //! The cases that a browser meets, as tables. The values are those of the URL Standard and of
 //! Secure Contexts.
 use crate::{
-    UrlFault, is_trustworthy, key_of, max_scope, resolve, scope_url, script_url, without_fragment,
-    without_query,
+    UrlFault, is_trustworthy, is_within_bound, key_of, max_scope, resolve, scope_url, script_url,
+    without_fragment, without_query,
 };
 use std::alloc::Global;
 use std::test::Fail;
@@ -130,6 +130,23 @@ fn bounds(rt: HostRuntime) -> Result<(), Fail> {
         let given = text_or_none(alloc, allowed)?;
         let answer = max_scope(alloc, &Text::of(alloc, script)?, given.as_ref())?;
         assert!(rt; tells(answer, want), "{script}");
+    }
+    Ok(())
+}
+
+#[test]
+fn is_within(rt: HostRuntime) -> Result<(), Fail> {
+    let alloc = rt.alloc();
+    for (scope, bound, want) in [
+        ("https://a.test/d/e?q", "/d/", true),
+        ("https://a.test/d/", "/d/", true),
+        ("https://a.test/d", "/d/", false),
+        ("https://a.test/D/", "/d/", false),
+        ("https://a.test/e?/d/", "/d/", false),
+        ("/d/", "/d/", false),
+    ] {
+        let within = is_within_bound(alloc, &Text::of(alloc, scope)?, &Text::of(alloc, bound)?)?;
+        assert_eq!(rt; within, want, "{scope}");
     }
     Ok(())
 }
