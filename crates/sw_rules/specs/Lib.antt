@@ -1,3 +1,5 @@
+pub mod Content
 pub mod DiskRule
 pub mod Faults
+pub mod Format
 pub mod Image
