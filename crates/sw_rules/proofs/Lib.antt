@@ -1,1 +1,3 @@
+pub mod PartChanges
+pub mod PartLemmas
 mod WorkedParts

@@ -1,5 +1,5 @@
 -- What the bytes of a journal's part stand for.
-use Rattle.std.specs.Prelude.{ℕ, zero, suc, ◌+◌, ◌==◌, ◌&&◌, nat_lt, Bool, true, false, List, [], ◌∷◌, ◌++◌, length, take, drop, Option, Some, None, if◌then◌else◌}
+use Rattle.std.specs.Prelude.{◌≡◌, ℕ, zero, suc, ◌+◌, ◌==◌, ◌&&◌, nat_lt, Bool, true, false, List, [], ◌∷◌, ◌++◌, length, take, drop, Option, Some, None, if◌then◌else◌}
 use Rattle.std.specs.Int.{w32, from_be_bytes}
 use Rattle.sw_rules.specs.Format.{Format, format_of, is_numbered}
 
@@ -64,3 +64,13 @@ content_by (Some format) bytes = content_of_reading (reading format bytes)
 
 unfoldable pub content : List ℕ → Content
 content bytes = content_by (format_of bytes) bytes
+
+-- own: the reading of these records, up to a closed gate
+abbrev pub up_to : List (ℕ × List ℕ) → ℕ → Reading
+up_to records gate = record { records = records; gate = gate; is_closed = true }
+
+-- own: a part of this format: its header is there, these records with open gates are whole, and behind them stands the first
+-- closed gate
+pub record IsPart (format : Format) (records : List (ℕ × List ℕ)) (gate : ℕ) (bytes : List ℕ) : Type 0 where
+  pub header : format_of bytes ≡ Some format
+  pub reads : reading format bytes ≡ up_to records gate
