@@ -1,0 +1,4 @@
+//! A journal over one part of a disk: records behind gates, each on the disk whole before its gate is opened.
+#![tactic(auto)]
+
+mod gate;
