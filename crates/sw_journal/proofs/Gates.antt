@@ -5,7 +5,8 @@ use Rattle.sw_rules.specs.declared.disk.Part.{Part}
 use Rattle.sw_rules.specs.Image.{Image, get, put}
 use Rattle.sw_rules.specs.DiskRule.{ForTold, Tells, OnPart, Only, Follows, Torn, written}
 use Rattle.sw_disk.proofs.Tears.{torn_within}
-use Rattle.sw_journal.specs.Gate.{HasBehind, IsOpened, IsTornRecord, Stepped}
+use Rattle.sw_rules.specs.Journal.{Stepped}
+use Rattle.sw_journal.specs.Gate.{HasBehind, IsOpened, IsTornRecord}
 use Rattle.sw_journal.proofs.Images.{told_at, told_next, two_steps, done}
 
 -- the record stands behind the gate once it is written

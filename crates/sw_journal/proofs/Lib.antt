@@ -1,2 +1,3 @@
+mod Appends
 mod Gates
 mod Images

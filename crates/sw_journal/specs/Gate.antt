@@ -1,8 +1,5 @@
 -- What a part's bytes become while a record is written behind its closed gate and the gate is opened.
 use Rattle.std.specs.Prelude.{◌≡◌, ◌⊎◌, ◌+◌, ℕ, List, [], ◌∷◌, ◌++◌, take, drop}
-use Rattle.sw_rules.specs.declared.disk.Part.{Part}
-use Rattle.sw_rules.specs.Image.{Image}
-use Rattle.sw_rules.specs.DiskRule.{OnPart}
 
 -- own: all bytes before the gate stay, some byte stands as the gate, and this record is whole behind it
 pub record HasBehind (gate : ℕ) (bytes : List ℕ) (old new : List ℕ) : Type 0 where
@@ -20,7 +17,3 @@ pub record IsOpened (gate : ℕ) (bytes : List ℕ) (old new : List ℕ) : Type 
 -- own: the gate and all before it stay, or the record is whole behind the gate
 abbrev pub IsTornRecord : ℕ → List ℕ → List ℕ → List ℕ → Type 0
 IsTornRecord gate bytes old new = (take (gate + 1) new ≡ take (gate + 1) old) ⊎ HasBehind gate bytes old new
-
--- own: an image that comes, by this step of a part, from one that a crash might have left before
-abbrev pub Stepped : Part → (List ℕ → List ℕ → Type 0) → (Image → Type 0) → Image → Type 0
-Stepped part step may_leave c = (d : Image) × may_leave d × OnPart part step d c

@@ -3,7 +3,8 @@
 ghost use Rattle.std.specs.Prelude.{◌≡◌, ◌+◌, ◌-◌, ◌^◌, ◌<◌, min, length, OnOk};
 ghost use Rattle.sw_rules.specs.Image.{get};
 ghost use Rattle.sw_rules.specs.DiskRule.{ForTold, Tells, OnPart, Only, HasCause, LeavesOnly};
-ghost use Rattle.sw_journal.specs.Gate.{IsOpened, IsTornRecord, Stepped};
+ghost use Rattle.sw_rules.specs.Journal.{Stepped};
+ghost use Rattle.sw_journal.specs.Gate.{IsOpened, IsTornRecord};
 
 use sw_disk::{Disk, Failed};
 use sw_rules::Part;

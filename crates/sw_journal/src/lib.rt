@@ -2,3 +2,7 @@
 #![tactic(auto)]
 
 mod gate;
+mod journal;
+mod version;
+
+pub use journal::{AppendError, Journal};

@@ -3,3 +3,4 @@ pub mod DiskRule
 pub mod Faults
 pub mod Format
 pub mod Image
+pub mod Journal

@@ -2,7 +2,8 @@ use Rattle.std.proofs.Common.{◌≡◌, ◌+◌, ◌<◌, [], ◌∷◌, length
 use Rattle.sw_rules.specs.Image.{Image, get, put}
 use Rattle.sw_rules.specs.DiskRule.{ForTold, Tells, OnPart, Only, Follows, Torn, LeavesOnly, written}
 use Rattle.sw_disk.proofs.Moments.{started, goes_on}
-use Rattle.sw_journal.specs.Gate.{HasBehind, IsTornRecord, IsOpened, Stepped}
+use Rattle.sw_rules.specs.Journal.{Stepped}
+use Rattle.sw_journal.specs.Gate.{HasBehind, IsTornRecord, IsOpened}
 use Rattle.sw_journal.proofs.Images.{told_some, told_at, tells_then, on_ok, done}
 use Rattle.sw_journal.proofs.Gates.{first_crash, staged_behind, staged, second_crash, opened}
 use Rattle.sw_journal.proofs.gate.add_record.Goals as goal
