@@ -65,3 +65,7 @@ done part step bytes old new is stepped =
       here = subst (step (get part old)) (sym there) stepped;
       elsewhere = is ∙ ap (λ b. put part b old) (sym there);
     }
+
+pub told_both : (seen : Option Image) (P Q R : Image → Type 0) → ForTold seen P → ForTold seen Q → ((image : Image) → seen ≡ Some image → P image → Q image → R image) → ForTold seen R
+told_both None P Q R one two each = tt
+told_both (Some image) P Q R one two each = each image refl one two

@@ -1,3 +1,5 @@
 mod Appends
 mod Gates
 mod Images
+mod ParseSteps
+mod ReadLemmas

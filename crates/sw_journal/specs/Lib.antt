@@ -1,2 +1,3 @@
 pub mod Gate
+pub mod Quiet
 pub mod Version

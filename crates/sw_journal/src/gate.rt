@@ -10,7 +10,7 @@ use sw_disk::{Disk, Failed};
 use sw_rules::Part;
 
 // The gate's byte once the record behind it is on the disk.
-const OPEN: u8 = 1;
+pub(crate) const OPEN: u8 = 1;
 
 /// Writes a record behind the closed gate, and opens the gate once the record is on the disk. `bytes` is what
 /// stands behind the gate, with the next gate, which is closed.

@@ -3,6 +3,8 @@
 
 mod gate;
 mod journal;
+mod parse;
+mod read;
 mod version;
 
 pub use journal::{AppendError, Journal};

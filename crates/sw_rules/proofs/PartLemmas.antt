@@ -1,5 +1,5 @@
 -- How a part reads: gate by gate, and when its bytes change behind a gate.
-use Rattle.std.proofs.Common.{◌≡◌, ◌≢◌, ◌⊎◌, inl, inr, ⊎_elim, ℕ, zero, suc, ◌+◌, ◌-◌, ◌<◌, ◌≤◌, Bool, true, false, List, [], ◌∷◌, ◌++◌, length, take, drop, Option, Some, None, refl, sym, ◌∙◌, ap, subst, arith, length-append, length-drop, length-take, take-append-drop}
+use Rattle.std.proofs.Common.{◌≡◌, ◌≢◌, ◌⊎◌, inl, inr, ⊎_elim, ℕ, zero, suc, ◌+◌, ◌-◌, ◌<◌, ◌≤◌, Bool, true, false, List, [], ◌∷◌, ◌++◌, length, take, drop, Option, Some, None, refl, sym, ◌∙◌, ap, subst, arith, append_assoc, length-drop}
 use Rattle.std.specs.Prelude.{◌==◌, ◌&&◌, nat_lt, if◌then◌else◌}
 use Rattle.std.specs.Int.{w32, w64, to_be_bytes, from_be_bytes}
 use Rattle.std.proofs.lemmas.List.{append-nil, take_at, drop_at, take_all, drop_all, drop-drop, drop-take}
@@ -224,3 +224,29 @@ splits_within (suc steps) format number gate (byte ∷ rest) few = elim (cases_e
 
 pub splits : (format : Format) (number gate : ℕ) (bytes : List ℕ) → Splits format number gate bytes (reading_from format number gate bytes)
 splits format number gate bytes = splits_within (length bytes) format number gate bytes (omega arith)
+
+-- where a record is not whole
+pub payload_length-short : (format : Format) (number : ℕ) (bytes : List ℕ) → length bytes ≤ 4 + format.width + from_be_bytes w32 (take 4 bytes) → payload_length format number bytes ≡ None
+unfolding payload_length
+payload_length-short format number bytes short =
+    let told = from_be_bytes w32 (take 4 bytes) in
+    let fits : nat_lt (4 + format.width + told) (length bytes) ≡ false = not_less (4 + format.width + told) (length bytes) short in
+    ap (λ (b : Bool). if b && is_numbered format number (take format.width (drop 4 bytes)) then Some told else None) fits
+  where
+    not_less : (m n : ℕ) → n ≤ m → nat_lt m n ≡ false
+    not_less m n e = grind (arith, nat_tests)
+
+pub payload_length-unnumbered : (format : Format) (number : ℕ) (bytes : List ℕ) → is_numbered format number (take format.width (drop 4 bytes)) ≡ false → payload_length format number bytes ≡ None
+unfolding payload_length
+payload_length-unnumbered format number bytes other =
+    let told = from_be_bytes w32 (take 4 bytes) in
+    ap (λ (b : Bool). if b then Some told else None) (neither (nat_lt (4 + format.width + told) (length bytes)) (is_numbered format number (take format.width (drop 4 bytes))) other)
+  where
+    neither : (a b : Bool) → b ≡ false → (a && b) ≡ false
+    neither true b e = e
+    neither false b e = refl
+
+-- one record after others
+pub preceded-push : (records : List (ℕ × List ℕ)) (one : ℕ × List ℕ) (later : Reading) → preceded records (preceded (one ∷ []) later) ≡ preceded (records ++ one ∷ []) later
+preceded-push records one later =
+    ap (λ (l : List (ℕ × List ℕ)). record { records = l; gate = later.gate; is_closed = later.is_closed }) (sym (append_assoc records (one ∷ []) later.records))
