@@ -1,14 +1,16 @@
 //! The journal of one part.
 
-ghost use Rattle.std.specs.Prelude.{◌≡◌, ◌↔◌, ◌+◌, ◌-◌, ◌^◌, ◌<◌, ◌≤◌, ◌++◌, ◌∷◌, [], ℕ, min, length, vec_len, vec_capacity, IsErrOf, IsTrue, OnOk, OnErr};
+ghost use Rattle.std.specs.Prelude.{◌≡◌, ◌↔◌, ◌+◌, ◌-◌, ◌^◌, ◌<◌, ◌≤◌, ◌++◌, ◌∷◌, [], ℕ, min, length, vec_len, vec_capacity, IfOk, IsErrOf, IsTrue, OnOk, OnErr};
 ghost use Rattle.sw_rules.specs.Image.{Image, get};
 ghost use Rattle.sw_rules.specs.DiskRule.{ForTold, Tells, OnPart, Only, LeavesOnly};
 ghost use Rattle.sw_rules.specs.Faults.{Rose};
 ghost use Rattle.sw_rules.specs.Format.{format_2, needed_length, record_bytes};
 ghost use Rattle.sw_rules.specs.Journal.{StandsFor, HasMore, HasSameOrMore, Stepped};
+ghost use Rattle.sw_journal.specs.Version.{format_at};
 
 use crate::gate::add_record;
 use crate::version::Version;
+use std::alloc::Global;
 use std::marker::Model;
 use sw_disk::{Disk, Failed};
 use sw_rules::{NoMemory, Part};
@@ -56,6 +58,34 @@ pub enum AppendError {
 }
 
 impl Journal {
+    /// A journal whose first closed gate stands at `gate`, behind `count` records.
+    pub(crate) fn standing(
+        alloc: Global,
+        part: Part,
+        version: Version,
+        limit: u64,
+        gate: u64,
+        count: u64,
+    ) -> Result<Journal, NoMemory>
+        requires limit { limit ≤ 2 ^ 32 }
+        requires gate { gate < 2 ^ 63 }
+        requires count { count ≤ gate }
+        ensures part { IfOk result (λ j. j.part ≡ part) }
+        ensures format { IfOk result (λ j. j.format ≡ format_at version) }
+        ensures gate { IfOk result (λ j. j.gate ≡ gate) }
+        ensures count { IfOk result (λ j. j.count ≡ count) }
+        ensures limit { IfOk result (λ j. j.limit ≡ limit) }
+    {
+        Ok(Journal {
+            part,
+            version,
+            gate,
+            count,
+            limit,
+            buffer: Vec::with_capacity(alloc, OVERHEAD as usize)?,
+        })
+    }
+
     /// The part's format, 1 or 2.
     pub fn format(&self) -> u8
         ensures { result ≡ self.now.format.version }

@@ -2,9 +2,13 @@
 #![tactic(auto)]
 
 mod gate;
+mod formatting;
 mod journal;
 mod parse;
 mod read;
+mod reopening;
 mod version;
 
+pub use formatting::{InitError, init};
 pub use journal::{AppendError, Journal};
+pub use reopening::ReopenError;

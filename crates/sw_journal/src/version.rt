@@ -1,6 +1,6 @@
 //! The two formats of a part.
 
-ghost use Rattle.std.specs.Prelude.{◌≡◌, MatchOption, Some, None};
+ghost use Rattle.std.specs.Prelude.{◌≡◌, ◌≤◌, length, MatchOption, IsSome, Some, None};
 ghost use Rattle.sw_rules.specs.Format.{format_of};
 ghost use Rattle.sw_journal.specs.Version.{format_at};
 
@@ -23,7 +23,8 @@ impl Version {
     /// The format whose header these bytes begin with.
     #[tactic(auto, unfolding(sw_rules::specs::Format::format_of))]
     pub(crate) fn of(bytes: &[u8]) -> Option<Version>
-        ensures { MatchOption result (format_of bytes.now ≡ None) (λ version. format_of bytes.now ≡ Some (format_at version)) }
+        ensures long { IsSome result → 16 ≤ length bytes.now }
+        ensures format { MatchOption result (format_of bytes.now ≡ None) (λ version. format_of bytes.now ≡ Some (format_at version)) }
     {
         if bytes.starts_with(&HEADER_2) {
             Some(Version::Two)

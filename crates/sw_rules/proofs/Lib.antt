@@ -1,3 +1,4 @@
+pub mod FreshParts
 pub mod PartChanges
 pub mod PartLemmas
 mod WorkedParts

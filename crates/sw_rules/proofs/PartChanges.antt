@@ -8,7 +8,7 @@ use Rattle.std.proofs.lemmas.Bool.{cases_eq}
 use Rattle.std.proofs.lemmas.Bool.Decides.{nat_tests}
 use Rattle.std.proofs.lemmas.Nat.{from_be_bytes-to_be_bytes_4, from_be_bytes-to_be_bytes_8}
 use Rattle.sw_rules.specs.Format.{Format, format_1, format_2, format_of, is_numbered, record_bytes, number_bytes, needed_length}
-use Rattle.sw_rules.specs.Content.{Content, Records, Reading, ends, preceded, payload_length, reading_from, reading, content, content_by, content_of_reading, up_to, IsPart}
+use Rattle.sw_rules.specs.Content.{Content, NotFormatted, Records, Reading, ends, preceded, payload_length, reading_from, reading, content, content_by, content_of_reading, up_to, IsPart}
 use Rattle.sw_rules.proofs.PartLemmas.{reading_from-nil, reading_from-closed, reading_from-record, Whole, is_whole, same_front, same_middle, Splits, splits}
 
 -- a format's number is 0 or 8 bytes wide
@@ -162,3 +162,12 @@ opened_adds format wide records gate bytes other part front payload next rest sm
       ∙ (λ i. preceded records (preceded ((gate, payload_is i) ∷ []) (reading_from format (number + 1) later (rest_is i))))
       ∙ ap (λ (r : Reading). preceded records (preceded ((gate, payload) ∷ []) r)) (reading_from-closed format (number + 1) later next rest shut);
     }
+
+-- a part's content, by its header and its reading
+pub content-unformatted : (bytes : List ℕ) → format_of bytes ≡ None → content bytes ≡ NotFormatted
+unfolding content
+content-unformatted bytes none = ap (λ (f : Option Format). content_by f bytes) none
+
+pub content-reads : (format : Format) (bytes : List ℕ) (r : Reading) → format_of bytes ≡ Some format → reading format bytes ≡ r → content bytes ≡ content_of_reading r
+unfolding content
+content-reads format bytes r header reads = ap (λ (f : Option Format). content_by f bytes) header ∙ ap content_of_reading reads

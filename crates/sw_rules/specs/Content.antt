@@ -1,5 +1,5 @@
 -- What the bytes of a journal's part stand for.
-use Rattle.std.specs.Prelude.{◌≡◌, ℕ, zero, suc, ◌+◌, ◌==◌, ◌&&◌, nat_lt, Bool, true, false, List, [], ◌∷◌, ◌++◌, length, take, drop, Option, Some, None, if◌then◌else◌}
+use Rattle.std.specs.Prelude.{◌≡◌, ◌⊎◌, ℕ, zero, suc, ◌+◌, ◌==◌, ◌&&◌, nat_lt, Bool, true, false, List, [], ◌∷◌, ◌++◌, length, take, drop, Option, Some, None, if◌then◌else◌}
 use Rattle.std.specs.Int.{w32, from_be_bytes}
 use Rattle.sw_rules.specs.Format.{Format, format_of, is_numbered}
 
@@ -74,3 +74,7 @@ up_to records gate = record { records = records; gate = gate; is_closed = true }
 pub record IsPart (format : Format) (records : List (ℕ × List ℕ)) (gate : ℕ) (bytes : List ℕ) : Type 0 where
   pub header : format_of bytes ≡ Some format
   pub reads : reading format bytes ≡ up_to records gate
+
+-- own: a part without a record: it isn't formatted, or it is and has none
+abbrev pub IsFresh : List ℕ → Type 0
+IsFresh bytes = (content bytes ≡ NotFormatted) ⊎ (content bytes ≡ Records [])
