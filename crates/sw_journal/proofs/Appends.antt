@@ -1,13 +1,14 @@
 -- What a part stands for while a record is added.
-use Rattle.std.proofs.Common.{◌≡◌, ◌≢◌, ◌⊎◌, inl, inr, ℕ, ◌+◌, ◌^◌, ◌<◌, ◌≤◌, List, [], ◌∷◌, ◌++◌, length, take, drop, Option, Some, None, refl, sym, ◌∙◌, ap, subst, arith, append_assoc, length-append}
+use Rattle.std.proofs.Common.{◌≡◌, ◌≢◌, ◌⊎◌, inl, inr, ℕ, ◌+◌, ◌-◌, ◌^◌, ◌<◌, ◌≤◌, List, [], ◌∷◌, ◌++◌, length, take, drop, Option, Some, None, refl, sym, ◌∙◌, ap, subst, arith, append_assoc, length-append}
 use Rattle.std.proofs.lemmas.Bool.{cases_eq}
 use Rattle.sw_rules.specs.declared.disk.Part.{Part}
 use Rattle.sw_rules.specs.Image.{Image, get}
 use Rattle.sw_rules.specs.DiskRule.{ForTold, Tells, OnPart, Only}
 use Rattle.sw_rules.specs.Format.{Format, format_2, record_bytes, needed_length}
 use Rattle.sw_rules.specs.Content.{IsPart}
-use Rattle.sw_rules.specs.Journal.{JournalState, StandsIn, StandsFor, HasMore, HasSameOrMore, Stepped}
+use Rattle.sw_rules.specs.Journal.{JournalState, StandsIn, StandsFor, HasMore, HasSameOrMore, Since, Stepped}
 use Rattle.sw_rules.proofs.PartChanges.{HasWidth, gate_there, closed_still, closed_kept, opened_adds}
+use Rattle.sw_journal.proofs.Images.{put-get}
 use Rattle.sw_journal.specs.Gate.{HasBehind, IsOpened, IsTornRecord}
 
 -- a gate of 0 is closed
@@ -23,6 +24,16 @@ pub inside : (journal : JournalState) (seen : Option Image) (may_leave : Image �
 inside journal None may_leave stands = tt
 inside journal (Some image) may_leave stands =
     let in_it = stands.0 in gate_there journal.format in_it.0 journal.gate (get journal.part image) in_it.2
+
+-- what a crash might have left before has the same records
+pub unchanged : (journal : JournalState) (payload : List ℕ) (before : Image → Type 0) → ((d : Image) → before d → StandsIn journal (get journal.part d))
+    → (c : Image) → before c → Stepped journal.part (HasSameOrMore journal payload) before c
+unchanged journal payload before stands c was =
+    let here = stands c was in
+    (c, was, record {
+      here = record { records = here.0; count = here.1; was = here.2; now = inl here.2 };
+      elsewhere = sym (put-get journal.part c);
+    })
 
 module _ (journal : JournalState) (payload : List ℕ) (is_2 : journal.format ≡ format_2) (few : journal.count < 2 ^ 64) (short : length payload < 2 ^ 32) where
   wide : HasWidth journal.format.width
@@ -94,3 +105,13 @@ module _ (journal : JournalState) (payload : List ℕ) (is_2 : journal.format �
   stands_for_more next part format gate count (Some a) (Some b) next_leave tells only =
       let here : StandsIn next (get next.part b) = subst (λ p. StandsIn next (get p b)) (sym part) (stands_more next format gate count (get journal.part a) (get journal.part b) tells.here) in
       (here, λ c left. subst (λ i. StandsIn next (get next.part i)) (sym (only c left)) here)
+
+  -- what reads give is all that a crash leaves
+  pub acknowledged : {D : Type 0} (clock : D → ℕ) (left_since : D → ℕ → Image → Type 0) (may_leave : D → Image → Type 0) (end : D) (seen next_seen : Option Image)
+      → ((c : Image) → clock end < 2 ^ 64 - 1 → left_since end (clock end) c → may_leave end c)
+      → Tells seen next_seen (OnPart journal.part (HasMore journal payload)) → ForTold next_seen (λ image. Only image (may_leave end))
+      → ForTold seen (λ image. Since clock left_since end end (OnPart journal.part (HasMore journal payload) image))
+  acknowledged clock left_since may_leave end None next_seen only_now tells only = tt
+  acknowledged clock left_since may_leave end (Some a) None only_now tells only = absurd tells
+  acknowledged clock left_since may_leave end (Some a) (Some b) only_now tells only =
+      λ going c left. subst (OnPart journal.part (HasMore journal payload) a) (sym (only c (only_now c going left))) tells

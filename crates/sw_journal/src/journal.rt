@@ -5,7 +5,7 @@ ghost use Rattle.sw_rules.specs.Image.{Image, get};
 ghost use Rattle.sw_rules.specs.DiskRule.{ForTold, Tells, OnPart, Only, LeavesOnly};
 ghost use Rattle.sw_rules.specs.Faults.{Rose};
 ghost use Rattle.sw_rules.specs.Format.{format_2, needed_length, record_bytes};
-ghost use Rattle.sw_rules.specs.Journal.{StandsFor, HasMore, HasSameOrMore, Stepped};
+ghost use Rattle.sw_rules.specs.Journal.{StandsFor, HasMore, HasSameOrMore, Since, Stepped};
 ghost use Rattle.sw_journal.specs.Version.{format_at};
 
 use crate::gate::add_record;
@@ -143,11 +143,15 @@ impl Journal {
         // After Ok the record is on the disk.
         ensures added { OnOk result (Tells (D.seen disk.old) (D.seen disk.new) (OnPart self.old.part (HasMore self.old payload.now))) }
         ensures durable { OnOk result (ForTold (D.seen disk.new) (λ image. Only image (D.may_leave disk.new))) }
+        ensures acknowledged { OnOk result (ForTold (D.seen disk.old) (λ image. Since D.clock D.left_since disk.new disk.new
+            (OnPart self.old.part (HasMore self.old payload.now) image))) }
         ensures stands { OnOk result (StandsFor self.new (D.seen disk.new) (D.may_leave disk.new)) }
 
         // At every moment of the call a crash leaves the records as they were, or these and the new one, and the
         // other parts as it might have left them before.
         ensures any_moment { ForTold (D.seen disk.old) (λ image. LeavesOnly D.clock D.left_since disk.old disk.new
+            (Stepped self.old.part (HasSameOrMore self.old payload.now) (D.may_leave disk.old))) }
+        ensures since_entry { ForTold (D.seen disk.old) (λ image. Since D.clock D.left_since disk.old disk.new
             (Stepped self.old.part (HasSameOrMore self.old payload.now) (D.may_leave disk.old))) }
 
         ensures calls { OnOk result (D.clock disk.new ≡ min (D.clock disk.old + 4) (2 ^ 64 - 1)) }

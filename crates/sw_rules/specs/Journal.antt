@@ -1,5 +1,5 @@
 -- What a journal of one part stands for.
-use Rattle.std.specs.Prelude.{◌≡◌, ◌⊎◌, ◌+◌, ℕ, List, [], ◌∷◌, ◌++◌, length, Option}
+use Rattle.std.specs.Prelude.{◌≡◌, ◌⊎◌, ◌+◌, ◌-◌, ◌^◌, ◌<◌, ℕ, List, [], ◌∷◌, ◌++◌, length, Option}
 use Rattle.sw_rules.specs.declared.disk.Part.{Part}
 use Rattle.sw_rules.specs.Image.{Image, get}
 use Rattle.sw_rules.specs.DiskRule.{ForTold, OnPart}
@@ -45,3 +45,7 @@ pub record HasSameOrMore (journal : JournalState) (payload old new : List ℕ) :
 -- own: an image that comes, by such a step of one part, from one that a crash might have left before
 abbrev pub Stepped : Part → (List ℕ → List ℕ → Type 0) → (Image → Type 0) → Image → Type 0
 Stepped part step before c = (d : Image) × before d × OnPart part step d c
+
+-- own: where the clock still went at a moment, a crash since then leaves nothing but what has P
+abbrev pub Since : {D : Type 0} → (D → ℕ) → (D → ℕ → Image → Type 0) → D → D → (Image → Type 0) → Type 0
+Since clock left_since moment now P = clock moment < 2 ^ 64 - 1 → (c : Image) → left_since now (clock moment) c → P c
