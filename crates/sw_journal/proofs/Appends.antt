@@ -29,11 +29,14 @@ inside journal (Some image) may_leave stands =
 pub unchanged : (journal : JournalState) (payload : List ℕ) (before : Image → Type 0) → ((d : Image) → before d → StandsIn journal (get journal.part d))
     → (c : Image) → before c → Stepped journal.part (HasSameOrMore journal payload) before c
 unchanged journal payload before stands c was =
-    let here = stands c was in
-    (c, was, record {
-      here = record { records = here.0; count = here.1; was = here.2; now = inl here.2 };
-      elsewhere = sym (put-get journal.part c);
-    })
+    let here = stands c was in (
+      c,
+      was,
+      record {
+        here = record { records = here.0; count = here.1; was = here.2; now = inl here.2 };
+        elsewhere = sym (put-get journal.part c);
+      },
+    )
 
 module _ (journal : JournalState) (payload : List ℕ) (is_2 : journal.format ≡ format_2) (few : journal.count < 2 ^ 64) (short : length payload < 2 ^ 32) where
   wide : HasWidth journal.format.width
@@ -84,10 +87,11 @@ module _ (journal : JournalState) (payload : List ℕ) (is_2 : journal.format �
   -- with the record the journal that counts it stands for the part
   pub stands_more : (next : JournalState) → next.format ≡ journal.format → next.gate ≡ journal.gate + needed_length journal.format (length payload) → next.count ≡ journal.count + 1
       → (old new : List ℕ) → HasMore journal payload old new → StandsIn next new
-  stands_more next format gate count old new more =
-      (more.records ++ (journal.gate, payload) ∷ [],
-        omega (arith, more.count, count, length-append more.records ((journal.gate, payload) ∷ [])),
-        subst (λ g. IsPart next.format (more.records ++ (journal.gate, payload) ∷ []) g new) (sym gate) (subst (λ f. IsPart f (more.records ++ (journal.gate, payload) ∷ []) (journal.gate + needed_length journal.format (length payload)) new) (sym format) more.now))
+  stands_more next format gate count old new more = (
+    more.records ++ (journal.gate, payload) ∷ [],
+    omega (arith, more.count, count, length-append more.records ((journal.gate, payload) ∷ [])),
+    subst (λ g. IsPart next.format (more.records ++ (journal.gate, payload) ∷ []) g new) (sym gate) (subst (λ f. IsPart f (more.records ++ (journal.gate, payload) ∷ []) (journal.gate + needed_length journal.format (length payload)) new) (sym format) more.now),
+  )
 
   pub added : (seen next_seen : Option Image) (may_leave : Image → Type 0) → StandsFor journal seen may_leave
       → Tells seen next_seen (OnPart journal.part (IsOpened journal.gate (spelled journal payload))) → Tells seen next_seen (OnPart journal.part (HasMore journal payload))

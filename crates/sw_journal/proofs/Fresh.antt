@@ -60,7 +60,7 @@ module _ (part : Part) where
       let from = follows c left in
       let step : OnPart part (Torn (length (get part next)) 0 16) next c = subst (λ d. OnPart part (Torn (length (get part next)) 0 16) d c) (sure from.0 from.1) from.2 in
       two_steps part (λ a b. IsShut b) (Torn (length (get part next)) 0 16) (λ a b. IsShut b) image next c on step
-        (λ shut torn. torn_header (get part next) (get part c) shut torn)
+      (λ shut torn. torn_header (get part next) (get part c) shut torn)
 
   pub begun : (before : Image → Type 0) (image c : Image) → before image → OnPart part (λ a b. IsShut b) image c → Stepped part (IsBegun (length (get part image))) before c
   begun before image c was on = (image, was, record { here = inr (shut_fresh (get part c) on.here); elsewhere = on.elsewhere })

@@ -87,9 +87,12 @@ module _ (part : Part) (gate : ℕ) (bytes : List ℕ) where
       → Follows (OnPart part (Torn (length (get part next)) gate 1)) only now → (c : Image) → now c → Stepped part (IsTornRecord gate bytes) before c
   second_crash before only now image next was on sure follows c left =
       let from = follows c left in
-      let step : OnPart part (Torn (length (get part next)) gate 1) next c = subst (λ d. OnPart part (Torn (length (get part next)) gate 1) d c) (sure from.0 from.1) from.2 in
-      (image, was, two_steps part (HasBehind gate bytes) (Torn (length (get part next)) gate 1) (IsTornRecord gate bytes) image next c on step
-        (λ has torn. inr (torn_gate gate bytes (get part image) (get part next) (get part c) has torn)))
+      let step : OnPart part (Torn (length (get part next)) gate 1) next c = subst (λ d. OnPart part (Torn (length (get part next)) gate 1) d c) (sure from.0 from.1) from.2 in (
+        image,
+        was,
+        two_steps part (HasBehind gate bytes) (Torn (length (get part next)) gate 1) (IsTornRecord gate bytes) image next c on step
+            (λ has torn. inr (torn_gate gate bytes (get part image) (get part next) (get part c) has torn)),
+      )
 
   -- what reads give once the gate is open
   pub opened : (image next now : Image) → OnPart part (HasBehind gate bytes) image next → now ≡ put part (written gate (1 ∷ []) (get part next)) next
@@ -97,4 +100,4 @@ module _ (part : Part) (gate : ℕ) (bytes : List ℕ) where
   opened image next now on is =
       let step : OnPart part (λ a b. b ≡ written gate (1 ∷ []) a) next now = done part (λ a b. b ≡ written gate (1 ∷ []) a) (written gate (1 ∷ []) (get part next)) next now is refl in
       two_steps part (HasBehind gate bytes) (λ a b. b ≡ written gate (1 ∷ []) a) (IsOpened gate bytes) image next now on step
-        (λ has wrote. subst (IsOpened gate bytes (get part image)) (sym wrote) (opened_gate gate bytes (get part image) (get part next) has))
+      (λ has wrote. subst (IsOpened gate bytes (get part image)) (sym wrote) (opened_gate gate bytes (get part image) (get part next) has))

@@ -37,12 +37,12 @@ impl Model for Journal {
     ghost Value = { JournalState };
 
     ghost view = { λ j. record {
-        part = j.part;
-        format = format_at j.version;
-        gate = j.gate;
-        count = j.count;
-        limit = j.limit;
-        spare = vec_capacity j.buffer - 13;
+      part = j.part;
+      format = format_at j.version;
+      gate = j.gate;
+      count = j.count;
+      limit = j.limit;
+      spare = vec_capacity j.buffer - 13;
     } };
 
     ghost invariant = { λ j. (j.limit ≤ 2 ^ 32) × (j.gate < 2 ^ 63) × (j.count ≤ j.gate) × (13 ≤ vec_capacity j.buffer) };
@@ -133,9 +133,9 @@ impl Journal {
         ensures untouched { (from needs : ℕ) → IsErrOf result (AppendError.Full from needs) → disk.new ≡ disk.old }
 
         ensures next { OnOk result (self.new ≡ record self.old {
-            gate = self.old.gate + needed_length format_2 (length payload.now);
-            count = self.old.count + 1;
-            spare = self.new.spare;
+          gate = self.old.gate + needed_length format_2 (length payload.now);
+          count = self.old.count + 1;
+          spare = self.new.spare;
         }) }
         ensures same { OnErr result (self.new ≡ record self.old { spare = self.new.spare }) }
         ensures spare { self.old.spare ≤ self.new.spare }

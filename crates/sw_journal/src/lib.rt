@@ -1,8 +1,8 @@
 //! A journal over one part of a disk: records behind gates, each on the disk whole before its gate is opened.
 #![tactic(auto)]
 
-mod gate;
 mod formatting;
+mod gate;
 mod journal;
 mod parse;
 mod read;

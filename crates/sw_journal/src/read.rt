@@ -12,12 +12,7 @@ use sw_disk::{Disk, Failed};
 use sw_rules::Part;
 
 // Reads on from a place, up to the end of `bytes`, and says how many bytes more it read: none only at the part's end.
-fn read_on<D: Disk>(
-    disk: &mut D,
-    part: Part,
-    at: usize,
-    bytes: &mut [u8],
-) -> Result<usize, Failed>
+fn read_on<D: Disk>(disk: &mut D, part: Part, at: usize, bytes: &mut [u8]) -> Result<usize, Failed>
     requires { at ≤ length bytes.old }
     ensures fits { IfOk result (λ n. at + n ≤ length bytes.new) }
     ensures front { ForTold (D.seen disk.old) (λ image. IfOk result (λ n. take at bytes.old ≡ take at (get part image) → take (at + n) bytes.new ≡ take (at + n) (get part image))) }

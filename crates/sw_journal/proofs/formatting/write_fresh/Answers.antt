@@ -27,7 +27,7 @@ returns-in_err-write_at-2-clause-any_moment g c =
     let next = zeros_written part (seen start) (seen c.write_at.new.self) image is c.in_ok-write_at.ensures.ok in
     let sure : Only next.0 (leave c.sync.new.self) = told_at (seen c.write_at.new.self) (λ i. Only i (leave c.sync.new.self)) next.0 next.1 c.in_ok-sync.ensures.durable in
     let follows = told_at (seen c.sync.new.self) (λ old. Follows (OnPart part (Torn (length (get part old)) 0 16)) (leave c.sync.new.self) (leave c.write_at-2.new.self)) next.0
-      (c.sync.ensures.seen ∙ next.1) c.write_at-2.ensures.crash in
+    (c.sync.ensures.seen ∙ next.1) c.write_at-2.ensures.crash in
     let header = header_crash part (leave c.sync.new.self) (leave c.write_at-2.new.self) image next.0 next.2 sure follows in
     goes_on clock since start c.sync.new.self c.write_at-2.new.self P (leave c.write_at-2.new.self) synced c.write_at-2.ensures.time (λ f now. begun part (leave start) image f was (header f now)))
 
@@ -48,7 +48,7 @@ returns-clause-any_moment g c =
     let next = zeros_written part (seen start) (seen c.write_at.new.self) image is c.in_ok-write_at.ensures.ok in
     let sure : Only next.0 (leave c.sync.new.self) = told_at (seen c.write_at.new.self) (λ i. Only i (leave c.sync.new.self)) next.0 next.1 c.in_ok-sync.ensures.durable in
     let follows = told_at (seen c.sync.new.self) (λ old. Follows (OnPart part (Torn (length (get part old)) 0 16)) (leave c.sync.new.self) (leave c.write_at-2.new.self)) next.0
-      (c.sync.ensures.seen ∙ next.1) c.write_at-2.ensures.crash in
+    (c.sync.ensures.seen ∙ next.1) c.write_at-2.ensures.crash in
     let header = header_crash part (leave c.sync.new.self) (leave c.write_at-2.new.self) image next.0 next.2 sure follows in
     let headed = goes_on clock since start c.sync.new.self c.write_at-2.new.self P (leave c.write_at-2.new.self) synced c.write_at-2.ensures.time (λ f now. begun part (leave start) image f was (header f now)) in
     goes_on clock since start c.write_at-2.new.self c.sync-2.new.self P (leave c.sync-2.new.self) headed c.sync-2.ensures.time (λ f now. begun part (leave start) image f was (header f (c.sync-2.ensures.crash f now))))
@@ -72,7 +72,7 @@ returns-clause-from_first_sync g c =
     let next = zeros_written part (seen start) (seen c.write_at.new.self) image is c.in_ok-write_at.ensures.ok in
     let sure : Only next.0 (leave c.sync.new.self) = told_at (seen c.write_at.new.self) (λ i. Only i (leave c.sync.new.self)) next.0 next.1 c.in_ok-sync.ensures.durable in
     let follows = told_at (seen c.sync.new.self) (λ old. Follows (OnPart part (Torn (length (get part old)) 0 16)) (leave c.sync.new.self) (leave c.write_at-2.new.self)) next.0
-      (c.sync.ensures.seen ∙ next.1) c.write_at-2.ensures.crash in
+    (c.sync.ensures.seen ∙ next.1) c.write_at-2.ensures.crash in
     let header = header_crash part (leave c.sync.new.self) (leave c.write_at-2.new.self) image next.0 next.2 sure follows in
     let middle = c.sync.new.self in
     let fresh : (f : Image) → leave c.write_at-2.new.self f → Q f = λ f now. shut_fresh (get part f) (header f now).here in
@@ -94,11 +94,11 @@ returns-clause-formatted g c =
     let start = c.args.disk.now in
     let part = c.args.part in
     let both = tells_then (seen start) (seen c.write_at.new.self) (seen c.write_at-2.new.self)
-      (λ a b. b ≡ put part (written 0 (replicate 17 0) (get part a)) a) (λ a b. b ≡ put part (written 0 format_2.header (get part a)) a) (OnPart part IsFormatted)
-      (λ a b d is one two.
-        let first = done part (λ x y. IsShut y) (written 0 (replicate 17 0) (get part a)) a b one (zeroed (get part a)) in
-        let second = done part (λ x y. IsFormatted x y) (written 0 format_2.header (get part b)) b d two (with_header (get part b) first.here) in
-        two_steps part (λ x y. IsShut y) IsFormatted IsFormatted a b d first second (λ shut formatted. formatted))
-      c.in_ok-write_at.ensures.ok (subst (λ s. Tells s (seen c.write_at-2.new.self) (λ a b. b ≡ put part (written 0 format_2.header (get part a)) a)) c.sync.ensures.seen c.in_ok-write_at-2.ensures.ok) in
+    (λ a b. b ≡ put part (written 0 (replicate 17 0) (get part a)) a) (λ a b. b ≡ put part (written 0 format_2.header (get part a)) a) (OnPart part IsFormatted)
+    (λ a b d is one two.
+    let first = done part (λ x y. IsShut y) (written 0 (replicate 17 0) (get part a)) a b one (zeroed (get part a)) in
+    let second = done part (λ x y. IsFormatted x y) (written 0 format_2.header (get part b)) b d two (with_header (get part b) first.here) in
+    two_steps part (λ x y. IsShut y) IsFormatted IsFormatted a b d first second (λ shut formatted. formatted))
+    c.in_ok-write_at.ensures.ok (subst (λ s. Tells s (seen c.write_at-2.new.self) (λ a b. b ≡ put part (written 0 format_2.header (get part a)) a)) c.sync.ensures.seen c.in_ok-write_at-2.ensures.ok) in
     on_ok c.sync-2.result (Tells (seen start) (seen c.sync-2.new.self) (OnPart part IsFormatted))
-      (subst (λ s. Tells (seen start) s (OnPart part IsFormatted)) (sym c.sync-2.ensures.seen) both)
+    (subst (λ s. Tells (seen start) s (OnPart part IsFormatted)) (sym c.sync-2.ensures.seen) both)

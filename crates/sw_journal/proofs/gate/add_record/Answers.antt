@@ -27,7 +27,7 @@ returns-in_err-write_at-2-clause-any_moment g c =
     let next = staged part gate bytes (g.D.Disk.seen start) (g.D.Disk.seen c.write_at.new.self) image is inside c.in_ok-write_at.ensures.ok in
     let sure : Only next.0 (leave c.sync.new.self) = told_at (g.D.Disk.seen c.write_at.new.self) (λ i. Only i (leave c.sync.new.self)) next.0 next.1 c.in_ok-sync.ensures.durable in
     let follows = told_at (g.D.Disk.seen c.sync.new.self) (λ old. Follows (OnPart part (Torn (length (get part old)) gate 1)) (leave c.sync.new.self) (leave c.write_at-2.new.self)) next.0
-      (c.sync.ensures.seen ∙ next.1) c.write_at-2.ensures.crash in
+    (c.sync.ensures.seen ∙ next.1) c.write_at-2.ensures.crash in
     let second = second_crash part gate bytes (leave start) (leave c.sync.new.self) (leave c.write_at-2.new.self) image next.0 was next.2 sure follows in
     goes_on clock since start c.sync.new.self c.write_at-2.new.self P (leave c.write_at-2.new.self) synced c.write_at-2.ensures.time second)
 
@@ -50,7 +50,7 @@ returns-clause-any_moment g c =
     let next = staged part gate bytes (g.D.Disk.seen start) (g.D.Disk.seen c.write_at.new.self) image is inside c.in_ok-write_at.ensures.ok in
     let sure : Only next.0 (leave c.sync.new.self) = told_at (g.D.Disk.seen c.write_at.new.self) (λ i. Only i (leave c.sync.new.self)) next.0 next.1 c.in_ok-sync.ensures.durable in
     let follows = told_at (g.D.Disk.seen c.sync.new.self) (λ old. Follows (OnPart part (Torn (length (get part old)) gate 1)) (leave c.sync.new.self) (leave c.write_at-2.new.self)) next.0
-      (c.sync.ensures.seen ∙ next.1) c.write_at-2.ensures.crash in
+    (c.sync.ensures.seen ∙ next.1) c.write_at-2.ensures.crash in
     let second = second_crash part gate bytes (leave start) (leave c.sync.new.self) (leave c.write_at-2.new.self) image next.0 was next.2 sure follows in
     let open_written = goes_on clock since start c.sync.new.self c.write_at-2.new.self P (leave c.write_at-2.new.self) synced c.write_at-2.ensures.time second in
     goes_on clock since start c.write_at-2.new.self c.sync-2.new.self P (leave c.sync-2.new.self) open_written c.sync-2.ensures.time (λ f now. second f (c.sync-2.ensures.crash f now)))
@@ -64,10 +64,10 @@ returns-clause-opened g c =
     let bytes = c.args.bytes.now in
     let end_is = c.sync-2.ensures.seen in
     let both = tells_then (seen start) (seen c.write_at.new.self) (seen c.write_at-2.new.self)
-      (λ a b. b ≡ put part (written (gate + 1) bytes (get part a)) a) (λ a b. b ≡ put part (written gate (1 ∷ []) (get part a)) a) (OnPart part (IsOpened gate bytes))
-      (λ a b d is one two.
-        let inside : gate < length (get part a) = told_at (seen start) (λ image. gate < length (get part image)) a is c.requires.inside in
-        opened part gate bytes a b d (done part (HasBehind gate bytes) (written (gate + 1) bytes (get part a)) a b one (staged_behind gate bytes (get part a) inside)) two)
-      c.in_ok-write_at.ensures.ok (subst (λ s. Tells s (seen c.write_at-2.new.self) (λ a b. b ≡ put part (written gate (1 ∷ []) (get part a)) a)) c.sync.ensures.seen c.in_ok-write_at-2.ensures.ok) in
+    (λ a b. b ≡ put part (written (gate + 1) bytes (get part a)) a) (λ a b. b ≡ put part (written gate (1 ∷ []) (get part a)) a) (OnPart part (IsOpened gate bytes))
+    (λ a b d is one two.
+    let inside : gate < length (get part a) = told_at (seen start) (λ image. gate < length (get part image)) a is c.requires.inside in
+    opened part gate bytes a b d (done part (HasBehind gate bytes) (written (gate + 1) bytes (get part a)) a b one (staged_behind gate bytes (get part a) inside)) two)
+    c.in_ok-write_at.ensures.ok (subst (λ s. Tells s (seen c.write_at-2.new.self) (λ a b. b ≡ put part (written gate (1 ∷ []) (get part a)) a)) c.sync.ensures.seen c.in_ok-write_at-2.ensures.ok) in
     on_ok c.sync-2.result (Tells (seen start) (seen c.sync-2.new.self) (OnPart part (IsOpened gate bytes)))
-      (subst (λ s. Tells (seen start) s (OnPart part (IsOpened gate bytes))) (sym end_is) both)
+    (subst (λ s. Tells (seen start) s (OnPart part (IsOpened gate bytes))) (sym end_is) both)

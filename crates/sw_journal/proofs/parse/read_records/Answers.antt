@@ -25,7 +25,7 @@ loop-rest-init c =
 pub returns-then-byte-ne-OPEN-clause-reading : goal.returns-then-byte-ne-OPEN-clause-reading
 returns-then-byte-ne-OPEN-clause-reading c =
     closed_step (format_at c.args.version) c.loop-rest.records.items c.loop-rest.gate c.loop-rest.rest.now (reading (format_at c.args.version) c.args.bytes.now)
-      c.loop-rest.invariant.reads c.in-len1-up.len_at_least c.if-byte-ne-OPEN.true
+    c.loop-rest.invariant.reads c.in-len1-up.len_at_least c.if-byte-ne-OPEN.true
 
 pub split_at-requires-in-len1-up : goal.split_at-requires-in-len1-up
 split_at-requires-in-len1-up c =
@@ -63,7 +63,7 @@ loop-rest-preserved c =
     let count : length c.push.new.self.items ≡ length records + 1 = ap length more ∙ length_push records (gate, take size (drop (4 + f.width) (drop 1 rest))) in
     record {
       reads = record_step f records gate rest (reading f c.args.bytes.now) c.loop-rest.invariant.reads size c.in-len1-up.len_at_least c.if-byte-ne-OPEN.false found
-        c.push.new.self.items more (gate + (1 + (4 + c.width.result) + size)) next c.split_at-in-len1-up-3.result.1.now after;
+          c.push.new.self.items more (gate + (1 + (4 + c.width.result) + size)) next c.split_at-in-len1-up-3.result.1.now after;
       place = omega (arith, c.loop-rest.invariant.place, front, ap length after, length-drop (4 + f.width + size) (drop 1 rest), length-drop 1 rest, whole.fits);
       count = omega (arith, count, c.loop-rest.invariant.count);
       front = front;

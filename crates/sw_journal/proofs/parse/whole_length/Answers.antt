@@ -23,7 +23,7 @@ returns-then-rest-width c =
     let size : c.from_be_bytes-size.result ≡ from_be_bytes w32 (take 4 bytes) =
     c.from_be_bytes-size.ensures ∙ sym (ap (λ (l : List ℕ). from_be_bytes w32 l) (four bytes c.in-len4-up.len_at_least)) in
     sym (payload_length-short (format_at c.args.version) c.args.number bytes
-      (omega (arith, size, c.width.ensures, c.if-rest-width.true, ap length (take_rest bytes 4), length-drop 4 bytes, c.in-len4-up.len_at_least)))
+    (omega (arith, size, c.width.ensures, c.if-rest-width.true, ap length (take_rest bytes 4), length-drop 4 bytes, c.in-len4-up.len_at_least)))
 
 pub returns-then-has_number : goal.returns-then-has_number
 returns-then-has_number c =
@@ -43,4 +43,4 @@ returns-else-has_number c =
     let bytes = c.args.bytes.now in
     let f = format_at c.args.version in
     sym (payload_length-unnumbered f c.args.number bytes
-      (ap (λ (l : List ℕ). is_numbered f c.args.number (take f.width l)) (sym (take_rest bytes 4)) ∙ sym c.has_number.ensures ∙ c.if-has_number.false))
+    (ap (λ (l : List ℕ). is_numbered f c.args.number (take f.width l)) (sym (take_rest bytes 4)) ∙ sym c.has_number.ensures ∙ c.if-has_number.false))

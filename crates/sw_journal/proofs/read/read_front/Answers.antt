@@ -16,8 +16,8 @@ loop-at-preserved g c =
       within = c.in_ok-more.ensures.fits;
       quiet = quiet_then seen g.D.Disk.may_leave g.D.Disk.clock g.D.Disk.left_since g.D.Disk.faults start c.loop-at.disk c.read_on.new.disk c.loop-at.invariant.quiet c.read_on.ensures.quiet;
       front = told_both (seen start) (λ image. take at c.loop-at.bytes ≡ take at (get part image))
-        (λ image. take at c.loop-at.bytes ≡ take at (get part image) → take next c.read_on.new.bytes ≡ take next (get part image))
-        (λ image. take next c.read_on.new.bytes ≡ take next (get part image)) c.loop-at.invariant.front
-        (subst (λ s. ForTold s (λ image. take at c.loop-at.bytes ≡ take at (get part image) → take next c.read_on.new.bytes ≡ take next (get part image))) c.loop-at.invariant.quiet.same c.in_ok-more.ensures.front)
-        (λ image is had more. more had);
+          (λ image. take at c.loop-at.bytes ≡ take at (get part image) → take next c.read_on.new.bytes ≡ take next (get part image))
+          (λ image. take next c.read_on.new.bytes ≡ take next (get part image)) c.loop-at.invariant.front
+          (subst (λ s. ForTold s (λ image. take at c.loop-at.bytes ≡ take at (get part image) → take next c.read_on.new.bytes ≡ take next (get part image))) c.loop-at.invariant.quiet.same c.in_ok-more.ensures.front)
+          (λ image is had more. more had);
     }

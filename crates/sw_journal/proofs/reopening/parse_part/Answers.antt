@@ -11,12 +11,12 @@ pub returns-then-not-found-clause-bad : goal.returns-then-not-found-clause-bad
 returns-then-not-found-clause-bad c =
     let r = c.in_ok-found.found in
     content-reads (format_at c.in-Some.version) c.args.bytes.now (record { records = r.records.items; gate = r.gate; is_closed = r.is_closed })
-      c.in-Some.ensures.format c.in_ok-found.ensures.reading
+    c.in-Some.ensures.format c.in_ok-found.ensures.reading
     ∙ ap (λ (b : Bool). content_of_reading (record { records = r.records.items; gate = r.gate; is_closed = b })) c.if-not-found.true
 
 pub returns-clause-records : goal.returns-clause-records
 returns-clause-records c =
     let r = c.in_ok-found.found in
     content-reads (format_at c.in-Some.version) c.args.bytes.now (record { records = r.records.items; gate = r.gate; is_closed = r.is_closed })
-      c.in-Some.ensures.format c.in_ok-found.ensures.reading
+    c.in-Some.ensures.format c.in_ok-found.ensures.reading
     ∙ ap (λ (b : Bool). content_of_reading (record { records = r.records.items; gate = r.gate; is_closed = b })) c.if-not-found.false
