@@ -86,9 +86,10 @@ impl Journal {
         })
     }
 
-    /// The part's format, 1 or 2.
+    /// The part's format, 1 or 2. Records are appended to format 2 alone.
     pub fn format(&self) -> u8
-        ensures { result ≡ self.now.format.version }
+        ensures version { result ≡ self.now.format.version }
+        ensures second { (result ≡ 2) ↔ (self.now.format ≡ format_2) }
     {
         self.version.number()
     }

@@ -1,7 +1,7 @@
 //! The two formats of a part.
 
-ghost use Rattle.std.specs.Prelude.{◌≡◌, ◌≤◌, length, MatchOption, IsSome, Some, None};
-ghost use Rattle.sw_rules.specs.Format.{format_of};
+ghost use Rattle.std.specs.Prelude.{◌≡◌, ◌↔◌, ◌≤◌, length, MatchOption, IsSome, Some, None};
+ghost use Rattle.sw_rules.specs.Format.{format_2, format_of};
 ghost use Rattle.sw_journal.specs.Version.{format_at};
 
 /// A format of a part: version 2 numbers its records, version 1 doesn't.
@@ -37,7 +37,8 @@ impl Version {
 
     /// The format's number.
     pub(crate) fn number(self) -> u8
-        ensures { result ≡ (format_at self).version }
+        ensures version { result ≡ (format_at self).version }
+        ensures second { (result ≡ 2) ↔ (format_at self ≡ format_2) }
     {
         match self {
             Version::One => 1,
