@@ -1,4 +1,5 @@
 pub mod FreshParts
 pub mod PartChanges
 pub mod PartLemmas
+pub mod WholeParts
 mod WorkedParts

@@ -62,6 +62,21 @@ module _ (format : Format) (wide : HasWidth format.width) where
         numbered = ap (λ (l : List ℕ). is_numbered format number l) told ∙ numbered format.width number wide small;
       }
 
+  -- its payload, and what is behind it
+  pub record_splits : (number : ℕ) (payload tail : List ℕ)
+      → (take (length payload) (drop (4 + format.width) (record_bytes format number payload ++ tail)) ≡ payload)
+        × (drop (4 + format.width + length payload) (record_bytes format number payload ++ tail) ≡ tail)
+  record_splits number payload tail =
+      let front = to_be_bytes w32 (length payload) ++ number_bytes format number in
+      let long = length-record_bytes number payload in
+      let behind : drop (4 + format.width) (record_bytes format number payload ++ tail) ≡ payload ++ tail =
+      ap (λ (l : List ℕ). drop (4 + format.width) l) (append_assoc front payload tail)
+      ∙ drop_at front (payload ++ tail) (4 + format.width) (omega (arith, long, length-append front payload)) in
+      (
+        ap (λ (l : List ℕ). take (length payload) l) behind ∙ take_at payload tail (length payload) refl,
+        drop_at (record_bytes format number payload) tail (4 + format.width + length payload) long,
+      )
+
 -- Where the bytes up to the gate stay, the part reads the same up to the gate.
 pub part_front : (format : Format) (records : List (ℕ × List ℕ)) (gate : ℕ) (bytes other : List ℕ) → IsPart format records gate bytes
     → take gate other ≡ take gate bytes → gate < length other

@@ -4,3 +4,4 @@ pub mod Faults
 pub mod Format
 pub mod Image
 pub mod Journal
+pub mod WholePart
