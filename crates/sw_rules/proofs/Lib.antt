@@ -4,3 +4,8 @@ pub mod CutLemmas
 pub mod HistoryLemmas
 pub mod OnLiterals
 pub mod TranscriptRows
+pub mod FreshParts
+pub mod PartChanges
+pub mod PartLemmas
+pub mod WholeParts
+mod WorkedParts

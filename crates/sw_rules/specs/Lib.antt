@@ -1,6 +1,7 @@
 pub mod Addresses
 pub mod Batch
 pub mod Changes
+pub mod Content
 pub mod DiskRule
 pub mod Events
 pub mod Faults
@@ -20,3 +21,7 @@ pub mod Storage
 pub mod Streams
 pub mod Tasks
 pub mod Transcript
+pub mod Format
+pub mod Image
+pub mod Journal
+pub mod WholePart

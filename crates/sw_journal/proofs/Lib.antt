@@ -1,0 +1,7 @@
+mod Appends
+mod Fresh
+mod Gates
+mod Headers
+mod Images
+mod ParseSteps
+mod ReadLemmas

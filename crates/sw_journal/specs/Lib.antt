@@ -1,0 +1,5 @@
+pub mod Gate
+pub mod Init
+pub mod Quiet
+pub mod Reopening
+pub mod Version

@@ -1,0 +1,51 @@
+-- What a journal of one part stands for.
+use Rattle.std.specs.Prelude.{◌≡◌, ◌⊎◌, ◌+◌, ◌-◌, ◌^◌, ◌<◌, ℕ, List, [], ◌∷◌, ◌++◌, length, Option}
+use Rattle.sw_rules.specs.declared.disk.Part.{Part}
+use Rattle.sw_rules.specs.Image.{Image, get}
+use Rattle.sw_rules.specs.DiskRule.{ForTold, OnPart}
+use Rattle.sw_rules.specs.Format.{Format, needed_length}
+use Rattle.sw_rules.specs.Content.{IsPart}
+
+-- own: a journal: its part and the part's format, the offset of the first closed gate, the count of records before it, how
+-- long the part may grow, and how long a payload may be without further memory
+pub record JournalState : Type 0 where
+  pub part : Part
+  pub format : Format
+  pub gate : ℕ
+  pub count : ℕ
+  pub limit : ℕ
+  pub spare : ℕ
+
+-- own: a journal stands for these bytes of its part: the header of its format is there, its gate is the first closed gate,
+-- all records before it are whole, and the next record's number is their count
+abbrev pub StandsIn : JournalState → List ℕ → Type 0
+StandsIn journal bytes = (records : List (ℕ × List ℕ)) × (length records ≡ journal.count) × IsPart journal.format records journal.gate bytes
+
+-- own: a journal stands for a disk that tells: for what reads give of its part, and for its part in every image that a
+-- crash now may leave
+abbrev pub StandsFor : JournalState → Option Image → (Image → Type 0) → Type 0
+StandsFor journal seen may_leave =
+    ForTold seen (λ image. StandsIn journal (get journal.part image) × ((c : Image) → may_leave c → StandsIn journal (get journal.part c)))
+
+-- own: the journal stands for the old bytes, and the new ones have the same records, and behind them this payload
+pub record HasMore (journal : JournalState) (payload old new : List ℕ) : Type 0 where
+  pub records : List (ℕ × List ℕ)
+  pub count : length records ≡ journal.count
+  pub was : IsPart journal.format records journal.gate old
+  pub now : IsPart journal.format (records ++ (journal.gate, payload) ∷ []) (journal.gate + needed_length journal.format (length payload)) new
+
+-- own: the journal stands for the old bytes, and the new ones have the same records, or these and behind them this payload
+pub record HasSameOrMore (journal : JournalState) (payload old new : List ℕ) : Type 0 where
+  pub records : List (ℕ × List ℕ)
+  pub count : length records ≡ journal.count
+  pub was : IsPart journal.format records journal.gate old
+  pub now : IsPart journal.format records journal.gate new
+      ⊎ IsPart journal.format (records ++ (journal.gate, payload) ∷ []) (journal.gate + needed_length journal.format (length payload)) new
+
+-- own: an image that comes, by such a step of one part, from one that a crash might have left before
+abbrev pub Stepped : Part → (List ℕ → List ℕ → Type 0) → (Image → Type 0) → Image → Type 0
+Stepped part step before c = (d : Image) × before d × OnPart part step d c
+
+-- own: where the clock still went at a moment, a crash since then leaves nothing but what has P
+abbrev pub Since : {D : Type 0} → (D → ℕ) → (D → ℕ → Image → Type 0) → D → D → (Image → Type 0) → Type 0
+Since clock left_since moment now P = clock moment < 2 ^ 64 - 1 → (c : Image) → left_since now (clock moment) c → P c
