@@ -1,11 +1,13 @@
+mod WorkedParts
 pub mod AddressRows
 pub mod Controllers
 pub mod CutLemmas
-pub mod HistoryLemmas
-pub mod OnLiterals
-pub mod TranscriptRows
 pub mod FreshParts
+pub mod HistoryLemmas
+pub mod LawLemmas
+pub mod OnLiterals
 pub mod PartChanges
 pub mod PartLemmas
+pub mod TranscriptRows
 pub mod WholeParts
-mod WorkedParts
+pub mod WorkedRows

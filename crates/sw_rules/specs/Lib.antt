@@ -5,11 +5,14 @@ pub mod Content
 pub mod DiskRule
 pub mod Events
 pub mod Faults
+pub mod Format
 pub mod Grammar
 pub mod Headers
 pub mod History
 pub mod Image
+pub mod Journal
 pub mod Keys
+pub mod Laws
 pub mod Matching
 pub mod Media
 pub mod Picks
@@ -21,7 +24,4 @@ pub mod Storage
 pub mod Streams
 pub mod Tasks
 pub mod Transcript
-pub mod Format
-pub mod Image
-pub mod Journal
 pub mod WholePart

@@ -13,6 +13,7 @@ pub mod events;
 pub mod exchange;
 pub mod header;
 pub mod histories;
+pub mod laws;
 pub mod recordings;
 pub mod rows;
 pub mod storage;
