@@ -35,7 +35,8 @@ pub fn request(
     ensures bad_name { IsErrOf result HttpFault.BadName
         ↔ ((is_token method.now ≡ true) × (good_names headers ≡ false)) }
     ensures bad_value { IsErrOf result HttpFault.BadValue
-        ↔ ((is_token method.now ≡ true) × (good_names headers ≡ true) × (good_values headers ≡ false)) }
+        ↔ ((is_token method.now ≡ true) × (good_names headers ≡ true)
+        × (good_values headers ≡ false)) }
     ensures bad_status { ¬ (IsErrOf result HttpFault.BadStatus) }
     ensures body_too_large { ¬ (IsErrOf result HttpFault.BodyTooLarge) }
 {
@@ -73,9 +74,11 @@ pub fn response(
     ensures bad_name { IsErrOf result HttpFault.BadName
         ↔ (IsStatusCode status × (good_names headers ≡ false)) }
     ensures bad_value { IsErrOf result HttpFault.BadValue
-        ↔ (IsStatusCode status × (good_names headers ≡ true) × (good_values headers ≡ false)) }
+        ↔ (IsStatusCode status × (good_names headers ≡ true)
+        × (good_values headers ≡ false)) }
     ensures body_too_large { IsErrOf result HttpFault.BodyTooLarge
-        ↔ (IsStatusCode status × (good_names headers ≡ true) × (good_values headers ≡ true) × (1_048_576 < length body)) }
+        ↔ (IsStatusCode status × (good_names headers ≡ true) × (good_values headers ≡ true)
+        × (1_048_576 < length body)) }
     ensures bad_method { ¬ (IsErrOf result HttpFault.BadMethod) }
 {
     let Some(status) = status_code(status) else {

@@ -32,7 +32,8 @@ fn trimmed_back(mut text: &str) -> &str
 #[tactic(auto, using(crate::proofs::TrimLemmas::kept_front))]
 fn after_blank(text: &str) -> Option<&str>
     ensures { MatchOption result (trimmed_front text.now ≡ text.now)
-        (λ rest. (trimmed_front text.now ≡ trimmed_front rest.now) × (length rest.now < length text.now)) }
+        (λ rest. (trimmed_front text.now ≡ trimmed_front rest.now)
+        × (length rest.now < length text.now)) }
 {
     match after(text, ' ') {
         Some(rest) => Some(rest),
@@ -44,7 +45,8 @@ fn after_blank(text: &str) -> Option<&str>
 #[tactic(auto, using(crate::proofs::TrimLemmas::kept_back, crate::proofs::TrimLemmas::trimmed_space, crate::proofs::TrimLemmas::trimmed_tab))]
 fn before_blank(text: &str) -> Option<&str>
     ensures { MatchOption result (trimmed_back text.now ≡ text.now)
-        (λ rest. (trimmed_back text.now ≡ trimmed_back rest.now) × (length rest.now < length text.now)) }
+        (λ rest. (trimmed_back text.now ≡ trimmed_back rest.now)
+        × (length rest.now < length text.now)) }
 {
     match before(text, ' ') {
         Some(rest) => Some(rest),
@@ -54,14 +56,16 @@ fn before_blank(text: &str) -> Option<&str>
 
 fn after(text: &str, mark: char) -> Option<&str>
     requires { mark < 128 }
-    ensures { MatchOption result ((rest : List ℕ) → text.now ≢ mark ∷ rest) (λ rest. text.now ≡ mark ∷ rest.now) }
+    ensures { MatchOption result ((rest : List ℕ) → text.now ≢ mark ∷ rest)
+        (λ rest. text.now ≡ mark ∷ rest.now) }
 {
     text.strip_prefix(mark)
 }
 
 fn before(text: &str, mark: char) -> Option<&str>
     requires { mark < 128 }
-    ensures { MatchOption result ((rest : List ℕ) → text.now ≢ rest ++ (mark ∷ [])) (λ rest. text.now ≡ rest.now ++ (mark ∷ [])) }
+    ensures { MatchOption result ((rest : List ℕ) → text.now ≢ rest ++ (mark ∷ []))
+        (λ rest. text.now ≡ rest.now ++ (mark ∷ [])) }
 {
     text.strip_suffix(mark)
 }

@@ -60,7 +60,8 @@ pub fn scope_url(
     script: &Text,
     base: &Text,
 ) -> Result<Text, UrlFault>
-    ensures ok { IfOk result (λ address. scope_address (option_copied text.entry) script.now base.now ≡ Ok address) }
+    ensures ok { IfOk result (λ address.
+        scope_address (option_copied text.entry) script.now base.now ≡ Ok address) }
     ensures unparsed { UnlessNoMemory result (IsErrOf result UrlFault.Unparsed
         ↔ (scope_address (option_copied text.entry) script.now base.now ≡ Err Unparsed)) }
     ensures scheme { UnlessNoMemory result (IsErrOf result UrlFault.Scheme
@@ -111,7 +112,8 @@ fn resolved(alloc: Global, text: &str, base: &str) -> Result<Text, UrlFault>
 /// The address of a text against a base, where a worker may have it as script or scope.
 fn accepted(alloc: Global, text: &str, base: &str) -> Result<Text, UrlFault>
     ensures answer { Answers result (accepted (parsed_against text.now base.now)) }
-    ensures parses { IfOk result (λ address. (other : Option Parts) → when_parsed (parse_url other address)
+    ensures parses { IfOk result (λ address. (other : Option Parts)
+        → when_parsed (parse_url other address)
         ≡ option_map no_fragment (parsed_against text.now base.now)) }
 {
     let url = parsed_against(alloc, text, base)?;

@@ -103,7 +103,8 @@ fn marked(alloc: Global, origin: &str, partition: &str) -> Result<String, AllocE
 
 /// The path of `./` against the script.
 fn default_bound(alloc: Global, script: &str) -> Result<Option<Text>, NoMemory>
-    ensures { IfOk result (λ bound. bound ≡ option_map path_of (parsed_against (codes "./") script.now)) }
+    ensures { IfOk result (λ bound. bound
+        ≡ option_map path_of (parsed_against (codes "./") script.now)) }
 {
     match parsed_against(alloc, "./", script) {
         Ok(url) => Ok(Some(Text::of(alloc, url.path())?)),
@@ -114,7 +115,8 @@ fn default_bound(alloc: Global, script: &str) -> Result<Option<Text>, NoMemory>
 
 /// The path of the allowed value against the script.
 fn allowed_bound(alloc: Global, value: &str, script: &str) -> Result<Option<Text>, NoMemory>
-    ensures { IfOk result (λ bound. bound ≡ option_and_then (allowed_bound value.now) (address_of script.now)) }
+    ensures { IfOk result (λ bound. bound
+        ≡ option_and_then (allowed_bound value.now) (address_of script.now)) }
 {
     match parsed(alloc, script) {
         Ok(script) => bound_of(alloc, value, &script),

@@ -53,7 +53,8 @@ fn is_loopback(host: Host<&str>) -> bool
 }
 
 fn is_local_name(name: &[u8]) -> bool
-    ensures { result ≡ bytes_eq name.now (codes "localhost") || ends_with nat_eq name.now (codes ".localhost") }
+    ensures { result
+        ≡ bytes_eq name.now (codes "localhost") || ends_with nat_eq name.now (codes ".localhost") }
 {
     name == b"localhost".as_slice() || name.ends_with(b".localhost")
 }
