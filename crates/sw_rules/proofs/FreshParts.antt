@@ -1,8 +1,8 @@
 -- Parts whose first gate is closed.
-use Rattle.std.proofs.Common.{◌≡◌, ◌≢◌, ◌⊎◌, inl, inr, ℕ, List, [], ◌∷◌, ◌++◌, drop, Bool, true, false, Option, Some, None, refl, sym, ◌∙◌, ap, subst}
+use Rattle.std.proofs.Common.{◌≡◌, ◌≢◌, ◌⊎◌, inl, inr, ℕ, List, [], ◌∷◌, ◌++◌, drop, Option, Some, None, refl, ◌∙◌, ap}
 use Rattle.std.proofs.lemmas.List.{drop_at}
 use Rattle.sw_rules.specs.Format.{Format, format_2, format_of}
-use Rattle.sw_rules.specs.Content.{Content, NotFormatted, Records, Reading, ends, reading, reading_from, content, content_by, content_of_reading, up_to, IsPart, IsFresh}
+use Rattle.sw_rules.specs.Content.{NotFormatted, Records, reading, reading_from, content, content_by, content_of_reading, up_to, IsPart, IsFresh}
 use Rattle.sw_rules.proofs.PartLemmas.{reading_from-closed}
 
 module _ (bytes : List ℕ) (byte : ℕ) (rest : List ℕ) (shut : byte ≢ 1) (there : drop 16 bytes ≡ byte ∷ rest) where

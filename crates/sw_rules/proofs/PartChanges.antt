@@ -1,15 +1,14 @@
 -- What a part stands for when its bytes change at its closed gate and behind it.
-use Rattle.std.proofs.Common.{◌≡◌, ◌≢◌, ◌⊎◌, inl, inr, ⊎_elim, ℕ, zero, suc, ◌+◌, ◌-◌, ◌^◌, ◌<◌, ◌≤◌, min, Bool, true, false, List, [], ◌∷◌, ◌++◌, length, get_or, take, drop, Option, Some, None, refl, sym, ◌∙◌, ap, subst, arith, append_assoc, length-append, length-drop, length-take, take-append-drop}
-use Rattle.std.specs.Prelude.{◌==◌, ◌&&◌, ◌||◌, nat_lt, nat_eq, codes, if◌then◌else◌}
+use Rattle.std.proofs.Common.{◌≡◌, ◌≢◌, ◌⊎◌, inl, inr, ℕ, ◌+◌, ◌^◌, ◌<◌, ◌≤◌, true, List, [], ◌∷◌, ◌++◌, length, get_or, take, drop, Option, Some, None, refl, sym, ◌∙◌, ap, subst, arith, append_assoc, length-append, length-drop, length-take}
+use Rattle.std.specs.Prelude.{◌==◌, ◌||◌, nat_eq, if◌then◌else◌}
 use Rattle.std.specs.Cmp.Lexicographic.{pointwise}
 use Rattle.std.specs.Int.{w32, w64, to_be_bytes, from_be_bytes}
-use Rattle.std.proofs.lemmas.List.{append-nil, take_at, drop_at, take_all, drop_all, drop-drop, drop-take, drop_more}
-use Rattle.std.proofs.lemmas.Bool.{cases_eq}
+use Rattle.std.proofs.lemmas.List.{append-nil, take_at, drop_at, drop-drop, drop_more}
 use Rattle.std.proofs.lemmas.Bool.Decides.{nat_tests}
 use Rattle.std.proofs.lemmas.Nat.{from_be_bytes-to_be_bytes_4, from_be_bytes-to_be_bytes_8}
 use Rattle.sw_rules.specs.Format.{Format, format_1, format_2, format_of, is_numbered, record_bytes, number_bytes, needed_length}
-use Rattle.sw_rules.specs.Content.{Content, NotFormatted, Records, Reading, ends, preceded, payload_length, reading_from, reading, content, content_by, content_of_reading, up_to, IsPart}
-use Rattle.sw_rules.proofs.PartLemmas.{reading_from-nil, reading_from-closed, reading_from-record, Whole, is_whole, same_front, same_middle, Splits, splits}
+use Rattle.sw_rules.specs.Content.{NotFormatted, Records, Reading, ends, preceded, reading_from, reading, content, content_by, content_of_reading, up_to, IsPart}
+use Rattle.sw_rules.proofs.PartLemmas.{reading_from-closed, reading_from-record, Whole, is_whole, same_front, same_middle, Splits, splits}
 
 -- a format's number is 0 or 8 bytes wide
 abbrev pub HasWidth : ℕ → Type 0
@@ -65,14 +64,13 @@ module _ (format : Format) (wide : HasWidth format.width) where
   -- its payload, and what is behind it
   pub record_splits : (number : ℕ) (payload tail : List ℕ)
       → (take (length payload) (drop (4 + format.width) (record_bytes format number payload ++ tail)) ≡ payload)
-        × (drop (4 + format.width + length payload) (record_bytes format number payload ++ tail) ≡ tail)
+      × (drop (4 + format.width + length payload) (record_bytes format number payload ++ tail) ≡ tail)
   record_splits number payload tail =
       let front = to_be_bytes w32 (length payload) ++ number_bytes format number in
       let long = length-record_bytes number payload in
       let behind : drop (4 + format.width) (record_bytes format number payload ++ tail) ≡ payload ++ tail =
       ap (λ (l : List ℕ). drop (4 + format.width) l) (append_assoc front payload tail)
-      ∙ drop_at front (payload ++ tail) (4 + format.width) (omega (arith, long, length-append front payload)) in
-      (
+      ∙ drop_at front (payload ++ tail) (4 + format.width) (omega (arith, long, length-append front payload)) in (
         ap (λ (l : List ℕ). take (length payload) l) behind ∙ take_at payload tail (length payload) refl,
         drop_at (record_bytes format number payload) tail (4 + format.width + length payload) long,
       )
@@ -81,7 +79,7 @@ module _ (format : Format) (wide : HasWidth format.width) where
 pub part_front : (format : Format) (records : List (ℕ × List ℕ)) (gate : ℕ) (bytes other : List ℕ) → IsPart format records gate bytes
     → take gate other ≡ take gate bytes → gate < length other
     → (16 ≤ gate) × (format_of other ≡ Some format) × (reading format other ≡ preceded records (reading_from format (length records) gate (drop gate other)))
-      × ((byte : ℕ) × (rest : List ℕ) × (byte ≢ 1) × (drop gate bytes ≡ byte ∷ rest))
+    × ((byte : ℕ) × (rest : List ℕ) × (byte ≢ 1) × (drop gate bytes ≡ byte ∷ rest))
 unfolding reading
 part_front format records gate bytes other part front more =
     let all : Splits format 0 16 (drop 16 bytes) (reading_from format 0 16 (drop 16 bytes)) = splits format 0 16 (drop 16 bytes) in
@@ -91,8 +89,7 @@ part_front format records gate bytes other part front more =
     let same = s.same (drop 16 other) (omega (arith, gate_is, more, length-drop 16 other)) (same_middle 16 s.d other bytes fronts) in
     let n : 0 + length records ≡ length records = omega arith in
     let l : drop s.d (drop 16 other) ≡ drop gate other = drop-drop s.d 16 other ∙ ap (λ (k : ℕ). drop k other) (sym gate_is) in
-    let shut = s.closed refl in
-    (
+    let shut = s.closed refl in (
       omega (arith, gate_is),
       format_of-front other bytes (same_front 16 (16 + s.d) other bytes (omega arith) fronts) ∙ part.header,
       same ∙ (λ i. preceded records (reading_from format (n i) (sym gate_is i) (l i))),
@@ -129,7 +126,7 @@ closed_still format records gate bytes other part front byte rest shut there =
     record {
       header = it.1;
       reads = it.2 ∙ ap (λ (l : List ℕ). preceded records (reading_from format (length records) gate l)) there
-      ∙ ap (λ (r : Reading). preceded records r) (reading_from-closed format (length records) gate byte rest shut) ∙ preceded_closed records gate;
+          ∙ ap (λ (r : Reading). preceded records r) (reading_from-closed format (length records) gate byte rest shut) ∙ preceded_closed records gate;
     }
 
 -- Where the bytes up to the closed gate stay, the part has the same records.
@@ -144,7 +141,7 @@ closed_kept format records gate bytes other part front =
     ap (λ (l : List ℕ). take 1 l) (sym there) ∙ same_middle gate 1 other bytes front ∙ ap (λ (l : List ℕ). take 1 l) at.3 in
     let is : get_or other gate 0 ≡ at.0 = first_is (get_or other gate 0) at.0 (drop (gate + 1) other) at.1 one in
     closed_still format records gate bytes other part (same_front gate (gate + 1) other bytes (omega arith) front)
-      (get_or other gate 0) (drop (gate + 1) other) (λ e. at.2 (sym is ∙ e)) there
+    (get_or other gate 0) (drop (gate + 1) other) (λ e. at.2 (sym is ∙ e)) there
 
 -- Where a whole record and a closed gate stand behind the gate of a part, opening it adds the record.
 pub opened_adds : (format : Format) → HasWidth format.width → (records : List (ℕ × List ℕ)) (gate : ℕ) (bytes other : List ℕ) → IsPart format records gate bytes
@@ -165,17 +162,17 @@ opened_adds format wide records gate bytes other part front payload next rest sm
     let behind : drop (4 + format.width) written ≡ payload ++ next ∷ rest =
     ap (λ (l : List ℕ). drop (4 + format.width) l) split
     ∙ drop_at (to_be_bytes w32 size ++ number_bytes format number) (payload ++ next ∷ rest) (4 + format.width)
-        (omega (arith, long, length-append (to_be_bytes w32 size ++ number_bytes format number) payload)) in
+    (omega (arith, long, length-append (to_be_bytes w32 size ++ number_bytes format number) payload)) in
     let payload_is : take size (drop (4 + format.width) written) ≡ payload = ap (λ (l : List ℕ). take size l) behind ∙ take_at payload (next ∷ rest) size refl in
     let rest_is : drop (4 + format.width + size) written ≡ next ∷ rest = drop_at (record_bytes format number payload) (next ∷ rest) (4 + format.width + size) long in
     let one = reading_from-record format number gate written size found in
     record {
       header = it.1;
       reads = it.2
-      ∙ ap (λ (l : List ℕ). preceded records (reading_from format number gate l)) there
-      ∙ ap (λ (r : Reading). preceded records r) one
-      ∙ (λ i. preceded records (preceded ((gate, payload_is i) ∷ []) (reading_from format (number + 1) later (rest_is i))))
-      ∙ ap (λ (r : Reading). preceded records (preceded ((gate, payload) ∷ []) r)) (reading_from-closed format (number + 1) later next rest shut);
+          ∙ ap (λ (l : List ℕ). preceded records (reading_from format number gate l)) there
+          ∙ ap (λ (r : Reading). preceded records r) one
+          ∙ (λ i. preceded records (preceded ((gate, payload_is i) ∷ []) (reading_from format (number + 1) later (rest_is i))))
+          ∙ ap (λ (r : Reading). preceded records (preceded ((gate, payload) ∷ []) r)) (reading_from-closed format (number + 1) later next rest shut);
     }
 
 -- a part's content, by its header and its reading

@@ -1,11 +1,11 @@
 -- How a part reads: gate by gate, and when its bytes change behind a gate.
-use Rattle.std.proofs.Common.{◌≡◌, ◌≢◌, ◌⊎◌, inl, inr, ⊎_elim, ℕ, zero, suc, ◌+◌, ◌-◌, ◌<◌, ◌≤◌, Bool, true, false, List, [], ◌∷◌, ◌++◌, length, take, drop, Option, Some, None, refl, sym, ◌∙◌, ap, subst, arith, append_assoc, length-drop}
+use Rattle.std.proofs.Common.{◌≡◌, ◌≢◌, inl, inr, ℕ, zero, suc, ◌+◌, ◌<◌, ◌≤◌, Bool, true, false, List, [], ◌∷◌, ◌++◌, length, take, drop, Option, Some, None, refl, sym, ◌∙◌, ap, subst, arith, append_assoc, length-drop}
 use Rattle.std.specs.Prelude.{◌==◌, ◌&&◌, nat_lt, if◌then◌else◌}
-use Rattle.std.specs.Int.{w32, w64, to_be_bytes, from_be_bytes}
-use Rattle.std.proofs.lemmas.List.{append-nil, take_at, drop_at, take_all, drop_all, drop-drop, drop-take}
+use Rattle.std.specs.Int.{w32, from_be_bytes}
+use Rattle.std.proofs.lemmas.List.{drop-drop, drop-take}
 use Rattle.std.proofs.lemmas.Bool.{cases_eq}
 use Rattle.std.proofs.lemmas.Bool.Decides.{nat_tests}
-use Rattle.sw_rules.specs.Format.{Format, is_numbered, record_bytes, number_bytes}
+use Rattle.sw_rules.specs.Format.{Format, is_numbered}
 use Rattle.sw_rules.specs.Content.{Reading, ends, preceded, payload_length, reading_on, reading_within, reading_from}
 
 -- what reading goes on with matters only where a record is whole
@@ -29,9 +29,9 @@ enough (suc s) zero format number gate (byte ∷ bytes) less more = absurd (omeg
 enough (suc s) (suc t) format number gate (byte ∷ bytes) less more =
     let same : (g : ℕ) (size : ℕ) → reading_within s format (number + 1) g (drop (4 + format.width + size) bytes) ≡ reading_within t format (number + 1) g (drop (4 + format.width + size) bytes) =
     λ g size. enough s t format (number + 1) g (drop (4 + format.width + size) bytes)
-        (omega (arith, length-drop (4 + format.width + size) bytes)) (omega (arith, length-drop (4 + format.width + size) bytes)) in
+    (omega (arith, length-drop (4 + format.width + size) bytes)) (omega (arith, length-drop (4 + format.width + size) bytes)) in
     ap (λ (r : Reading). if byte == 1 then r else ends gate true)
-      (on_same format gate bytes (λ g rest. reading_within s format (number + 1) g rest) (λ g rest. reading_within t format (number + 1) g rest) (payload_length format number bytes) same)
+    (on_same format gate bytes (λ g rest. reading_within s format (number + 1) g rest) (λ g rest. reading_within t format (number + 1) g rest) (payload_length format number bytes) same)
 
 -- the first gate is missing
 pub reading_from-nil : (format : Format) (number gate : ℕ) → reading_from format number gate [] ≡ ends gate false
@@ -49,8 +49,8 @@ opened : (format : Format) (number gate : ℕ) (bytes : List ℕ)
 unfolding reading_from reading_within
 opened format number gate bytes =
     on_same format gate bytes (λ g rest. reading_within (length bytes) format (number + 1) g rest) (λ g rest. reading_from format (number + 1) g rest) (payload_length format number bytes)
-      (λ g size. enough (length bytes) (length (drop (4 + format.width + size) bytes)) format (number + 1) g (drop (4 + format.width + size) bytes)
-        (omega (arith, length-drop (4 + format.width + size) bytes)) (omega arith))
+    (λ g size. enough (length bytes) (length (drop (4 + format.width + size) bytes)) format (number + 1) g (drop (4 + format.width + size) bytes)
+    (omega (arith, length-drop (4 + format.width + size) bytes)) (omega arith))
 
 pub reading_from-bad : (format : Format) (number gate : ℕ) (bytes : List ℕ) → payload_length format number bytes ≡ None → reading_from format number gate (1 ∷ bytes) ≡ ends gate false
 reading_from-bad format number gate bytes none =
@@ -58,7 +58,7 @@ reading_from-bad format number gate bytes none =
 
 pub reading_from-record : (format : Format) (number gate : ℕ) (bytes : List ℕ) (size : ℕ) → payload_length format number bytes ≡ Some size
     → reading_from format number gate (1 ∷ bytes)
-      ≡ preceded ((gate, take size (drop (4 + format.width) bytes)) ∷ []) (reading_from format (number + 1) (gate + (5 + format.width + size)) (drop (4 + format.width + size) bytes))
+    ≡ preceded ((gate, take size (drop (4 + format.width) bytes)) ∷ []) (reading_from format (number + 1) (gate + (5 + format.width + size)) (drop (4 + format.width + size) bytes))
 reading_from-record format number gate bytes size found =
     opened format number gate bytes ∙ ap (λ (it : Option ℕ). reading_on format gate bytes (λ g rest. reading_from format (number + 1) g rest) it) found
 
@@ -146,19 +146,19 @@ stops format number gate bytes is_closed shut = record {
   fits = omega arith;
   closed = shut;
   same = λ other more front.
-    let n : number ≡ number + 0 = omega arith in
-    let g : gate ≡ gate + 0 = omega arith in
-    (λ i. preceded [] (reading_from format (n i) (g i) other));
+      let n : number ≡ number + 0 = omega arith in
+      let g : gate ≡ gate + 0 = omega arith in
+      (λ i. preceded [] (reading_from format (n i) (g i) other));
 }
 
 goes_same : (format : Format) (number gate k : ℕ) (rest : List ℕ) (size : ℕ) (records : List (ℕ × List ℕ)) → Whole format number rest size
     → ((other : List ℕ) → k < length other → take k other ≡ take k (drop (4 + format.width + size) rest)
-      → reading_from format (number + 1) (gate + (5 + format.width + size)) other
-        ≡ preceded records (reading_from format (number + 1 + length records) (gate + (5 + format.width + size) + k) (drop k other)))
+    → reading_from format (number + 1) (gate + (5 + format.width + size)) other
+    ≡ preceded records (reading_from format (number + 1 + length records) (gate + (5 + format.width + size) + k) (drop k other)))
     → (other : List ℕ) → 1 + (4 + format.width + size) + k < length other → take (1 + (4 + format.width + size) + k) other ≡ take (1 + (4 + format.width + size) + k) (1 ∷ rest)
     → reading_from format number gate other
-      ≡ preceded ((gate, take size (drop (4 + format.width) rest)) ∷ records)
-        (reading_from format (number + suc (length records)) (gate + (1 + (4 + format.width + size) + k)) (drop (1 + (4 + format.width + size) + k) other))
+    ≡ preceded ((gate, take size (drop (4 + format.width) rest)) ∷ records)
+    (reading_from format (number + suc (length records)) (gate + (1 + (4 + format.width + size) + k)) (drop (1 + (4 + format.width + size) + k) other))
 goes_same format number gate k rest size records whole later [] more front = absurd (omega arith)
 goes_same format number gate k rest size records whole later (y ∷ c) more front =
     let m = 4 + format.width + size in
@@ -197,13 +197,13 @@ goes_on format number gate rest size later whole splits =
 
 splits_open : (format : Format) (number gate : ℕ) (rest : List ℕ)
     → ((size : ℕ) → Splits format (number + 1) (gate + (5 + format.width + size)) (drop (4 + format.width + size) rest)
-        (reading_from format (number + 1) (gate + (5 + format.width + size)) (drop (4 + format.width + size) rest)))
+    (reading_from format (number + 1) (gate + (5 + format.width + size)) (drop (4 + format.width + size) rest)))
     → (found : Option ℕ) → payload_length format number rest ≡ found → Splits format number gate (1 ∷ rest) (reading_from format number gate (1 ∷ rest))
 splits_open format number gate rest later None is =
     subst (Splits format number gate (1 ∷ rest)) (sym (reading_from-bad format number gate rest is)) (stops format number gate (1 ∷ rest) false (λ shut. absurd (cc)))
 splits_open format number gate rest later (Some size) is =
     subst (Splits format number gate (1 ∷ rest)) (sym (reading_from-record format number gate rest size is))
-      (goes_on format number gate rest size _ (whole_is format number rest size is) (later size))
+    (goes_on format number gate rest size _ (whole_is format number rest size is) (later size))
 
 -- each reading splits its bytes
 splits_within : (steps : ℕ) (format : Format) (number gate : ℕ) (bytes : List ℕ) → length bytes ≤ steps → Splits format number gate bytes (reading_from format number gate bytes)
@@ -213,13 +213,13 @@ splits_within zero format number gate (byte ∷ rest) few = absurd (omega arith)
 splits_within (suc steps) format number gate (byte ∷ rest) few = elim (cases_eq byte 1) [
   | inr shut ↦
       subst (Splits format number gate (byte ∷ rest)) (sym (reading_from-closed format number gate byte rest shut))
-        (stops format number gate (byte ∷ rest) true (λ _. (byte, rest, shut, refl)))
+      (stops format number gate (byte ∷ rest) true (λ _. (byte, rest, shut, refl)))
   | inl is_open ↦
       subst (λ (b : ℕ). Splits format number gate (b ∷ rest) (reading_from format number gate (b ∷ rest))) (sym is_open)
-        (splits_open format number gate rest
-          (λ size. splits_within steps format (number + 1) (gate + (5 + format.width + size)) (drop (4 + format.width + size) rest)
-            (omega (arith, length-drop (4 + format.width + size) rest)))
-          (payload_length format number rest) refl)
+      (splits_open format number gate rest
+      (λ size. splits_within steps format (number + 1) (gate + (5 + format.width + size)) (drop (4 + format.width + size) rest)
+      (omega (arith, length-drop (4 + format.width + size) rest)))
+      (payload_length format number rest) refl)
 ]
 
 pub splits : (format : Format) (number gate : ℕ) (bytes : List ℕ) → Splits format number gate bytes (reading_from format number gate bytes)

@@ -1,12 +1,10 @@
 -- What a part that is written whole stands for.
-use Rattle.std.proofs.Common.{◌≡◌, ◌≢◌, ◌⊎◌, inl, inr, ℕ, zero, suc, ◌+◌, ◌^◌, ◌<◌, ◌≤◌, List, [], ◌∷◌, ◌++◌, length, take, drop, All, Option, Some, true, refl, sym, ◌∙◌, ap, subst, arith, append_assoc, length-append}
-use Rattle.std.specs.Int.{w32, w64, to_be_bytes, from_be_bytes}
-use Rattle.std.proofs.lemmas.List.{append-nil, take_at, drop_at}
-use Rattle.sw_rules.specs.Format.{Format, format_1, format_2, format_of, record_bytes, number_bytes, needed_length}
-use Rattle.sw_rules.specs.Content.{Content, Records, Reading, ends, preceded, payload_length, reading_from, reading, content, up_to, IsPart}
+use Rattle.std.proofs.Common.{◌≡◌, inr, ℕ, suc, ◌+◌, ◌^◌, ◌<◌, List, [], ◌∷◌, ◌++◌, length, All, Some, true, refl, ◌∙◌, ap, arith, append_assoc}
+use Rattle.sw_rules.specs.Format.{Format, format_2, format_of, record_bytes}
+use Rattle.sw_rules.specs.Content.{Records, Reading, ends, preceded, payload_length, reading_from, reading, content, up_to, IsPart}
 use Rattle.sw_rules.specs.WholePart.{open_records, whole_part, placed, place_behind}
 use Rattle.sw_rules.proofs.PartLemmas.{reading_from-closed, reading_from-record, is_whole}
-use Rattle.sw_rules.proofs.PartChanges.{HasWidth, whole_written, length-record_bytes, record_splits, content-part}
+use Rattle.sw_rules.proofs.PartChanges.{HasWidth, whole_written, record_splits, content-part}
 
 closed_end : (format : Format) (number gate byte : ℕ) → byte ≡ 0 → reading_from format number gate (byte ∷ []) ≡ ends gate true
 closed_end format number gate byte is = reading_from-closed format number gate byte [] (λ one. omega (arith, is, one))

@@ -1,8 +1,8 @@
 -- What worked parts stand for, computed.
-use Rattle.std.proofs.Common.{◌≡◌, ℕ, ◌+◌, List, [], ◌∷◌, ◌++◌, take, refl}
-use Rattle.std.specs.Prelude.{codes, Some}
-use Rattle.sw_rules.specs.Format.{Format, format_1, format_2, format_of}
-use Rattle.sw_rules.specs.Content.{Content, NotFormatted, BadAt, Records, content, reading, reading_from, reading_within, payload_length}
+use Rattle.std.proofs.Common.{◌≡◌, ℕ, List, [], ◌∷◌, ◌++◌, take, refl}
+use Rattle.std.specs.Prelude.{codes}
+use Rattle.sw_rules.specs.Format.{format_of}
+use Rattle.sw_rules.specs.Content.{NotFormatted, BadAt, Records, content, reading, reading_from, reading_within, payload_length}
 
 -- the change that makes an empty cache: the tag 6, the key and the name
 abbrev cache_new : List ℕ
