@@ -1,7 +1,6 @@
 -- What a part stands for while a record is added.
-use Rattle.std.proofs.Common.{◌≡◌, ◌≢◌, ◌⊎◌, inl, inr, ℕ, ◌+◌, ◌-◌, ◌^◌, ◌<◌, ◌≤◌, List, [], ◌∷◌, ◌++◌, length, take, drop, Option, Some, None, refl, sym, ◌∙◌, ap, subst, arith, append_assoc, length-append}
+use Rattle.std.proofs.Common.{◌≡◌, ◌≢◌, inl, inr, ℕ, ◌+◌, ◌-◌, ◌^◌, ◌<◌, List, [], ◌∷◌, ◌++◌, length, take, drop, Option, Some, None, refl, sym, ◌∙◌, ap, subst, arith, append_assoc, length-append}
 use Rattle.std.proofs.lemmas.Bool.{cases_eq}
-use Rattle.sw_rules.specs.declared.disk.Part.{Part}
 use Rattle.sw_rules.specs.Image.{Image, get}
 use Rattle.sw_rules.specs.DiskRule.{ForTold, Tells, OnPart, Only}
 use Rattle.sw_rules.specs.Format.{Format, format_2, record_bytes, needed_length}
@@ -9,7 +8,7 @@ use Rattle.sw_rules.specs.Content.{IsPart}
 use Rattle.sw_rules.specs.Journal.{JournalState, StandsIn, StandsFor, HasMore, HasSameOrMore, Since, Stepped}
 use Rattle.sw_rules.proofs.PartChanges.{HasWidth, gate_there, closed_still, closed_kept, opened_adds}
 use Rattle.sw_journal.proofs.Images.{put-get}
-use Rattle.sw_journal.specs.Gate.{HasBehind, IsOpened, IsTornRecord}
+use Rattle.sw_journal.specs.Gate.{IsOpened, IsTornRecord}
 
 -- a gate of 0 is closed
 pub zero_is_closed : (byte : ℕ) → byte ≡ 0 → byte ≢ 1

@@ -1,5 +1,5 @@
 -- What a crash leaves of a part while it is formatted.
-use Rattle.std.proofs.Common.{◌≡◌, ◌⊎◌, inl, inr, ℕ, ◌+◌, ◌-◌, ◌<◌, ◌≤◌, List, [], ◌∷◌, ◌++◌, length, take, drop, replicate, Option, Some, refl, sym, ◌∙◌, ap, subst, arith, length-drop, append_assoc}
+use Rattle.std.proofs.Common.{◌≡◌, inl, inr, ℕ, ◌≤◌, List, [], ◌∷◌, ◌++◌, length, drop, replicate, Option, Some, refl, ◌∙◌, ap, subst, arith, length-drop}
 use Rattle.std.proofs.lemmas.List.{drop_at}
 use Rattle.sw_rules.specs.declared.disk.Part.{Part}
 use Rattle.sw_rules.specs.Image.{Image, get, put}
@@ -9,7 +9,7 @@ use Rattle.sw_rules.specs.Content.{IsPart, IsFresh}
 use Rattle.sw_rules.specs.Journal.{Stepped}
 use Rattle.sw_rules.proofs.FreshParts.{fresh, headed}
 use Rattle.sw_disk.proofs.Tears.{torn_within}
-use Rattle.sw_journal.specs.Init.{IsFormatted, IsBegun}
+use Rattle.sw_journal.specs.Init.{IsBegun}
 use Rattle.sw_journal.proofs.Images.{told_at, told_next, two_steps, done}
 use Rattle.sw_journal.proofs.Appends.{zero_is_closed}
 

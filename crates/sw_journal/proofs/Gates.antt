@@ -1,5 +1,5 @@
 -- What a crash leaves of a part while a record is written behind its gate, and while the gate is opened.
-use Rattle.std.proofs.Common.{◌≡◌, inl, inr, ℕ, zero, suc, ◌+◌, ◌<◌, ◌≤◌, List, [], ◌∷◌, ◌++◌, length, get_or, take, drop, Option, Some, sym, ◌∙◌, ap, subst, refl, arith, append_assoc, length-append, length-take, length-drop}
+use Rattle.std.proofs.Common.{◌≡◌, inl, inr, ℕ, ◌+◌, ◌<◌, List, [], ◌∷◌, ◌++◌, length, get_or, take, drop, Option, Some, sym, ◌∙◌, ap, subst, refl, arith, append_assoc, length-drop}
 use Rattle.std.proofs.lemmas.List.{take_at, drop_at, take_more, drop-drop, length-take-le}
 use Rattle.sw_rules.specs.declared.disk.Part.{Part}
 use Rattle.sw_rules.specs.Image.{Image, get, put}

@@ -1,5 +1,5 @@
 -- Which header a part has, by what was read of its front.
-use Rattle.std.proofs.Common.{◌≡◌, ◌≤◌, arith, ℕ, List, take, Bool, true, false, Option, Some, None, refl, sym, ◌∙◌, ap, subst}
+use Rattle.std.proofs.Common.{◌≡◌, arith, ℕ, List, take, true, false, Option, Some, None, refl, sym, ◌∙◌, ap, subst}
 use Rattle.std.proofs.lemmas.List.{take-take}
 use Rattle.std.specs.Prelude.{MatchOption, IsSome, is_some}
 use Rattle.sw_rules.specs.declared.disk.Part.{Part}

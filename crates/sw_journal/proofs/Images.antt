@@ -4,7 +4,7 @@ use Rattle.std.specs.Prelude.{OnOk}
 use Rattle.sw_rules.specs.declared.disk.Part.{Part}
 use Rattle.sw_rules.specs.declared.disk.Part.TheVariants.{Root, Left, Right}
 use Rattle.sw_rules.specs.Image.{Image, get, put}
-use Rattle.sw_rules.specs.DiskRule.{ForTold, Tells, OnPart, Only}
+use Rattle.sw_rules.specs.DiskRule.{ForTold, Tells, OnPart}
 
 pub get-put : (part : Part) (bytes : List ℕ) (image : Image) → get part (put part bytes image) ≡ bytes
 get-put Root bytes image = refl

@@ -1,9 +1,9 @@
 -- What reading gives, and that it changes nothing.
-use Rattle.std.proofs.Common.{◌≡◌, ℕ, ◌+◌, ◌-◌, ◌<◌, ◌≤◌, List, [], ◌∷◌, ◌++◌, length, take, drop, Option, Some, None, Result, Ok, Err, refl, sym, ◌∙◌, ap, subst, arith, length-append, length-take, length-drop, take-append-drop}
-use Rattle.std.proofs.lemmas.List.{take_at, drop_at, take_all, take-take, take-append-le, drop-take, length-take-le}
+use Rattle.std.proofs.Common.{◌≡◌, ℕ, ◌+◌, ◌≤◌, List, ◌++◌, length, take, drop, Option, Some, None, Result, Ok, Err, refl, sym, ◌∙◌, arith, take-append-drop}
+use Rattle.std.proofs.lemmas.List.{take_at, drop_at, take-take, take-append-le, drop-take, length-take-le}
 use Rattle.std.specs.Prelude.{IfOk}
 use Rattle.sw_rules.specs.Image.{Image}
-use Rattle.sw_rules.specs.DiskRule.{ForTold, Within, Elapses, LeavesOnly, ReadsAt}
+use Rattle.sw_rules.specs.DiskRule.{ForTold, Within, Elapses}
 use Rattle.sw_disk.proofs.Moments.{started, goes_on, both, weaker}
 use Rattle.sw_journal.specs.Quiet.{IsQuiet}
 

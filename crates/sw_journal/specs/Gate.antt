@@ -1,5 +1,5 @@
 -- What a part's bytes become while a record is written behind its closed gate and the gate is opened.
-use Rattle.std.specs.Prelude.{◌≡◌, ◌⊎◌, ◌+◌, ℕ, List, [], ◌∷◌, ◌++◌, take, drop}
+use Rattle.std.specs.Prelude.{◌≡◌, ◌⊎◌, ◌+◌, ℕ, List, ◌∷◌, ◌++◌, take, drop}
 
 -- own: all bytes before the gate stay, some byte stands as the gate, and this record is whole behind it
 pub record HasBehind (gate : ℕ) (bytes : List ℕ) (old new : List ℕ) : Type 0 where

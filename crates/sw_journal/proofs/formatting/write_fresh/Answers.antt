@@ -1,4 +1,4 @@
-use Rattle.std.proofs.Common.{◌≡◌, ◌<◌, ◌-◌, ◌^◌, [], length, replicate, sym, ◌∙◌, subst, Some, arith}
+use Rattle.std.proofs.Common.{◌≡◌, length, replicate, sym, ◌∙◌, subst, arith}
 use Rattle.sw_rules.specs.Image.{Image, get, put}
 use Rattle.sw_rules.specs.DiskRule.{ForTold, Tells, OnPart, Only, Follows, Torn, LeavesOnly, written}
 use Rattle.sw_rules.specs.Format.{format_2}

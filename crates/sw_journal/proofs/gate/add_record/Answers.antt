@@ -1,6 +1,6 @@
-use Rattle.std.proofs.Common.{◌≡◌, ◌+◌, ◌<◌, [], ◌∷◌, length, sym, ◌∙◌, subst, Some}
-use Rattle.sw_rules.specs.Image.{Image, get, put}
-use Rattle.sw_rules.specs.DiskRule.{ForTold, Tells, OnPart, Only, Follows, Torn, LeavesOnly, written}
+use Rattle.std.proofs.Common.{◌≡◌, ◌+◌, ◌<◌, [], ◌∷◌, length, sym, ◌∙◌, subst}
+use Rattle.sw_rules.specs.Image.{get, put}
+use Rattle.sw_rules.specs.DiskRule.{Tells, OnPart, Only, Follows, Torn, LeavesOnly, written}
 use Rattle.sw_disk.proofs.Moments.{started, goes_on}
 use Rattle.sw_rules.specs.Journal.{Stepped}
 use Rattle.sw_journal.specs.Gate.{HasBehind, IsTornRecord, IsOpened}

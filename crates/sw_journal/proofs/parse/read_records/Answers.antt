@@ -1,7 +1,7 @@
-use Rattle.std.proofs.Common.{arith, ◌≡◌, ◌+◌, ◌<◌, ◌≤◌, ◌-◌, ℕ, List, [], ◌∷◌, ◌++◌, length, get_or, take, drop, Some, None, Option, sym, ◌∙◌, ap, refl, length-drop, length-take}
+use Rattle.std.proofs.Common.{arith, ◌≡◌, ◌+◌, ◌-◌, ℕ, List, [], ◌∷◌, ◌++◌, length, take, drop, Some, None, Option, sym, ◌∙◌, ap, refl, length-drop}
 use Rattle.std.proofs.lemmas.List.{take_rest, length_push}
-use Rattle.sw_rules.specs.Content.{Reading, payload_length, reading, reading_from, preceded}
-use Rattle.sw_rules.proofs.PartLemmas.{Whole, whole_is}
+use Rattle.sw_rules.specs.Content.{payload_length, reading, reading_from, preceded}
+use Rattle.sw_rules.proofs.PartLemmas.{whole_is}
 use Rattle.sw_journal.specs.Version.{format_at}
 use Rattle.sw_journal.proofs.ParseSteps.{end_step, closed_step, bad_step, record_step, start_step}
 use Rattle.sw_journal.proofs.parse.read_records.Goals as goal

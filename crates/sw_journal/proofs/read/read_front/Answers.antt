@@ -1,5 +1,5 @@
-use Rattle.std.proofs.Common.{◌≡◌, ◌+◌, take, subst, arith}
-use Rattle.sw_rules.specs.Image.{Image, get}
+use Rattle.std.proofs.Common.{◌≡◌, ◌+◌, take, subst}
+use Rattle.sw_rules.specs.Image.{get}
 use Rattle.sw_rules.specs.DiskRule.{ForTold}
 use Rattle.sw_journal.proofs.Images.{told_both}
 use Rattle.sw_journal.proofs.ReadLemmas.{quiet_then}

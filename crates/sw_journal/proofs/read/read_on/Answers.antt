@@ -1,6 +1,6 @@
-use Rattle.std.proofs.Common.{◌≡◌, ◌+◌, ◌-◌, ◌≤◌, ◌++◌, List, ℕ, take, drop, length, arith}
+use Rattle.std.proofs.Common.{◌≡◌, ◌+◌, ◌-◌, ◌≤◌, take, length, arith}
 use borrow.Rule.Slice.PartMut.{post_of, put_mid}
-use Rattle.sw_rules.specs.Image.{Image, get}
+use Rattle.sw_rules.specs.Image.{get}
 use Rattle.sw_rules.specs.DiskRule.{ReadsAt}
 use Rattle.sw_journal.proofs.read.read_on.Goals as goal
 use Rattle.sw_journal.proofs.ReadLemmas.{quiet_call, told_ok, read_into}

@@ -1,4 +1,4 @@
-use Rattle.std.proofs.Common.{length, vec_len, ◌-◌, ◌≡◌, ◌≤◌, take}
+use Rattle.std.proofs.Common.{length, vec_len, ◌-◌, ◌≡◌, take}
 use Rattle.sw_rules.specs.Image.{get}
 use Rattle.sw_rules.specs.DiskRule.{ForTold}
 use Rattle.sw_journal.specs.Quiet.{IsQuiet}

@@ -1,4 +1,4 @@
-use Rattle.std.proofs.Common.{rules, arith, ◌≡◌, ◌+◌, ◌-◌, ◌^◌, ◌<◌, ◌++◌, [], ◌∷◌, length, sym, ◌∙◌, ap, subst, refl, vec_capacity, ℕ, List}
+use Rattle.std.proofs.Common.{rules, arith, ◌≡◌, ◌+◌, ◌-◌, ◌^◌, ◌<◌, ◌++◌, [], ◌∷◌, length, sym, ◌∙◌, ap, subst, refl, vec_capacity, ℕ}
 use Rattle.sw_rules.specs.Image.{Image, get}
 use Rattle.sw_rules.specs.DiskRule.{ForTold, Tells, OnPart, LeavesOnly}
 use Rattle.sw_rules.specs.Format.{Format, format_2, record_bytes, needed_length}
