@@ -237,6 +237,7 @@ impl Disk for MemoryDisk {
         requires { at ≤ length (get part (disk_image self.old)) }
         ensures ok { OnOk result (disk_image self.new ≡ put part (written at bytes.now (get part (disk_image self.old))) (disk_image self.old)) }
         ensures err { OnErr result (OnPart part (FailedWrite at (length bytes.now)) (disk_image self.old) (disk_image self.new)) }
+        ensures unwritten { OnErr result (disk_image self.new ≡ disk_image self.old) }
         ensures crash { Follows (OnPart part (Torn (length (get part (disk_image self.old))) at (length bytes.now))) (CrashLeaves self.old) (CrashLeaves self.new) }
         ensures time { Elapses (clock_of self.old) (clock_of self.new) (LeftSince self.old) (LeftSince self.new) (CrashLeaves self.new) }
         ensures cause { HasCause (faults_of self.old) (faults_of self.new) result }
@@ -256,6 +257,7 @@ impl Disk for MemoryDisk {
         requires { len ≤ length (get part (disk_image self.old)) }
         ensures ok { OnOk result (disk_image self.new ≡ put part (take len (get part (disk_image self.old))) (disk_image self.old)) }
         ensures err { OnErr result (OnPart part (FailedCut len) (disk_image self.old) (disk_image self.new)) }
+        ensures uncut { OnErr result (disk_image self.new ≡ disk_image self.old) }
         ensures crash { Follows (OnPart part (PendingCut len)) (CrashLeaves self.old) (CrashLeaves self.new) }
         ensures time { Elapses (clock_of self.old) (clock_of self.new) (LeftSince self.old) (LeftSince self.new) (CrashLeaves self.new) }
         ensures cause { HasCause (faults_of self.old) (faults_of self.new) result }
