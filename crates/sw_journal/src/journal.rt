@@ -132,6 +132,7 @@ impl Journal {
         ensures full { (from needs : ℕ) → IsErrOf result (AppendError.Full from needs)
             ↔ ((from ≡ self.old.gate + 1) × (needs ≡ needed_length format_2 (length payload.now)) × (self.old.limit < from + needs)) }
         ensures untouched { (from needs : ℕ) → IsErrOf result (AppendError.Full from needs) → disk.new ≡ disk.old }
+        ensures still_stands { (from needs : ℕ) → IsErrOf result (AppendError.Full from needs) → StandsFor self.new (D.seen disk.new) (D.may_leave disk.new) }
 
         ensures next { OnOk result (self.new ≡ record self.old {
           gate = self.old.gate + needed_length format_2 (length payload.now);
