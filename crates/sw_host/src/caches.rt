@@ -43,7 +43,6 @@ fn has_url(pair: &Pair, url: &Text) -> bool
 }
 
 /// Drops the pairs of this address.
-
 fn drop_url(pairs: &mut Vec<Pair>, url: &Text)
     ensures items { pairs.new.items ≡ filter (λ old. not (has_url url.now old)) pairs.old.items }
     ensures bound { vec_len pairs.new ≤ vec_len pairs.old }
@@ -72,8 +71,8 @@ fn add_pair(alloc: Global, row: &mut KeptCache, pair: Pair) -> Result<(), NoMemo
     }
 }
 
-#[tactic(auto, using(crate::proofs::CacheLemmas::with_cache_skip))]
 /// Puts a pair into the first cache of a key and a name.
+#[tactic(auto, using(crate::proofs::CacheLemmas::with_cache_skip))]
 pub fn put_pair(
     alloc: Global,
     rows: &mut [KeptCache],

@@ -1,6 +1,6 @@
 //! The top call: words, a source and a sink.
 
-ghost use Rattle.std.specs.Prelude.{◌≡◌, ℕ, List, IfOk};
+ghost use Rattle.std.specs.Prelude.{◌≡◌, ℕ, List, true, IfOk};
 ghost use Rattle.std.specs.Io.KnownBytes.{Appends, Keeps};
 ghost use Rattle.sw_rules.specs.Faults.{Rose};
 ghost use Rattle.sw_rules.specs.Streams.{AppendsPrefix};
@@ -29,7 +29,6 @@ struct Report {
 ///
 /// Refusals are tested in this order: words, reading, lines; a write fault replaces the status that stood. Want of
 /// memory may come at any point before writing.
-
 pub fn run<S: Source, K: Sink>(
     alloc: Global,
     words: &[String],
@@ -44,7 +43,8 @@ pub fn run<S: Source, K: Sink>(
     // Each refusal has its cause, and its text was written.
     ensures not_yet { result ≡ Status.NotYet → IsNotYet words.now (S.left source.old)
         × Appends (K.held sink.old) (K.held sink.new) (refusal_text Status.NotYet) }
-    ensures read_fault { result ≡ Status.ReadFault → Rose (S.faults source.old) (S.faults source.new)
+    ensures read_fault { result ≡ Status.ReadFault → (is_replay words.now ≡ true)
+        × Rose (S.faults source.old) (S.faults source.new)
         × Appends (K.held sink.old) (K.held sink.new) (refusal_text Status.ReadFault) }
 
     // The sink failed, and took a first part of the text that stood.
