@@ -4,15 +4,10 @@ use Rattle.std.proofs.lemmas.List.{length-replicate, take-take, drop-take, take_
 use Rattle.std.proofs.lemmas.Bool.{cases_lt}
 use Rattle.std.specs.Prelude.{Result, Ok, Err, OnOk, OnErr}
 use Rattle.std.proofs.lemmas.Bool.{false≢true}
-use Rattle.sw_rules.specs.DiskRule.{written, Torn, PendingCut}
+use Rattle.sw_disk.specs.DiskRule.{written, Torn, PendingCut}
 use Rattle.sw_disk.specs.Doubts.{Fits, Leaves, marked, marks_of, Exactly}
+use Rattle.sw_disk.specs.MemoryLaws.{fits_itself}
 use Rattle.sw_disk.proofs.Marks.{length-marked}
-
--- what reads give fits
-pub fits_itself : (bytes : List ℕ) (marks : List Bool) → length marks ≤ length bytes → Fits bytes marks bytes
-fits_itself bytes [] short = tt
-fits_itself [] (mark ∷ marks) short = absurd (omega (arith, short))
-fits_itself (byte ∷ bytes) (mark ∷ marks) short = (λ is. refl, fits_itself bytes marks (omega (arith, short)))
 
 -- what fits has a byte for each mark
 fits_long : (bytes : List ℕ) (marks : List Bool) (c : List ℕ) → Fits bytes marks c → length marks ≤ length c

@@ -4,5 +4,7 @@ mod Marks
 mod Moved
 mod PickSteps
 mod Sure
+pub mod Images
 pub mod Moments
+pub mod Stages
 pub mod Tears

@@ -2,12 +2,12 @@
 use Rattle.std.proofs.Common.{◌≡◌, ◌<◌, ◌≤◌, ◌+◌, ℕ, suc, List, [], ◌∷◌, ◌++◌, Bool, true, false, if◌then◌else◌, length, take, drop, set, get_or, refl, sym, ◌∙◌, ap, arith, append_assoc}
 use Rattle.std.proofs.lemmas.List.{drop_more, drop-drop, take_more_set, drop-set-lt}
 use Rattle.sw_disk.specs.Picks.{in_doubt, later_marks, first_pick, later_picks, picked, picks_left, picked_of, part_picked, part_left, image_picked}
-use Rattle.sw_rules.specs.declared.disk.Part.{Part}
-use Rattle.sw_rules.specs.declared.disk.Part.TheVariants.{Root, Left, Right}
-use Rattle.sw_rules.specs.Image.{get}
+use Rattle.sw_disk.specs.declared.part.Part.{Part}
+use Rattle.sw_disk.specs.declared.part.Part.TheVariants.{Root, Left, Right}
+use Rattle.sw_disk.specs.Image.{get}
 use Rattle.sw_disk.specs.Memory.{PartLeaves, MayLeave, image_of}
 use Rattle.sw_disk.specs.declared.memory.part.MemoryPart.{MemoryPart}
-use Rattle.sw_disk.specs.declared.memory.parts.Parts.{Parts}
+use Rattle.sw_disk.specs.declared.part.Parts.{Parts}
 use Rattle.sw_disk.specs.Doubts.{Fits, Leaves}
 use Rattle.std.proofs.lemmas.Bool.{false≢true}
 
@@ -74,7 +74,7 @@ length-picked_of false marks bytes picks = refl
 length-picked_of true marks bytes picks = length-picked marks bytes picks
 
 -- so is the image of the three parts
-pub picked_allowed : (parts : Parts) (picks : List ℕ) → MayLeave parts (image_picked parts picks)
+pub picked_allowed : (parts : Parts MemoryPart) (picks : List ℕ) → MayLeave parts (image_picked parts picks)
 picked_allowed parts picks = record {
   root = part_leaves parts.root picks;
   left = part_leaves parts.left (part_left parts.root picks);
@@ -87,7 +87,7 @@ picked_allowed parts picks = record {
 pub length-part_picked : (part : MemoryPart) (picks : List ℕ) → length (part_picked part picks) ≡ length part.bytes.items
 length-part_picked part picks = length-picked_of part.touched part.doubts.items part.bytes.items picks
 
-pub lengths_picked : (parts : Parts) (picks : List ℕ) (part : Part) → length (get part (image_picked parts picks)) ≡ length (get part (image_of parts))
+pub lengths_picked : (parts : Parts MemoryPart) (picks : List ℕ) (part : Part) → length (get part (image_picked parts picks)) ≡ length (get part (image_of parts))
 lengths_picked parts picks Root = length-part_picked parts.root picks
 lengths_picked parts picks Left = length-part_picked parts.left (part_left parts.root picks)
 lengths_picked parts picks Right = length-part_picked parts.right (part_left parts.left (part_left parts.root picks))

@@ -1,10 +1,10 @@
 -- What a torn write leaves of a part, for the callers of a disk.
 use Rattle.std.proofs.Common.{◌≡◌, ◌≢◌, ◌≤◌, ◌+◌, ◌-◌, ℕ, List, ◌++◌, length, take, drop, sym, ◌∙◌, ap, refl, arith, length-take, length-drop, take-append-drop}
 use Rattle.std.proofs.lemmas.List.{take_all, drop-drop}
-use Rattle.sw_rules.specs.declared.disk.Part.{Part}
-use Rattle.sw_rules.specs.declared.disk.Part.TheVariants.{Root, Left, Right}
-use Rattle.sw_rules.specs.Image.{Image, get}
-use Rattle.sw_rules.specs.DiskRule.{Torn, OnPart}
+use Rattle.sw_disk.specs.declared.part.Part.{Part}
+use Rattle.sw_disk.specs.declared.part.Part.TheVariants.{Root, Left, Right}
+use Rattle.sw_disk.specs.Image.{Image, get}
+use Rattle.sw_disk.specs.DiskRule.{Torn, OnPart}
 
 -- a step of one part leaves the others alone
 pub other_part : (part other : Part) (step : List ℕ → List ℕ → Type 0) (old new : Image) → part ≢ other → OnPart part step old new → get other new ≡ get other old

@@ -3,16 +3,16 @@ use Rattle.std.specs.Prelude.{◌⊎◌, ◌<◌, ◌≤◌, ◌^◌, ◌-◌, �
 use Rattle.std.specs.List.{All}
 use Rattle.std.proofs.Common.{inl, inr, refl, le_of_suc-le-suc, not-suc-le-zero, lt_of_le_of_lt, lt_irrefl}
 use Rattle.std.proofs.lemmas.List.Elements.{All-head, All-tail}
-use Rattle.sw_rules.specs.declared.disk.Part.{Part}
-use Rattle.sw_rules.specs.declared.disk.Part.TheVariants.{Root, Left, Right}
-use Rattle.sw_rules.specs.Faults.{Rose}
-use Rattle.sw_rules.specs.Image.{Image, get}
+use Rattle.sw_disk.specs.declared.part.Part.{Part}
+use Rattle.sw_disk.specs.declared.part.Part.TheVariants.{Root, Left, Right}
+use Rattle.sw_data.specs.Faults.{Rose}
+use Rattle.sw_disk.specs.Image.{Image, get}
 use Rattle.sw_disk.specs.Doubts.{Fits, Leaves}
 use Rattle.sw_disk.specs.Memory.{MayLeave, PartLeaves, HadLeft, image_of}
 use Rattle.sw_disk.specs.Lengths.{vec_small}
 use Rattle.sw_disk.specs.declared.memory.history.Past.{Past}
 use Rattle.sw_disk.specs.declared.memory.part.MemoryPart.{MemoryPart}
-use Rattle.sw_disk.specs.declared.memory.parts.Parts.{Parts}
+use Rattle.sw_disk.specs.declared.part.Parts.{Parts}
 
 -- what reads give fits the marks
 pub fits_itself : (bytes : List ℕ) (marks : List Bool) → length marks ≤ length bytes → Fits bytes marks bytes
@@ -28,7 +28,7 @@ part_leaves : (part : MemoryPart) → PartLeaves part part.bytes.items
 part_leaves part = leaves_itself part.touched part.doubts.items part.bytes.items part.short
 
 -- a crash may leave what reads give
-pub leaves_image : (parts : Parts) → MayLeave parts (image_of parts)
+pub leaves_image : (parts : Parts MemoryPart) → MayLeave parts (image_of parts)
 leaves_image parts = record { root = part_leaves parts.root; left = part_leaves parts.left; right = part_leaves parts.right }
 
 none_left : (past : List Past) (now : ℕ) (c : Image) → now < 2 ^ 64 - 1 → All (λ p. Rose p.clock now) past → HadLeft past now c → ⊥
@@ -37,12 +37,12 @@ none_left (was ∷ past) now c goes before (inl here) = lt_irrefl now (lt_of_le_
 none_left (was ∷ past) now c goes before (inr there) = none_left past now c goes (All-tail (λ p. Rose p.clock now) was past before) there
 
 -- since the clock now there is no moment that is past
-pub current : (parts : Parts) (past : List Past) (now : ℕ) (c : Image) → now < 2 ^ 64 - 1 → All (λ p. Rose p.clock now) past → MayLeave parts c ⊎ HadLeft past now c → MayLeave parts c
+pub current : (parts : Parts MemoryPart) (past : List Past) (now : ℕ) (c : Image) → now < 2 ^ 64 - 1 → All (λ p. Rose p.clock now) past → MayLeave parts c ⊎ HadLeft past now c → MayLeave parts c
 current parts past now c goes before (inl left) = left
 current parts past now c goes before (inr had) = absurd (none_left past now c goes before had)
 
 -- each part has fewer than 2^63 bytes
-pub image_small : (parts : Parts) (part : Part) → length (get part (image_of parts)) < 2 ^ 63
+pub image_small : (parts : Parts MemoryPart) (part : Part) → length (get part (image_of parts)) < 2 ^ 63
 image_small parts Root = vec_small parts.root.bytes
 image_small parts Left = vec_small parts.left.bytes
 image_small parts Right = vec_small parts.right.bytes

@@ -1,8 +1,8 @@
 -- The image that a crash leaves where the bytes in doubt are picked.
 use Rattle.std.specs.Prelude.{ℕ, List, [], ◌∷◌, Bool, true, false, if◌then◌else◌}
-use Rattle.sw_rules.specs.Image.{Image}
+use Rattle.sw_disk.specs.Image.{Image}
 use Rattle.sw_disk.specs.declared.memory.part.MemoryPart.{MemoryPart}
-use Rattle.sw_disk.specs.declared.memory.parts.Parts.{Parts}
+use Rattle.sw_disk.specs.declared.part.Parts.{Parts}
 
 -- own: the first pick, and 0 where these are used up
 abbrev pub first_pick : List ℕ → ℕ
@@ -54,7 +54,7 @@ abbrev pub part_left : MemoryPart → List ℕ → List ℕ
 part_left part picks = left_of part.touched part.doubts.items part.bytes.items picks
 
 -- own: the image, part by part in the order root, left, right
-abbrev pub image_picked : Parts → List ℕ → Image
+abbrev pub image_picked : Parts MemoryPart → List ℕ → Image
 image_picked parts picks =
     record {
       root = part_picked parts.root picks;

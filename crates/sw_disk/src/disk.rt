@@ -1,14 +1,17 @@
 //! What a disk is.
 
 ghost use Rattle.std.specs.Prelude.{◌≡◌, ◌^◌, ◌<◌, ◌≤◌, ◌-◌, ℕ, Option, Some, IfOk, OnOk, OnErr, length, take};
-ghost use Rattle.sw_rules.specs.Image.{Image, get, put};
-ghost use Rattle.sw_rules.specs.declared.disk.Part.{Part};
-ghost use Rattle.sw_rules.specs.DiskRule.{ForTold, Tells, OnPart, written, FailedWrite, FailedCut, Torn, PendingCut, Follows, Within, Only, Elapses, HasCause, ReadsAt};
+ghost use Rattle.sw_disk.specs.Image.{Image, get};
+ghost use Rattle.sw_disk.specs.declared.part.Part.{Part};
+ghost use Rattle.sw_disk.specs.DiskRule.{ForTold, BothTold, OnPart, Puts, written, FailedWrite, FailedCut, PendingCut};
+ghost use Rattle.sw_disk.specs.DiskRule.{TornWrite, Follows, Within, Only, Elapses, HasCause, ReadsAt};
 
-use sw_rules::Part;
+use crate::part::Part;
+use thiserror::Error;
 
 /// A call of a disk failed, and its count of faults rose, or stands at 2^64 - 1.
-#[derive(Debug, Clone, Copy, PartialEq, Eq)]
+#[derive(Debug, Clone, Copy, PartialEq, Eq, Error)]
+#[error("a call of the disk failed")]
 pub struct Failed;
 
 /// A disk of three parts, each a list of bytes that can be written over, cut and grown at its end.
@@ -36,46 +39,55 @@ pub trait Disk {
 
     /// The length of a part, in bytes.
     fn len(&mut self, part: Part) -> Result<u64, Failed>
-        ensures length { ForTold (seen self.old) (λ image. IfOk result (λ n. n ≡ length (get part image))) }
+        ensures length { ForTold (seen self.old)
+            (λ image. IfOk result (λ n. n ≡ length (get part image))) }
         ensures seen { seen self.new ≡ seen self.old }
         ensures crash { Within (may_leave self.new) (may_leave self.old) }
-        ensures time { Elapses (clock self.old) (clock self.new) (left_since self.old) (left_since self.new) (may_leave self.new) }
+        ensures time { Elapses clock left_since may_leave self.old self.new }
         ensures cause { HasCause (faults self.old) (faults self.new) result };
 
     /// Reads a part from a place on into the front of `into`, and says how many bytes it read: at least one where
     /// the place is before the part's end and `into` has room, and none from the end on.
     fn read_at(&mut self, part: Part, at: u64, into: &mut [u8]) -> Result<usize, Failed>
         ensures fits { IfOk result (λ n. n ≤ length into.new) }
-        ensures bytes { ForTold (seen self.old) (λ image. IfOk result (ReadsAt (get part image) at into.new)) }
+        ensures bytes { ForTold (seen self.old)
+            (λ image. IfOk result (ReadsAt (get part image) at into.new)) }
         ensures seen { seen self.new ≡ seen self.old }
         ensures crash { Within (may_leave self.new) (may_leave self.old) }
-        ensures time { Elapses (clock self.old) (clock self.new) (left_since self.old) (left_since self.new) (may_leave self.new) }
+        ensures time { Elapses clock left_since may_leave self.old self.new }
         ensures cause { HasCause (faults self.old) (faults self.new) result };
 
     /// Writes over what is there from a place on, and past the part's end.
     fn write_at(&mut self, part: Part, at: u64, bytes: &[u8]) -> Result<(), Failed>
         requires { ForTold (seen self.old) (λ image. at ≤ length (get part image)) }
-        ensures ok { OnOk result (Tells (seen self.old) (seen self.new) (λ old new. new ≡ put part (written at bytes.now (get part old)) old)) }
-        ensures err { OnErr result (Tells (seen self.old) (seen self.new) (OnPart part (FailedWrite at (length bytes.now)))) }
-        ensures crash { ForTold (seen self.old) (λ old. Follows (OnPart part (Torn (length (get part old)) at (length bytes.now))) (may_leave self.old) (may_leave self.new)) }
-        ensures time { Elapses (clock self.old) (clock self.new) (left_since self.old) (left_since self.new) (may_leave self.new) }
+        ensures ok { OnOk result
+            (BothTold (seen self.old) (seen self.new) (Puts part (written at bytes.now))) }
+        ensures err { OnErr result (BothTold (seen self.old) (seen self.new)
+            (OnPart part (FailedWrite at (length bytes.now)))) }
+        ensures crash { ForTold (seen self.old) (λ image. Follows
+            (TornWrite part at (length bytes.now) image) (may_leave self.old)
+            (may_leave self.new)) }
+        ensures time { Elapses clock left_since may_leave self.old self.new }
         ensures cause { HasCause (faults self.old) (faults self.new) result };
 
     /// Cuts a part to a length.
     fn cut(&mut self, part: Part, len: u64) -> Result<(), Failed>
         requires { ForTold (seen self.old) (λ image. len ≤ length (get part image)) }
-        ensures ok { OnOk result (Tells (seen self.old) (seen self.new) (λ old new. new ≡ put part (take len (get part old)) old)) }
-        ensures err { OnErr result (Tells (seen self.old) (seen self.new) (OnPart part (FailedCut len))) }
-        ensures crash { ForTold (seen self.old) (λ old. Follows (OnPart part (PendingCut len)) (may_leave self.old) (may_leave self.new)) }
-        ensures time { Elapses (clock self.old) (clock self.new) (left_since self.old) (left_since self.new) (may_leave self.new) }
+        ensures ok { OnOk result (BothTold (seen self.old) (seen self.new) (Puts part (take len))) }
+        ensures err { OnErr result
+            (BothTold (seen self.old) (seen self.new) (OnPart part (FailedCut len))) }
+        ensures crash { ForTold (seen self.old) (λ image. Follows
+            (OnPart part (PendingCut len)) (may_leave self.old) (may_leave self.new)) }
+        ensures time { Elapses clock left_since may_leave self.old self.new }
         ensures cause { HasCause (faults self.old) (faults self.new) result };
 
     /// After `Ok`, a crash leaves what reads give, of all three parts. After `Err` nothing more is sure than before.
     fn sync(&mut self) -> Result<(), Failed>
-        ensures durable { OnOk result (ForTold (seen self.old) (λ image. Only image (may_leave self.new))) }
+        ensures durable { OnOk result
+            (ForTold (seen self.old) (λ image. Only image (may_leave self.new))) }
         ensures seen { seen self.new ≡ seen self.old }
         ensures crash { Within (may_leave self.new) (may_leave self.old) }
-        ensures time { Elapses (clock self.old) (clock self.new) (left_since self.old) (left_since self.new) (may_leave self.new) }
+        ensures time { Elapses clock left_since may_leave self.old self.new }
         ensures cause { HasCause (faults self.old) (faults self.new) result };
 
     /// The clock: how many of the five calls above were made. At 2^64 - 1 it stays.
@@ -90,11 +102,14 @@ pub trait Disk {
     ghost shows: { (disk : Self) → ForTold (seen disk) (may_leave disk) };
 
     /// What a crash now may leave is what one since any clock up to now may have left.
-    ghost counts_now: { (disk : Self) (t : ℕ) (c : Image) → t ≤ clock disk → may_leave disk c → left_since disk t c };
+    ghost counts_now: { (disk : Self) (t : ℕ) (c : Image)
+        → t ≤ clock disk → may_leave disk c → left_since disk t c };
 
     /// Since the clock now there is no other moment, as long as the clock still goes.
-    ghost only_now: { (disk : Self) (c : Image) → clock disk < 2 ^ 64 - 1 → left_since disk (clock disk) c → may_leave disk c };
+    ghost only_now: { (disk : Self) (c : Image)
+        → clock disk < 2 ^ 64 - 1 → left_since disk (clock disk) c → may_leave disk c };
 
     /// Each part has fewer than 2^63 bytes.
-    ghost bounded: { (disk : Self) (part : Part) → ForTold (seen disk) (λ image. length (get part image) < 2 ^ 63) };
+    ghost bounded: { (disk : Self) (part : Part)
+        → ForTold (seen disk) (λ image. length (get part image) < 2 ^ 63) };
 }

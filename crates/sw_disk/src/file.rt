@@ -3,9 +3,9 @@
 ghost use Rattle.std.specs.Prelude.{◌≡◌, ◌≤◌, IfSome, IsSome, IsTrue, length, option_map, is_some};
 
 use crate::disk::{Disk, Failed};
+use crate::part::{Part, Parts};
 use std::fs::File;
 use std::os::unix::fs::FileExt;
-use sw_rules::Part;
 
 /// A disk over three files, of which any may be missing: a call on a missing part fails, and so does a sync.
 ///
@@ -13,16 +13,14 @@ use sw_rules::Part;
 /// One call of a file is made for each call, and a write is repeated for what is left of it.
 #[derive(Drop)]
 pub struct FileDisk {
-    root: Option<File>,
-    left: Option<File>,
-    right: Option<File>,
+    files: Parts<Option<File>>,
     clock: u64,
     faults: u64,
 }
 
 impl FileDisk {
     ghost use Rattle.sw_disk.specs.Files.{has_file};
-    ghost use Rattle.sw_rules.specs.declared.disk.Part.TheVariants.{Root, Left, Right};
+    ghost use Rattle.sw_disk.specs.declared.part.Part.TheVariants.{Root, Left, Right};
 
     /// A disk over these files. Its clock and its count are 0.
     pub fn new(root: Option<File>, left: Option<File>, right: Option<File>) -> FileDisk
@@ -33,9 +31,7 @@ impl FileDisk {
         ensures right { has_file Right result ≡ is_some right }
     {
         FileDisk {
-            root,
-            left,
-            right,
+            files: Parts { root, left, right },
             clock: 0,
             faults: 0,
         }
@@ -46,19 +42,15 @@ impl FileDisk {
         ensures left { IsSome result → IsTrue (has_file Left self.now) }
         ensures right { IsSome result → IsTrue (has_file Right self.now) }
     {
-        sync_file(self.root.as_ref())?;
-        sync_file(self.left.as_ref())?;
-        sync_file(self.right.as_ref())
+        sync_file(self.files.root.as_ref())?;
+        sync_file(self.files.left.as_ref())?;
+        sync_file(self.files.right.as_ref())
     }
 
     fn file(&self, part: Part) -> Option<&File>
         ensures { is_some result ≡ has_file part self.now }
     {
-        match part {
-            Part::Root => self.root.as_ref(),
-            Part::Left => self.left.as_ref(),
-            Part::Right => self.right.as_ref(),
-        }
+        self.files.get(part).as_ref()
     }
 }
 
@@ -95,9 +87,9 @@ fn sync_file(file: Option<&File>) -> Option<()>
 
 impl Disk for FileDisk {
     ghost use Rattle.std.specs.Prelude.{◌≡◌, ◌≤◌, None, IfOk, IsOk, IsTrue, length};
-    ghost use Rattle.sw_rules.specs.DiskRule.{Elapses, HasCause};
-    ghost use Rattle.sw_rules.specs.declared.disk.Part.{Part};
-    ghost use Rattle.sw_disk.specs.Files.{has_file};
+    ghost use Rattle.sw_disk.specs.DiskRule.{HasCause, Elapses};
+    ghost use Rattle.sw_disk.specs.declared.part.Part.{Part};
+    ghost use Rattle.sw_disk.specs.Files.{files, has_file};
 
     ghost seen = { λ d. None };
 
@@ -119,7 +111,7 @@ impl Disk for FileDisk {
 
     fn len(&mut self, part: Part) -> Result<u64, Failed>
         ensures present { IsOk result → IsTrue (has_file part self.old) }
-        ensures time { Elapses self.old.clock self.new.clock (λ t c. ⊥) (λ t c. ⊥) (λ c. ⊥) }
+        ensures time { Elapses files.clock files.left_since files.may_leave self.old self.new }
         ensures cause { HasCause self.old.faults self.new.faults result }
     {
         self.clock = self.clock.saturating_add(1);
@@ -135,7 +127,7 @@ impl Disk for FileDisk {
     fn read_at(&mut self, part: Part, at: u64, into: &mut [u8]) -> Result<usize, Failed>
         ensures present { IsOk result → IsTrue (has_file part self.old) }
         ensures fits { IfOk result (λ n. n ≤ length into.new) }
-        ensures time { Elapses self.old.clock self.new.clock (λ t c. ⊥) (λ t c. ⊥) (λ c. ⊥) }
+        ensures time { Elapses files.clock files.left_since files.may_leave self.old self.new }
         ensures cause { HasCause self.old.faults self.new.faults result }
     {
         self.clock = self.clock.saturating_add(1);
@@ -150,7 +142,7 @@ impl Disk for FileDisk {
 
     fn write_at(&mut self, part: Part, at: u64, bytes: &[u8]) -> Result<(), Failed>
         ensures present { IsOk result → IsTrue (has_file part self.old) }
-        ensures time { Elapses self.old.clock self.new.clock (λ t c. ⊥) (λ t c. ⊥) (λ c. ⊥) }
+        ensures time { Elapses files.clock files.left_since files.may_leave self.old self.new }
         ensures cause { HasCause self.old.faults self.new.faults result }
     {
         self.clock = self.clock.saturating_add(1);
@@ -165,7 +157,7 @@ impl Disk for FileDisk {
 
     fn cut(&mut self, part: Part, len: u64) -> Result<(), Failed>
         ensures present { IsOk result → IsTrue (has_file part self.old) }
-        ensures time { Elapses self.old.clock self.new.clock (λ t c. ⊥) (λ t c. ⊥) (λ c. ⊥) }
+        ensures time { Elapses files.clock files.left_since files.may_leave self.old self.new }
         ensures cause { HasCause self.old.faults self.new.faults result }
     {
         self.clock = self.clock.saturating_add(1);
@@ -180,7 +172,7 @@ impl Disk for FileDisk {
 
     fn sync(&mut self) -> Result<(), Failed>
         ensures present { IsOk result → (part : Part) → IsTrue (has_file part self.old) }
-        ensures time { Elapses self.old.clock self.new.clock (λ t c. ⊥) (λ t c. ⊥) (λ c. ⊥) }
+        ensures time { Elapses files.clock files.left_since files.may_leave self.old self.new }
         ensures cause { HasCause self.old.faults self.new.faults result }
     {
         self.clock = self.clock.saturating_add(1);

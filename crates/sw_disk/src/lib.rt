@@ -7,15 +7,18 @@ mod disk;
 mod file;
 mod laws;
 mod memory;
+mod part;
 mod plain;
 mod span;
+mod synced;
 
 pub use disk::{Disk, Failed};
 pub use file::FileDisk;
 pub use laws::left_alone;
 pub use memory::{CallKind, Failing, MemoryDisk};
+pub use part::Part;
 pub use plain::PlainDisk;
-pub use sw_rules::Part;
+pub use synced::write_synced;
 
 #[cfg(test)]
 mod tests;

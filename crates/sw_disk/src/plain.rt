@@ -1,24 +1,23 @@
 //! A disk in memory, all of whose calls are done at once.
 
 use crate::disk::{Disk, Failed};
+use crate::part::{Part, Parts};
 use crate::span::{overwrite, read_into};
-use sw_rules::{Bytes, Part};
+use sw_data::Bytes;
 
 /// A disk in memory without failing calls: only a write can fail, and only for want of memory. Each call is done at
 /// once, so that a crash leaves what reads give. Of moments that are past it keeps nothing, so no call copies more
 /// than the bytes that it is given.
 #[derive(Debug, Drop)]
 pub struct PlainDisk {
-    root: Vec<u8>,
-    left: Vec<u8>,
-    right: Vec<u8>,
+    parts: Parts<Vec<u8>>,
     clock: u64,
     faults: u64,
 }
 
 impl PlainDisk {
     ghost use Rattle.std.specs.Prelude.{◌≡◌};
-    ghost use Rattle.sw_rules.specs.Image.{get};
+    ghost use Rattle.sw_disk.specs.Image.{get};
     ghost use Rattle.sw_disk.specs.Plain.{plain_image};
 
     /// A disk whose parts hold these bytes; it takes no memory. Its clock and its count are 0.
@@ -28,30 +27,22 @@ impl PlainDisk {
         ensures faults { result.faults ≡ 0 }
     {
         PlainDisk {
-            root: root.into_vec(),
-            left: left.into_vec(),
-            right: right.into_vec(),
+            parts: Parts {
+                root: root.into_vec(),
+                left: left.into_vec(),
+                right: right.into_vec(),
+            },
             clock: 0,
             faults: 0,
-        }
-    }
-
-    fn part(&self, part: Part) -> &[u8]
-        ensures { result.now ≡ get part (plain_image self.now) }
-    {
-        match part {
-            Part::Root => &self.root,
-            Part::Left => &self.left,
-            Part::Right => &self.right,
         }
     }
 }
 
 impl Disk for PlainDisk {
     ghost use Rattle.std.specs.Prelude.{◌≡◌, ◌≤◌, Some, refl, length, take, IfOk, IsOk, OnOk, OnErr};
-    ghost use Rattle.sw_rules.specs.Image.{Image, get, put};
-    ghost use Rattle.sw_rules.specs.DiskRule.{written, Elapses, HasCause, ReadsAt};
-    ghost use Rattle.sw_disk.specs.Plain.{plain_image, plain_small};
+    ghost use Rattle.sw_disk.specs.Image.{Image, get};
+    ghost use Rattle.sw_disk.specs.DiskRule.{Puts, written, HasCause, faults_after, ReadsAt, Elapses};
+    ghost use Rattle.sw_disk.specs.Plain.{plain, plain_image, plain_small};
 
     ghost seen = { λ d. Some (plain_image d) };
 
@@ -75,11 +66,11 @@ impl Disk for PlainDisk {
         ensures done { IsOk result }
         ensures length { IfOk result (λ n. n ≡ length (get part (plain_image self.old))) }
         ensures image { plain_image self.new ≡ plain_image self.old }
-        ensures time { Elapses self.old.clock self.new.clock (λ t c. c ≡ plain_image self.old) (λ t c. c ≡ plain_image self.new) (λ c. c ≡ plain_image self.new) }
+        ensures time { Elapses plain.clock plain.left_since plain.may_leave self.old self.new }
         ensures faults { self.new.faults ≡ self.old.faults }
     {
         self.clock = self.clock.saturating_add(1);
-        Ok(self.part(part).len() as u64)
+        Ok(self.parts.get(part).len() as u64)
     }
 
     fn read_at(&mut self, part: Part, at: u64, into: &mut [u8]) -> Result<usize, Failed>
@@ -87,28 +78,24 @@ impl Disk for PlainDisk {
         ensures fits { IfOk result (λ n. n ≤ length into.new) }
         ensures bytes { IfOk result (ReadsAt (get part (plain_image self.old)) at into.new) }
         ensures image { plain_image self.new ≡ plain_image self.old }
-        ensures time { Elapses self.old.clock self.new.clock (λ t c. c ≡ plain_image self.old) (λ t c. c ≡ plain_image self.new) (λ c. c ≡ plain_image self.new) }
+        ensures time { Elapses plain.clock plain.left_since plain.may_leave self.old self.new }
         ensures faults { self.new.faults ≡ self.old.faults }
     {
         self.clock = self.clock.saturating_add(1);
-        Ok(read_into(self.part(part), at, into))
+        Ok(read_into(self.parts.get(part), at, into))
     }
 
     fn write_at(&mut self, part: Part, at: u64, bytes: &[u8]) -> Result<(), Failed>
         requires { at ≤ length (get part (plain_image self.old)) }
-        ensures ok { OnOk result (plain_image self.new ≡ put part (written at bytes.now (get part (plain_image self.old))) (plain_image self.old)) }
+        ensures ok { OnOk result
+            (Puts part (written at bytes.now) (plain_image self.old) (plain_image self.new)) }
         ensures err { OnErr result (plain_image self.new ≡ plain_image self.old) }
-        ensures time { Elapses self.old.clock self.new.clock (λ t c. c ≡ plain_image self.old) (λ t c. c ≡ plain_image self.new) (λ c. c ≡ plain_image self.new) }
+        ensures time { Elapses plain.clock plain.left_since plain.may_leave self.old self.new }
         ensures cause { HasCause self.old.faults self.new.faults result }
+        ensures counts_faults { self.new.faults ≡ faults_after result self.old.faults }
     {
         self.clock = self.clock.saturating_add(1);
-        let place = at as usize;
-        let done = match part {
-            Part::Root => overwrite(&mut self.root, place, bytes),
-            Part::Left => overwrite(&mut self.left, place, bytes),
-            Part::Right => overwrite(&mut self.right, place, bytes),
-        };
-        match done {
+        match overwrite(self.parts.get_mut(part), at as usize, bytes) {
             Ok(()) => Ok(()),
             Err(Failed) => {
                 self.faults = self.faults.saturating_add(1);
@@ -120,23 +107,19 @@ impl Disk for PlainDisk {
     fn cut(&mut self, part: Part, len: u64) -> Result<(), Failed>
         requires { len ≤ length (get part (plain_image self.old)) }
         ensures done { IsOk result }
-        ensures image { plain_image self.new ≡ put part (take len (get part (plain_image self.old))) (plain_image self.old) }
-        ensures time { Elapses self.old.clock self.new.clock (λ t c. c ≡ plain_image self.old) (λ t c. c ≡ plain_image self.new) (λ c. c ≡ plain_image self.new) }
+        ensures image { Puts part (take len) (plain_image self.old) (plain_image self.new) }
+        ensures time { Elapses plain.clock plain.left_since plain.may_leave self.old self.new }
         ensures faults { self.new.faults ≡ self.old.faults }
     {
         self.clock = self.clock.saturating_add(1);
-        match part {
-            Part::Root => self.root.truncate(len as usize),
-            Part::Left => self.left.truncate(len as usize),
-            Part::Right => self.right.truncate(len as usize),
-        }
+        self.parts.get_mut(part).truncate(len as usize);
         Ok(())
     }
 
     fn sync(&mut self) -> Result<(), Failed>
         ensures done { IsOk result }
         ensures image { plain_image self.new ≡ plain_image self.old }
-        ensures time { Elapses self.old.clock self.new.clock (λ t c. c ≡ plain_image self.old) (λ t c. c ≡ plain_image self.new) (λ c. c ≡ plain_image self.new) }
+        ensures time { Elapses plain.clock plain.left_since plain.may_leave self.old self.new }
         ensures faults { self.new.faults ≡ self.old.faults }
     {
         self.clock = self.clock.saturating_add(1);

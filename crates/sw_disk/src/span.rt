@@ -1,7 +1,7 @@
 //! Reads and writes of a vector of bytes from a place on.
 
 ghost use Rattle.std.specs.Prelude.{◌≡◌, ◌+◌, ◌-◌, ◌≤◌, min, length, take, vec_len, OnOk, OnErr};
-ghost use Rattle.sw_rules.specs.DiskRule.{written, ReadsAt};
+ghost use Rattle.sw_disk.specs.DiskRule.{written, ReadsAt};
 
 use crate::disk::Failed;
 

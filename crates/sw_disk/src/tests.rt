@@ -1,8 +1,9 @@
 use super::*;
 use std::alloc::Global;
 use std::fs::{self, File, OpenOptions};
+use std::os::unix::fs::FileExt;
 use std::test::Fail;
-use sw_rules::{Bytes, NoMemory};
+use sw_data::{Bytes, NoMemory};
 
 fn empty(alloc: Global) -> Result<Bytes, NoMemory> {
     Bytes::of(alloc, &[])
@@ -18,8 +19,8 @@ fn with_left(alloc: Global, left: &[u8]) -> Result<MemoryDisk, NoMemory> {
     ))
 }
 
-// A file in the folder for temporary files, that has no name any more.
-fn nameless(rt: &HostRuntime) -> Result<File, Fail> {
+// A file in the folder for temporary files, opened twice, that has no name any more.
+fn nameless(rt: &HostRuntime) -> Result<(File, File), Fail> {
     let alloc = rt.alloc();
     for n in 0..1000u32 {
         let name = format!(in alloc; "/tmp/sw_disk_{n}")?;
@@ -28,8 +29,9 @@ fn nameless(rt: &HostRuntime) -> Result<File, Fail> {
         options.write(true);
         options.create_new(true);
         if let Ok(file) = options.open(rt, name.as_str()) {
+            let again = File::open(rt, name.as_str())?;
             fs::remove_file(rt, name.as_str())?;
-            return Ok(file);
+            return Ok((file, again));
         }
     }
     Err(Fail::new("no temporary file"))
@@ -125,20 +127,48 @@ fn a_plain_disk_works(rt: HostRuntime) -> Result<(), Fail> {
 }
 
 #[test]
+fn a_disk_stops(rt: HostRuntime) -> Result<(), Fail> {
+    let alloc = rt.alloc();
+    let mut disk = MemoryDisk::stopping(empty(alloc)?, empty(alloc)?, empty(alloc)?, 2);
+    assert_eq!(rt; disk.len(Part::Root), Ok(0));
+    assert_eq!(rt; write_synced(&mut disk, Part::Right, 0, &[7]), Err(Failed));
+    assert_eq!(rt; disk.len(Part::Root), Err(Failed));
+    assert_eq!(rt; (disk.clock(), disk.faults()), (4, 2));
+    assert_eq!(rt; disk.image(Part::Right), [7].as_slice());
+    Ok(())
+}
+
+// What a file holds.
+fn holds(file: &File, into: &mut [u8], bytes: &[u8]) -> bool {
+    match file.read_at(into, 0) {
+        Ok(count) => count == bytes.len() && into.starts_with(bytes),
+        Err(_) => false,
+    }
+}
+
+#[test]
 fn real_files_work(rt: HostRuntime) -> Result<(), Fail> {
-    let root = nameless(&rt)?;
-    let left = nameless(&rt)?;
-    let right = nameless(&rt)?;
+    let (root, root_again) = nameless(&rt)?;
+    let (left, left_again) = nameless(&rt)?;
+    let (right, right_again) = nameless(&rt)?;
     let mut disk = FileDisk::new(Some(root), Some(left), Some(right));
     let mut into = [9, 9, 9];
     assert_eq!(rt; works(&mut disk, &mut into), Ok(true));
     assert_eq!(rt; into, [2, 3, 9]);
+
+    // Each write is where it is told to be, and in no other file.
+    assert_eq!(rt; write_synced(&mut disk, Part::Left, 0, &[1, 2, 3]), Ok(()));
+    assert_eq!(rt; write_synced(&mut disk, Part::Left, 2, &[8, 9]), Ok(()));
+    assert_eq!(rt; write_synced(&mut disk, Part::Root, 0, &[5]), Ok(()));
+    assert!(rt; holds(&root_again, &mut [0; 9], &[5]));
+    assert!(rt; holds(&left_again, &mut [0; 9], &[1, 2, 8, 9]));
+    assert!(rt; holds(&right_again, &mut [0; 9], &[]));
     Ok(())
 }
 
 #[test]
 fn a_missing_file_fails(rt: HostRuntime) -> Result<(), Fail> {
-    let one = nameless(&rt)?;
+    let (one, _) = nameless(&rt)?;
     let mut disk = FileDisk::new(None, Some(one), None);
     assert_eq!(rt; disk.len(Part::Left), Ok(0));
     assert_eq!(rt; disk.len(Part::Root), Err(Failed));

@@ -2,7 +2,7 @@
 use Rattle.std.proofs.Common.{◌≡◌, ◌∙◌, ℕ, ◌+◌, ◌<◌, true, false, List, [], ◌∷◌, ◌++◌, take, drop, set, get_or, length, sym, ap, add-one, arith, append_assoc}
 use Rattle.std.proofs.Math.Seq.{drop-cons}
 use Rattle.std.proofs.lemmas.List.{take_more, set_split}
-use Rattle.sw_rules.specs.declared.storage.KeptCache.{KeptCache}
+use Rattle.sw_data.specs.declared.storage.KeptCache.{KeptCache}
 use Rattle.sw_rules.specs.Storage.{is_cache, with_cache}
 
 with_cache-true : (key name : List ℕ) (f : KeptCache → KeptCache) (row : KeptCache) (rest : List KeptCache) → is_cache key name row ≡ true → with_cache key name f (row ∷ rest) ≡ f row ∷ rest

@@ -1,20 +1,21 @@
 -- On plain pairs the definitions of matching compare addresses alone.
 use Rattle.std.proofs.Common.{◌≡◌, ℕ, ◌+◌, Bool, true, false, not, Option, List, option_map, [], ◌∷◌, ◌++◌, filter, find, Some, None, Err, refl, sym, ap, subst, arith, if◌then◌else◌}
 use Rattle.std.specs.List.{enumerate_from}
-use Rattle.sw_rules.specs.declared.exchange.Header.{Header}
-use Rattle.sw_rules.specs.declared.exchange.Request.{Request}
-use Rattle.sw_rules.specs.declared.exchange.Response.{Response}
-use Rattle.sw_rules.specs.declared.exchange.Op.TheVariants as op
-use Rattle.sw_rules.specs.declared.answers.Cause.TheVariants as cause
-use Rattle.sw_rules.specs.declared.storage.KeptCache.{KeptCache}
-use Rattle.sw_rules.specs.Batch.{TypeError, batch, has_http_scheme, no_options, op_size, put_fault, without_matching, within_quota}
+use Rattle.sw_data.specs.declared.exchange.Header.{Header}
+use Rattle.sw_data.specs.declared.exchange.Request.{Request}
+use Rattle.sw_data.specs.declared.exchange.Response.{Response}
+use Rattle.sw_data.specs.declared.exchange.Op.TheVariants as op
+use Rattle.sw_data.specs.declared.answers.Cause.TheVariants as cause
+use Rattle.sw_data.specs.declared.storage.KeptCache.{KeptCache}
+use Rattle.sw_data.specs.Exchange.{no_options}
+use Rattle.sw_rules.specs.Batch.{TypeError, batch, has_http_scheme, op_size, put_fault, without_matching, within_quota}
 use Rattle.sw_rules.specs.Matching.{Pair, first_match, is_get, matches_pair, vary_allows, varies_on_all}
-use Rattle.sw_rules.specs.declared.recordings.CacheMatch.{CacheMatch}
-use Rattle.sw_rules.specs.declared.recordings.CachePut.{CachePut}
+use Rattle.sw_data.specs.declared.recordings.CacheMatch.{CacheMatch}
+use Rattle.sw_data.specs.declared.recordings.CachePut.{CachePut}
 use Rattle.sw_rules.specs.State.{State}
-use Rattle.sw_rules.specs.Step.{asked_caches, first_hit, pairs_of, put_parsed, with_pairs}
+use Rattle.sw_rules.specs.Caching.{asked_caches, carry_out, first_hit, pairs_of, with_pairs}
 use Rattle.sw_rules.specs.Storage.{is_cache, with_cache}
-use Rattle.sw_host.specs.Plain.{IsPlainMatch, IsPlainPut, plain_put, ArePlainCaches, ArePlainPairs, IsPlainPair, first_plain_hit, first_with_url, has_url, pairs_with, with_pair}
+use Rattle.sw_host.specs.Plain.{IsPlainMatch, IsPlainPut, plain_put, put_parsed, ArePlainCaches, ArePlainPairs, IsPlainPair, first_plain_hit, first_with_url, has_url, pairs_with, with_pair}
 
 -- no Vary line: nothing varies
 vary_allows-plain : (query item : List Header) (status : ℕ) (body : List ℕ) → vary_allows query item (record { status = status; headers = []; body = body }) ≡ true
@@ -120,7 +121,8 @@ with_pairs-found key name pair (first ∷ rest) row found =
 
 -- ---- steps
 
-put_found-plain : (state : State) (put : CachePut) (key : List ℕ) (row : KeptCache) (url : List ℕ) → IsPlainPut put → ArePlainCaches state.caches → find (is_cache key put.name) state.caches ≡ Some row → put_parsed state put key row.pairs url ≡ plain_put state put key url
+put_found-plain : (state : State) (put : CachePut) (key : List ℕ) (row : KeptCache) (url : List ℕ) → IsPlainPut put → ArePlainCaches state.caches → find (is_cache key put.name) state.caches ≡ Some row → put_parsed state put key url row.pairs ≡ plain_put state put key url
+unfolding carry_out
 put_found-plain state put key row url plain all found =
     let request : Request = record put.request { url = url } in
     let pair : Pair = (request, put.response) in
@@ -128,14 +130,14 @@ put_found-plain state put key row url plain all found =
     let rows = with_pairs-found key put.name pair state.caches row found in
     grind (arith, same, rows)
 
-put_any-plain : (state : State) (put : CachePut) (key : List ℕ) (pairs : List Pair) (url : List ℕ) (row : Option KeptCache) → IsPlainPut put → ArePlainCaches state.caches → find (is_cache key put.name) state.caches ≡ row → option_map (λ (x : KeptCache). x.pairs) row ≡ Some pairs → put_parsed state put key pairs url ≡ plain_put state put key url
+put_any-plain : (state : State) (put : CachePut) (key : List ℕ) (pairs : List Pair) (url : List ℕ) (row : Option KeptCache) → IsPlainPut put → ArePlainCaches state.caches → find (is_cache key put.name) state.caches ≡ row → option_map (λ (x : KeptCache). x.pairs) row ≡ Some pairs → put_parsed state put key url pairs ≡ plain_put state put key url
 put_any-plain state put key pairs url None plain all found is = absurd cc
 put_any-plain state put key pairs url (Some row) plain all found is =
     let e : row.pairs ≡ pairs = cc in
-    subst (λ (xs : List Pair). put_parsed state put key xs url ≡ plain_put state put key url) e (put_found-plain state put key row url plain all found)
+    subst (λ (xs : List Pair). put_parsed state put key url xs ≡ plain_put state put key url) e (put_found-plain state put key row url plain all found)
 
 -- a plain put into plain caches
-pub put_parsed_plain : (state : State) (put : CachePut) (key : List ℕ) (pairs : List Pair) (url : List ℕ) → IsPlainPut put → ArePlainCaches state.caches → pairs_of key put.name state.caches ≡ Some pairs → put_parsed state put key pairs url ≡ plain_put state put key url
+pub put_parsed_plain : (state : State) (put : CachePut) (key : List ℕ) (pairs : List Pair) (url : List ℕ) → IsPlainPut put → ArePlainCaches state.caches → pairs_of key put.name state.caches ≡ Some pairs → put_parsed state put key url pairs ≡ plain_put state put key url
 put_parsed_plain state put key pairs url plain all is =
     put_any-plain state put key pairs url (find (is_cache key put.name) state.caches) plain all refl is
 

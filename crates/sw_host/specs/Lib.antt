@@ -1,3 +1,5 @@
+pub mod Built
+pub mod Places
 pub mod Plain
 pub mod Play
 pub mod Replies

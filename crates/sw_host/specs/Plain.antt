@@ -2,21 +2,25 @@
 -- and a plain response has status 200 and no headers; so only addresses are compared.
 use Rattle.std.specs.Prelude.{◌≡◌, ℕ, Bool, true, not, nat_le, List, [], ◌∷◌, ◌++◌, filter, find, length, bytes_eq, Option, Some, None, if◌then◌else◌}
 use Rattle.std.specs.List.{enumerate_from}
-use Rattle.sw_rules.specs.declared.answers.Answer.{Answer}
-use Rattle.sw_rules.specs.declared.answers.Answer.TheVariants as answer
-use Rattle.sw_rules.specs.declared.events.Event.{Event}
-use Rattle.sw_rules.specs.declared.events.Event.TheVariants as event
-use Rattle.sw_rules.specs.declared.events.Who.TheVariants.{Lane}
-use Rattle.sw_rules.specs.declared.recordings.CacheMatch.{CacheMatch}
-use Rattle.sw_rules.specs.declared.recordings.CachePut.{CachePut}
-use Rattle.sw_rules.specs.declared.storage.KeptCache.{KeptCache}
-use Rattle.sw_rules.specs.Addresses.{without_fragment}
-use Rattle.sw_rules.specs.declared.answers.Cause.TheVariants as cause
-use Rattle.sw_rules.specs.declared.answers.Fault.TheVariants as fault
-use Rattle.sw_rules.specs.declared.exchange.Op.TheVariants as op
-use Rattle.sw_rules.specs.Batch.{has_http_scheme, no_options, op_size, quota}
+use Rattle.sw_data.specs.declared.answers.Answer.{Answer}
+use Rattle.sw_data.specs.declared.answers.Answer.TheVariants as answer
+use Rattle.sw_data.specs.declared.events.Event.{Event}
+use Rattle.sw_data.specs.declared.events.Event.TheVariants as event
+use Rattle.sw_data.specs.declared.recordings.CacheMatch.{CacheMatch}
+use Rattle.sw_data.specs.declared.recordings.CachePut.{CachePut}
+use Rattle.sw_data.specs.declared.storage.Change.TheVariants as change
+use Rattle.sw_data.specs.declared.storage.KeptCache.{KeptCache}
+use Rattle.sw_data.specs.Events.{is_lane}
+use Rattle.sw_data.specs.Addresses.{without_fragment}
+use Rattle.sw_data.specs.declared.answers.Cause.TheVariants as cause
+use Rattle.sw_data.specs.declared.answers.Fault.TheVariants as fault
+use Rattle.sw_data.specs.declared.exchange.Op.{Op}
+use Rattle.sw_data.specs.declared.exchange.Op.TheVariants as op
+use Rattle.sw_data.specs.Exchange.{no_options}
+use Rattle.sw_rules.specs.Batch.{has_http_scheme, op_size, quota}
+use Rattle.sw_rules.specs.Caching.{run_batch, single_fault}
 use Rattle.sw_rules.specs.State.{State}
-use Rattle.sw_rules.specs.Step.{Outcome, refused, type_error}
+use Rattle.sw_rules.specs.Told.{Outcome, refused, type_error}
 use Rattle.sw_rules.specs.Storage.{with_cache}
 use Rattle.sw_rules.specs.Matching.{Pair, is_get}
 
@@ -65,16 +69,28 @@ ArePlainCaches (row ∷ rest) = ArePlainPairs row.pairs × ArePlainCaches rest
 
 -- ---- steps
 
+-- the request of a put, with its address parsed
+abbrev pub parsed_put : CachePut → List ℕ → Op
+parsed_put put url = op.Put (record put.request { url = url }) put.response
+
+-- a put under a parsed address, into a cache that has these pairs
+abbrev pub put_parsed : State → CachePut → List ℕ → List ℕ → List Pair → Outcome
+put_parsed state put key url pairs =
+    run_batch state key put.name (parsed_put put url ∷ []) answer.Ok single_fault pairs
+
 -- a plain put into a cache that is there
 abbrev pub plain_put : State → CachePut → List ℕ → List ℕ → Outcome
 plain_put state put key url =
     let request = record put.request { url = url } in
     if has_http_scheme request
-    then (if nat_le (op_size (op.Put request put.response)) quota
+    then (if nat_le (op_size (parsed_put put url)) quota
     then record {
       answer = answer.Ok;
-      notices = [];
-      new = record state { caches = with_cache key put.name (with_pair (request, put.response)) state.caches };
+      told = record {
+        state = record state { caches = with_cache key put.name (with_pair (request, put.response)) state.caches };
+        notices = [];
+        changes = change.CacheOps key put.name (parsed_put put url ∷ []) ∷ [];
+      };
     }
     else refused state fault.Quota)
     else refused state (type_error cause.Scheme)
@@ -94,7 +110,7 @@ pub record IsPlainMatch (asked : CacheMatch) : Type 0 where
 
 -- an event of a lane that is built so far
 abbrev pub IsPlain : Event → Type 0
-IsPlain (event.CacheOpen (Lane lane at) place name) = Unit {0}
-IsPlain (event.Put (Lane lane at) place put) = IsPlainPut put
-IsPlain (event.Match (Lane lane at) place asked) = IsPlainMatch asked
+IsPlain (event.CacheOpen who place name) = is_lane who ≡ true
+IsPlain (event.Put who place put) = (is_lane who ≡ true) × IsPlainPut put
+IsPlain (event.Match who place asked) = (is_lane who ≡ true) × IsPlainMatch asked
 IsPlain _ = ⊥

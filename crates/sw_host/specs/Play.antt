@@ -1,26 +1,22 @@
 -- A history on its way: the first actions of one lane have happened.
-use Rattle.std.specs.Prelude.{◌≡◌, ℕ, List, [], ◌∷◌, ◌++◌, length}
-use Rattle.sw_rules.specs.declared.answers.Answer.{Answer}
-use Rattle.sw_rules.specs.declared.answers.Answer.TheVariants as answer
-use Rattle.sw_rules.specs.declared.answers.Notice.{Notice}
-use Rattle.sw_rules.specs.declared.events.Event.{Event}
-use Rattle.sw_rules.specs.declared.events.Event.TheVariants as event
-use Rattle.sw_rules.specs.declared.events.Who.TheVariants.{Host, Lane}
-use Rattle.sw_rules.specs.declared.histories.Entry.{Entry}
-use Rattle.sw_rules.specs.declared.recordings.Action.{Action}
-use Rattle.sw_rules.specs.Events.{event_of_action}
-use Rattle.sw_rules.specs.Grammar.{one_lane}
-use Rattle.sw_rules.specs.History.{Legal, after}
+use Rattle.std.specs.Prelude.{◌≡◌, ℕ, ◌<◌, List, [], ◌∷◌, ◌++◌, length, All}
+use Rattle.sw_data.specs.declared.answers.Answer.{Answer}
+use Rattle.sw_data.specs.declared.answers.Answer.TheVariants as answer
+use Rattle.sw_data.specs.declared.answers.Notice.{Notice}
+use Rattle.sw_data.specs.declared.events.Event.TheVariants as event
+use Rattle.sw_data.specs.declared.events.Who.TheVariants.{Host, Lane}
+use Rattle.sw_data.specs.declared.histories.Entry.{Entry}
+use Rattle.sw_data.specs.declared.recordings.Action.{Action}
+use Rattle.sw_data.specs.declared.recordings.FetchLine.{FetchLine}
+use Rattle.sw_data.specs.declared.recordings.Recording.{Recording}
+use Rattle.sw_data.specs.Events.{event_of_action}
+use Rattle.sw_rules.specs.History.{Controlled, Legal, after}
 use Rattle.sw_rules.specs.Picks.{Follows, Seq, made_by}
-use Rattle.sw_rules.specs.State.{State, initial}
+use Rattle.sw_rules.specs.State.{State}
 use Rattle.sw_rules.specs.Step.{Step}
 use Rattle.sw_rules.specs.Storage.{nothing}
+use Rattle.sw_rules.proofs.HistoryLemmas.{AllStampedAt}
 use Rattle.sw_host.specs.Replies.{IsBare}
-
--- each entry has the stamp 0
-abbrev pub AreUnstamped : List Entry → Type 0
-AreUnstamped [] = Unit {0}
-AreUnstamped (entry ∷ entries) = (entry.stamp ≡ 0) × AreUnstamped entries
 
 -- the entry of a restart from nothing
 abbrev pub opening : Entry
@@ -44,12 +40,18 @@ lane_entry at action reply notices = record {
   stamp = 0;
 }
 
--- the first n of these actions have happened, in this history, which leaves this state
-pub record IsSoFar (actions : List Action) (n : ℕ) (history : List Entry) (state : State) : Type 0 where
+-- a recording of one lane
+abbrev pub one_lane : List FetchLine → List Action → Recording
+one_lane fetches actions = record { fetches = fetches; lanes = actions ∷ [] }
+
+-- the first n actions of the one lane have happened, in this history, which leaves this state
+pub record IsSoFar (recording : Recording) (n : ℕ) (history : List Entry) (state : State) : Type 0 where
   pub legal : Legal nothing history
-  pub follows : Follows (one_lane actions) nothing history
-  pub picked : Seq (one_lane actions) nothing history
-  pub stamps : AreUnstamped history
+  pub follows : Follows recording nothing history
+  pub controlled : Controlled nothing history
+  pub picked : Seq recording nothing history
+  pub passes : All (λ entry. entry.pass < 1) history
+  pub stamps : AllStampedAt 0 history
   pub made : made_by 0 history ≡ n
   pub state_is : after nothing history ≡ state
   pub bare : IsBare state
@@ -62,6 +64,10 @@ pub record HasActed (at : ℕ) (action : Action) (before : List Entry) (old : St
   pub step : Step old (event_of_action (Lane 0 at) action) answer notices new
   pub bare : IsBare new
 
+-- the first n of these actions have happened, whatever is fetched
+abbrev pub HasPlayed : List Action → ℕ → List Entry → State → Type 0
+HasPlayed actions n history state = (fetches : List FetchLine) → IsSoFar (one_lane fetches actions) n history state
+
 -- all these actions have happened
-abbrev pub HasPlayed : List Action → List Entry → Type 0
-HasPlayed actions history = (state : State) × IsSoFar actions (length actions) history state
+abbrev pub HasPlayedAll : List Action → List Entry → Type 0
+HasPlayedAll actions history = (state : State) × HasPlayed actions (length actions) history state

@@ -1,17 +1,26 @@
 -- What a run prints, and when each status stands.
-use Rattle.std.specs.Prelude.{◌≡◌, ◌⊎◌, ℕ, ◌≤◌, ◌<◌, Bool, true, false, List, [], ◌∷◌, length, codes, bytes_eq, Option, Some, None, String, string_bytes}
+use Rattle.std.specs.Prelude.{◌≡◌, ◌⊎◌, ℕ, ◌≤◌, ◌<◌, Bool, true, false, List, [], ◌∷◌, length, codes, bytes_eq, Option, Result, Ok, Err, String, string_bytes}
 use Rattle.std.specs.declared.alloc.Global.{Global}
-use Rattle.sw_rules.specs.declared.histories.End.TheVariants as end
-use Rattle.sw_rules.specs.declared.histories.Entry.{Entry}
-use Rattle.sw_rules.specs.declared.recordings.Recording.{Recording}
-use Rattle.sw_rules.specs.Faults.{Rose}
-use Rattle.sw_rules.specs.Grammar.{recording_limit, recording_of}
+use Rattle.sw_data.specs.declared.histories.End.TheVariants as end
+use Rattle.sw_data.specs.declared.histories.Entry.{Entry}
+use Rattle.sw_data.specs.declared.recordings.Recording.{Recording}
+use Rattle.sw_data.specs.Faults.{Rose}
+use Rattle.sw_data.specs.Streams.{Tells}
+use Rattle.sw_print.specs.Transcript.{transcript}
+use Rattle.sw_record.specs.declared.error.LineCause.{LineCause}
+use Rattle.sw_record.specs.declared.error.Limit.{Limit}
+use Rattle.sw_record.specs.declared.error.RecordingError.{RecordingError}
+use Rattle.sw_record.specs.declared.error.RecordingError.TheVariants as error
+use Rattle.sw_record.specs.Grammar.{recording_of}
+use Rattle.sw_record.specs.Limits.{recording_limit}
+use Rattle.sw_record.specs.Refusals as refusals
 use Rattle.sw_rules.specs.Run.{IsWholeRun}
 use Rattle.sw_rules.specs.Storage.{nothing}
-use Rattle.sw_rules.specs.Streams.{Tells}
-use Rattle.sw_rules.specs.Transcript.{transcript}
+use Rattle.sw_host.specs.Built.{is_built}
 use Rattle.sw_host.specs.declared.statuses.Status.{Status}
 use Rattle.sw_host.specs.declared.statuses.Status.TheVariants as status
+
+-- ---- words and bytes
 
 -- the words are exactly `replay`
 abbrev pub is_replay : List (String Global) → Bool
@@ -19,45 +28,104 @@ is_replay [] = false
 is_replay (word ∷ []) = bytes_eq (string_bytes word) (codes "replay")
 is_replay (word ∷ next ∷ rest) = false
 
+-- the words are `replay`, and these bytes are what the source had left, no more than the limit
+pub record IsRead (words : List (String Global)) (left : Option (List ℕ)) (bytes : List ℕ) : Type 0 where
+  pub replay : is_replay words ≡ true
+  pub told : Tells left bytes
+  pub within : length bytes ≤ recording_limit
+
+-- the words are `replay`, and the source had more bytes left than the limit
+abbrev pub IsPastLimit : List (String Global) → Option (List ℕ) → Type 0
+IsPastLimit words left =
+    (is_replay words ≡ true) × ((bytes : List ℕ) × Tells left bytes × (recording_limit < length bytes))
+
+-- ---- texts
+
 -- the text is the transcript of a whole run of a recording from nothing: one history that is legal, follows the
 -- recording, is complete and controlled, and is the one that the pick order fixes
 abbrev pub IsTranscriptOf : Recording → List ℕ → Type 0
 IsTranscriptOf recording text =
     (history : List Entry) × IsWholeRun recording nothing 0 0 history × (text ≡ transcript history end.Done)
 
--- the text that a refusal prints
+-- the text that a refusal of its own prints; that of a bad line names the line
 abbrev pub refusal_text : Status → List ℕ
 refusal_text status.ReadFault = codes "error: read\n"
+refusal_text status.TooLarge = codes "error: too large: recording\n"
 refusal_text status.NotYet = codes "error: not yet\n"
 refusal_text _ = []
 
--- bytes that were read are replayed with this status and text
-abbrev pub Replays : List ℕ → Status → List ℕ → Type 0
-Replays bytes status.Done text =
-    (recording : Recording) × (recording_of bytes ≡ Some recording) × IsTranscriptOf recording text
-Replays bytes status.NotYet text = (recording_of bytes ≡ None) × (text ≡ refusal_text status.NotYet)
-Replays bytes _ text = ⊥
+-- ---- bytes that were read
 
--- this work isn't built yet: other words, a source that is too large, or a line of a form that isn't read so far
+-- a recording is run with this status and text
+abbrev pub RunsAs : Recording → Status → List ℕ → Type 0
+RunsAs recording status.Done text = (is_built recording ≡ true) × IsTranscriptOf recording text
+RunsAs recording status.NotYet text = (is_built recording ≡ false) × (text ≡ refusal_text status.NotYet)
+RunsAs recording _ text = ⊥
+
+-- bytes that are no recording are refused with this status and text
+abbrev pub RefusedAs : RecordingError → Status → List ℕ → Type 0
+RefusedAs error.NoMemory _ text = ⊥
+RefusedAs (error.BadLine line why) status.BadLine text = text ≡ refusals.refusal_text (error.BadLine line why)
+RefusedAs (error.BadLine line why) _ text = ⊥
+RefusedAs (error.TooLarge line passed) status.TooLarge text = text ≡ refusals.refusal_text (error.TooLarge line passed)
+RefusedAs (error.TooLarge line passed) _ text = ⊥
+
+-- what was read is reported with this status and text
+abbrev pub ReportedAs : Result Recording RecordingError → Status → List ℕ → Type 0
+ReportedAs (Ok recording) outcome text = RunsAs recording outcome text
+ReportedAs (Err why) outcome text = RefusedAs why outcome text
+
+-- bytes are replayed with this status and text
+abbrev pub Replays : List ℕ → Status → List ℕ → Type 0
+Replays bytes outcome text = ReportedAs (recording_of bytes) outcome text
+
+-- ---- statuses
+
+-- the source's bytes are a recording that is run so far, and the text is its transcript
+abbrev pub IsDone : List (String Global) → Option (List ℕ) → List ℕ → Type 0
+IsDone words left text =
+    (bytes : List ℕ) × (recording : Recording)
+    × IsRead words left bytes
+    × (recording_of bytes ≡ Ok recording)
+    × (is_built recording ≡ true)
+    × IsTranscriptOf recording text
+
+-- a line of the source is no part of a recording; the text says which line, and why
+abbrev pub IsBadLine : List (String Global) → Option (List ℕ) → List ℕ → Type 0
+IsBadLine words left text =
+    (bytes : List ℕ) × (line : ℕ) × (why : LineCause)
+    × IsRead words left bytes
+    × (recording_of bytes ≡ Err (error.BadLine line why))
+    × (text ≡ refusals.refusal_text (error.BadLine line why))
+
+-- a line of the source passes a limit; the text says which line, and which limit
+abbrev pub IsLargeLine : List (String Global) → Option (List ℕ) → List ℕ → Type 0
+IsLargeLine words left text =
+    (bytes : List ℕ) × (line : ℕ) × (passed : Limit)
+    × IsRead words left bytes
+    × (recording_of bytes ≡ Err (error.TooLarge line passed))
+    × (text ≡ refusals.refusal_text (error.TooLarge line passed))
+
+-- the source or a line of it is too large, and the text says which
+abbrev pub IsTooLarge : List (String Global) → Option (List ℕ) → List ℕ → Type 0
+IsTooLarge words left text =
+    (IsPastLimit words left × (text ≡ refusal_text status.TooLarge)) ⊎ IsLargeLine words left text
+
+-- this work isn't built yet: other words, or a recording that isn't run so far
 abbrev pub IsNotYet : List (String Global) → Option (List ℕ) → Type 0
 IsNotYet words left =
     (is_replay words ≡ false)
-    ⊎ ((bytes : List ℕ) × Tells left bytes × ((recording_limit < length bytes) ⊎ (recording_of bytes ≡ None)))
-
--- the source's bytes are a recording, and the text is its transcript
-abbrev pub IsDone : List (String Global) → Option (List ℕ) → List ℕ → Type 0
-IsDone words left text =
-    (is_replay words ≡ true)
-    × ((bytes : List ℕ) × (recording : Recording)
-    × Tells left bytes
-    × (length bytes ≤ recording_limit)
-    × (recording_of bytes ≡ Some recording)
-    × IsTranscriptOf recording text)
+    ⊎ ((bytes : List ℕ) × (recording : Recording)
+    × IsRead words left bytes
+    × (recording_of bytes ≡ Ok recording)
+    × (is_built recording ≡ false))
 
 -- before writing, this status stands with this text: the source had these bytes left, and its count of faults went from before to now
 abbrev pub Stands : List (String Global) → Option (List ℕ) → ℕ → ℕ → Status → List ℕ → Type 0
 Stands words left before now status.Done text = IsDone words left text
+Stands words left before now status.BadLine text = IsBadLine words left text
 Stands words left before now status.ReadFault text =
     (is_replay words ≡ true) × Rose before now × (text ≡ refusal_text status.ReadFault)
+Stands words left before now status.TooLarge text = IsTooLarge words left text
 Stands words left before now status.NotYet text = IsNotYet words left × (text ≡ refusal_text status.NotYet)
 Stands words left before now _ text = ⊥

@@ -1,11 +1,12 @@
 //! The event of a recorded action.
 
 ghost use Rattle.std.specs.Prelude.{◌≡◌};
-ghost use Rattle.sw_rules.specs.Events.{event_of_action};
+ghost use Rattle.sw_data.specs.Events.{event_of_action};
 
-use sw_rules::{Action, Event, Who};
+use sw_data::{Action, Event, Who};
 
 /// The event that an action is, with its maker. It takes no memory.
+#[tactic(auto, unfolding(sw_data::specs::Events::event_of_action))]
 pub fn event_of_action(who: Who, action: Action) -> Event
     ensures { result ≡ event_of_action who action }
 {

@@ -2,14 +2,14 @@
 
 ghost use Rattle.std.specs.Prelude.{◌≡◌, ◌++◌, ◌∷◌, [], IfOk, OnOk, OnErr, ◌≤◌, vec_len, vec_capacity, bytes_eq, find, filter, not, option_copied, option_map, length};
 ghost use Rattle.std.specs.List.{enumerate_from};
-ghost use Rattle.sw_rules.specs.Addresses.{without_fragment};
+ghost use Rattle.sw_data.specs.Addresses.{without_fragment};
 ghost use Rattle.sw_rules.specs.Storage.{is_cache, with_cache};
 ghost use Rattle.sw_host.specs.Plain.{first_plain_hit, first_with_url, has_url, pairs_with, with_pair};
 
 use std::alloc::Global;
 use std::mem;
-use sw_rules::address::without_fragment;
-use sw_rules::{Answer, Items, KeptCache, NoMemory, Request, Response, Text};
+use sw_data::address::without_fragment;
+use sw_data::{Answer, Items, KeptCache, NoMemory, Request, Response, Text};
 
 /// A request and the response that is kept under it.
 pub type Pair = (Request, Response);

@@ -2,13 +2,14 @@
 
 ghost use Rattle.std.specs.Prelude.{◌≡◌, ◌∷◌, [], ◌+◌, ◌==◌, Bool, true, false, Some, None, Err, IfOk, OnOk, OnErr, nat_le, List};
 ghost use Rattle.sw_rules.specs.Batch.{has_http_scheme, op_size, quota};
-ghost use Rattle.sw_rules.specs.declared.exchange.Op.{Op};
+ghost use Rattle.sw_data.specs.declared.exchange.Op.{Op};
 ghost use Rattle.sw_rules.specs.Matching.{Pair};
-ghost use Rattle.sw_rules.specs.Addresses.{scheme_of};
+ghost use Rattle.sw_data.specs.Addresses.{scheme_of};
 ghost use Rattle.std.specs.List.{list_any};
 ghost use Rattle.sw_rules.specs.State.{initial};
-ghost use Rattle.sw_rules.specs.Step.{Step, match_request, open_cache, put_parsed, put_response, with_key, pairs_of};
-ghost use Rattle.sw_host.specs.Plain.{ArePlainCaches, IsPlain, IsPlainMatch, IsPlainPair, IsPlainPut, with_pair};
+ghost use Rattle.sw_rules.specs.Caching.{match_request, open_cache, pairs_of, put_response, with_key};
+ghost use Rattle.sw_rules.specs.Step.{Step};
+ghost use Rattle.sw_host.specs.Plain.{ArePlainCaches, IsPlain, IsPlainMatch, IsPlainPair, IsPlainPut, put_parsed, with_pair};
 ghost use Rattle.sw_rules.specs.Storage.{with_cache};
 ghost use Rattle.sw_host.specs.Replies.{IsBare, Replies};
 
@@ -16,8 +17,8 @@ use crate::caches::{Pair, cache_of, first_plain_hit, put_pair};
 use crate::place::place_key;
 use std::alloc::Global;
 use std::marker::Model;
-use sw_rules::cut::before;
-use sw_rules::{
+use sw_data::cut::before;
+use sw_data::{
     Answer, CacheMatch, CachePut, Cause, Event, Fault, Items, KeptCache, NoMemory, Notice, Place,
     Request, Response, Text,
 };
@@ -91,7 +92,7 @@ impl Host {
     }
 
     /// A cache is opened, and made where it is absent.
-    #[tactic(auto, using(crate::proofs::PlainLemmas::plain_caches_push))]
+    #[tactic(auto, using(crate::proofs::PlainLemmas::plain_caches_push), unfolding(sw_rules::specs::Caching::add_cache))]
     fn open_cache(&mut self, alloc: Global, place: &Place, name: &Text) -> Result<Reply, NoMemory>
         requires { IsBare self.old }
         ensures step { IfOk result (λ reply. Replies (with_key self.old place.now (open_cache self.old name.now)) reply self.new) }
@@ -145,8 +146,9 @@ impl Host {
     ) -> Result<Reply, NoMemory>
         requires plain { IsPlainPut put.now }
         requires bare { IsBare self.old }
-        ensures step { IfOk result (λ reply. (pairs : List Pair) → pairs_of key.now put.now.name self.old.caches ≡ Some pairs
-            → Replies (put_parsed self.old put.now key.now pairs url) reply self.new) }
+        ensures step { IfOk result (λ reply. (pairs : List Pair)
+            → pairs_of key.now put.now.name self.old.caches ≡ Some pairs
+            → Replies (put_parsed self.old put.now key.now url pairs) reply self.new) }
         ensures bare { IsBare self.new }
     {
         let request = put.request.with_url(alloc, url)?;
@@ -202,7 +204,7 @@ fn has_http_scheme(request: &Request) -> bool
 }
 
 /// What stands before the first `:` of a serialized address, and nothing where there is none.
-#[tactic(auto, unfolding(sw_rules::specs::Addresses::scheme_of))]
+#[tactic(auto, unfolding(sw_data::specs::Addresses::scheme_of))]
 fn scheme_of(address: &[u8]) -> &[u8]
     ensures { result.now ≡ scheme_of address.now }
 {

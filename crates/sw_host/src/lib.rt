@@ -2,10 +2,12 @@
 #![tactic(auto)]
 
 mod acting;
+mod built;
 mod caches;
 mod host;
 mod place;
 mod play;
+mod report;
 mod statuses;
 mod top;
 

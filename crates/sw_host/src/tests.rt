@@ -1,8 +1,8 @@
 use super::*;
 use std::alloc::{AllocError, Global};
 use std::test::Fail;
+use sw_data::Bytes;
 use sw_io::{MemorySink, MemorySource, Sink};
-use sw_rules::Bytes;
 
 const OPEN: &str = "{\"lane\":0,\"do\":\"cacheOpen\",\"at\":\"https://a.test/\",\"name\":\"v\"}\n";
 
@@ -14,6 +14,14 @@ const MATCH: &str =
 
 const OTHER: &str =
     "{\"lane\":0,\"do\":\"put\",\"at\":\"https://a.test/\",\"name\":\"v\",\"request\":\"https://a.test/y\",\"response\":{\"status\":200,\"body\":\"\"}}\n";
+
+const SECOND_LANE: &str =
+    "{\"lane\":1,\"do\":\"cacheOpen\",\"at\":\"https://a.test/\",\"name\":\"v\"}\n";
+
+const TOO_HIGH: &str =
+    "{\"lane\":64,\"do\":\"cacheOpen\",\"at\":\"https://a.test/\",\"name\":\"v\"}\n";
+
+const FETCH: &str = "{\"fetch\":\"https://a.test/x\",\"error\":true}\n";
 
 const ELSEWHERE: &str =
     "{\"lane\":0,\"do\":\"match\",\"at\":\"https://b.test/\",\"request\":\"https://a.test/x\"}\n";
@@ -73,11 +81,35 @@ fn recordings_are_replayed(rt: HostRuntime) -> Result<(), Fail> {
         ),
         (
             "replay",
-            format!(in alloc; "{OPEN}x")?,
+            format!(in alloc; "{OPEN}\nx")?,
+            None,
+            None,
+            3,
+            format!(in alloc; "error: line 3: json\n")?,
+        ),
+        (
+            "replay",
+            format!(in alloc; "{OPEN}{TOO_HIGH}x")?,
+            None,
+            None,
+            10,
+            format!(in alloc; "error: line 2: too large: lanes\n")?,
+        ),
+        (
+            "replay",
+            format!(in alloc; "{OPEN}{SECOND_LANE}")?,
             None,
             None,
             14,
             format!(in alloc; "error: not yet\n")?,
+        ),
+        (
+            "replay",
+            format!(in alloc; "{FETCH}{OPEN}")?,
+            None,
+            None,
+            0,
+            format!(in alloc; "{first}L0.0 cacheOpen -> made\nend done\n")?,
         ),
         (
             "replay",

@@ -1,34 +1,30 @@
 //! The top call: words, a source and a sink.
 
-ghost use Rattle.std.specs.Prelude.{◌≡◌, ℕ, List, true, IfOk};
-ghost use Rattle.std.specs.Io.KnownBytes.{Appends, Keeps};
-ghost use Rattle.sw_rules.specs.Faults.{Rose};
-ghost use Rattle.sw_rules.specs.Streams.{AppendsPrefix};
-ghost use Rattle.sw_host.specs.Stands.{IsDone, IsNotYet, Replays, Stands, is_replay, refusal_text};
+ghost use Rattle.std.specs.Prelude.{◌≡◌, ◌+◌, ◌≤◌, ℕ, List, true, false, IfOk};
+ghost use Rattle.std.specs.Io.KnownBytes.{Appends, IsAtEnd, Keeps};
+ghost use Rattle.sw_data.specs.Faults.{Rose};
+ghost use Rattle.sw_data.specs.Streams.{AppendsPrefix, ConsumesSome};
+ghost use Rattle.sw_record.specs.Limits.{recording_limit};
+ghost use Rattle.sw_host.specs.Stands.{IsBadLine, IsDone, IsNotYet, IsTooLarge, Replays, RunsAs, Stands, is_replay, refusal_text};
 
+use crate::built::is_built;
 use crate::play::play;
+use crate::report::{Report, refusal_of, refused};
 use crate::statuses::Status;
 use std::alloc::Global;
+use sw_data::{End, NoMemory, Recording};
 use sw_io::{ReadAllError, Sink, Source, read_all, write_all};
 use sw_print::print_history;
-use sw_record::{RecordingError, read_recording};
-use sw_rules::{End, NoMemory, Text};
+use sw_record::read_recording;
 
-/// The most bytes of a recording.
+// The most bytes of a recording.
 const RECORDING_LIMIT: u64 = 16_777_216;
-
-/// A status and the text that stands for it.
-#[derive(Drop)]
-struct Report {
-    status: Status,
-    text: Text,
-}
 
 /// Does what the words say: `replay` reads a recording from the source to its end, runs it from nothing, and writes
 /// the transcript to the sink.
 ///
-/// Refusals are tested in this order: words, reading, lines; a write fault replaces the status that stood. Want of
-/// memory may come at any point before writing.
+/// Refusals are tested in this order: words, reading, the source's size, lines, whether the recording is run so far; a
+/// write fault replaces the status that stood. Want of memory may come at any point before writing.
 pub fn run<S: Source, K: Sink>(
     alloc: Global,
     words: &[String],
@@ -41,6 +37,12 @@ pub fn run<S: Source, K: Sink>(
         × Appends (K.held sink.old) (K.held sink.new) text }
 
     // Each refusal has its cause, and its text was written.
+    ensures bad_line { result ≡ Status.BadLine → (text : List ℕ)
+        × IsBadLine words.now (S.left source.old) text
+        × Appends (K.held sink.old) (K.held sink.new) text }
+    ensures too_large { result ≡ Status.TooLarge → (text : List ℕ)
+        × IsTooLarge words.now (S.left source.old) text
+        × Appends (K.held sink.old) (K.held sink.new) text }
     ensures not_yet { result ≡ Status.NotYet → IsNotYet words.now (S.left source.old)
         × Appends (K.held sink.old) (K.held sink.new) (refusal_text Status.NotYet) }
     ensures read_fault { result ≡ Status.ReadFault → (is_replay words.now ≡ true)
@@ -50,10 +52,18 @@ pub fn run<S: Source, K: Sink>(
     // The sink failed, and took a first part of the text that stood.
     ensures write_fault { result ≡ Status.WriteFault → Rose (K.faults sink.old) (K.faults sink.new)
         × ((status : Status) × (text : List ℕ)
-        × Stands words.now (S.left source.old) (S.faults source.old) (S.faults source.new) status text
+        × Stands words.now (S.left source.old) (S.faults source.old) (S.faults source.new)
+        status text
         × AppendsPrefix (K.held sink.old) (K.held sink.new) text) }
 
     ensures no_memory { result ≡ Status.NoMemory → Keeps (K.held sink.old) (K.held sink.new) }
+
+    // Wrong words leave the source as it was. Other words read it no further than its end.
+    ensures untouched { is_replay words.now ≡ false → source.new ≡ source.old }
+    ensures reads { S.reads source.new ≤ S.reads source.old + (recording_limit + 2) }
+    ensures consumed { is_replay words.now ≡ true
+        → ConsumesSome (S.left source.old) (S.left source.new) }
+    ensures end { result ≡ Status.Done → IsAtEnd (S.left source.new) }
 {
     let Ok(report) = report_of(alloc, words, source) else {
         return Status::NoMemory;
@@ -64,23 +74,30 @@ pub fn run<S: Source, K: Sink>(
     }
 }
 
-/// The status and the text before writing.
+// The status and the text before writing.
 fn report_of<S: Source>(alloc: Global, words: &[String], source: &mut S) -> Result<Report, NoMemory>
-    ensures { IfOk result (λ report.
-        Stands words.now (S.left source.old) (S.faults source.old) (S.faults source.new) report.status report.text) }
+    ensures stands { IfOk result (λ report.
+        Stands words.now (S.left source.old) (S.faults source.old) (S.faults source.new)
+        report.status report.text) }
+    ensures untouched { is_replay words.now ≡ false → source.new ≡ source.old }
+    ensures reads { S.reads source.new ≤ S.reads source.old + (recording_limit + 2) }
+    ensures consumed { is_replay words.now ≡ true
+        → ConsumesSome (S.left source.old) (S.left source.new) }
+    ensures end { IfOk result (λ report.
+        report.status ≡ Status.Done → IsAtEnd (S.left source.new)) }
 {
     if !is_replay(words) {
-        return not_yet(alloc);
+        return refused(alloc, Status::NotYet);
     }
     match read_all(alloc, source, RECORDING_LIMIT) {
         Ok(bytes) => replay(alloc, bytes.as_bytes()),
-        Err(ReadAllError::ReadFault) => read_fault(alloc),
-        Err(ReadAllError::TooLarge) => not_yet(alloc),
+        Err(ReadAllError::ReadFault) => refused(alloc, Status::ReadFault),
+        Err(ReadAllError::TooLarge) => refused(alloc, Status::TooLarge),
         Err(ReadAllError::NoMemory) => Err(NoMemory),
     }
 }
 
-/// The words are exactly `replay`.
+// The words are exactly `replay`.
 fn is_replay(words: &[String]) -> bool
     ensures { result ≡ is_replay words.now }
 {
@@ -90,35 +107,23 @@ fn is_replay(words: &[String]) -> bool
     }
 }
 
-/// The report of a read fault.
-fn read_fault(alloc: Global) -> Result<Report, NoMemory>
-    ensures { IfOk result (λ report. report ≡ record { status = Status.ReadFault; text = refusal_text Status.ReadFault }) }
-{
-    Ok(Report {
-        status: Status::ReadFault,
-        text: Text::of(alloc, "error: read\n")?,
-    })
-}
-
-/// The report of work that isn't built yet.
-fn not_yet(alloc: Global) -> Result<Report, NoMemory>
-    ensures { IfOk result (λ report. report ≡ record { status = Status.NotYet; text = refusal_text Status.NotYet }) }
-{
-    Ok(Report {
-        status: Status::NotYet,
-        text: Text::of(alloc, "error: not yet\n")?,
-    })
-}
-
-/// The report of bytes that were read.
+// The report of bytes that were read.
 fn replay(alloc: Global, bytes: &[u8]) -> Result<Report, NoMemory>
     ensures { IfOk result (λ report. Replays bytes.now report.status report.text) }
 {
-    let recording = match read_recording(alloc, bytes) {
-        Ok(recording) => recording,
-        Err(RecordingError::NotYet) => return not_yet(alloc),
-        Err(RecordingError::NoMemory) => return Err(NoMemory),
-    };
+    match read_recording(alloc, bytes) {
+        Ok(recording) => run_recording(alloc, recording),
+        Err(error) => refusal_of(alloc, error),
+    }
+}
+
+// The report of a recording that was read.
+fn run_recording(alloc: Global, recording: Recording) -> Result<Report, NoMemory>
+    ensures { IfOk result (λ report. RunsAs recording report.status report.text) }
+{
+    if !is_built(&recording) {
+        return refused(alloc, Status::NotYet);
+    }
     let history = play(alloc, recording)?;
     let text = print_history(alloc, &history, &End::Done)?;
     Ok(Report {

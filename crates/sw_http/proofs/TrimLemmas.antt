@@ -1,45 +1,42 @@
--- Texts that begin or end with no space or tab are trimmed there.
-use Rattle.std.proofs.Common.{◌≡◌, ◌≢◌, ◌<◌, ◌+◌, length, length-append, Bor, Some, None, ℕ, true, ◌⊎◌, ⊎_elim, List, [], ◌∷◌, ◌++◌, reverse, refl, ap, sym, ◌∙◌, arith}
-use Rattle.std.specs.Prelude.{Option, MatchOption}
+-- A text of UTF-8 without the spaces and tabs at both ends is one of UTF-8.
+use Rattle.std.proofs.Common.{◌≡◌, ◌⊎◌, ⊎_elim, ℕ, true, List, [], ◌∷◌, ◌++◌, length, reverse, refl, sym, subst, arith}
+use Rattle.std.specs.Str.{IsUtf8}
 use Rattle.std.proofs.lemmas.Bool.{cond_both}
 use Rattle.std.proofs.lemmas.Bool.Decides.{nat_tests}
-use Rattle.std.proofs.lemmas.List.{reverse-reverse, reverse-append}
-use Rattle.sw_rules.specs.Headers.{is_blank, trimmed_front, trimmed_back}
+use Rattle.std.proofs.lemmas.List.{reverse-reverse, reverse-append, take_at}
+use Rattle.std.proofs.lemmas.Str.{IsCharBoundary-past_char, IsCharBoundary-at_seam, IsUtf8-drop, IsUtf8-take}
+use Rattle.sw_data.specs.Headers.{is_blank, trimmed, trimmed_front}
 
 blank_cases : (b : ℕ) → is_blank b ≡ true → (b ≡ 32) ⊎ (b ≡ 9)
 blank_cases b blank = grind (arith, nat_tests)
 
--- a text that begins with neither a space nor a tab
-pub kept_front : (xs : List ℕ) → ((rest : List ℕ) → xs ≢ 32 ∷ rest) → ((rest : List ℕ) → xs ≢ 9 ∷ rest) → trimmed_front xs ≡ xs
-kept_front [] no_space no_tab = refl
-kept_front (b ∷ xs) no_space no_tab =
-    cond_both (is_blank b) (trimmed_front xs) (b ∷ xs) (λ ys. ys ≡ b ∷ xs)
-    (λ blank. absurd (⊎_elim (λ e. no_space xs (ap (λ c. c ∷ xs) e)) (λ e. no_tab xs (ap (λ c. c ∷ xs) e)) (blank_cases b blank)))
-    (λ other. refl)
+-- what holds of a space and of a tab holds of a blank
+of_blank : (P : ℕ → Type 0) (b : ℕ) → is_blank b ≡ true → P 32 → P 9 → P b
+of_blank P b blank space tab = ⊎_elim (λ e. subst P (sym e) space) (λ e. subst P (sym e) tab) (blank_cases b blank)
 
--- the last byte of a text is the first of the text read backwards
-last_first : (xs rest : List ℕ) (b : ℕ) → reverse xs ≡ b ∷ rest → xs ≡ reverse rest ++ (b ∷ [])
-last_first xs rest b e = sym (reverse-reverse xs) ∙ ap reverse e ∙ reverse-append (b ∷ []) rest
+without_first : (b : ℕ) (xs : List ℕ) → is_blank b ≡ true → IsUtf8 (b ∷ xs) → IsUtf8 xs
+unfolding lib.Utf8.encode
+without_first b xs blank =
+    of_blank (λ c. IsUtf8 (c ∷ xs) → IsUtf8 xs) b blank
+    (λ u. IsUtf8-drop (32 ∷ xs) 1 u (IsCharBoundary-past_char (32 ∷ xs) xs 0 32 (omega arith) u refl))
+    (λ u. IsUtf8-drop (9 ∷ xs) 1 u (IsCharBoundary-past_char (9 ∷ xs) xs 0 9 (omega arith) u refl))
 
--- a text that ends with neither a space nor a tab
-pub kept_back : (xs : List ℕ) → ((rest : List ℕ) → xs ≢ rest ++ (32 ∷ [])) → ((rest : List ℕ) → xs ≢ rest ++ (9 ∷ [])) → trimmed_back xs ≡ xs
-kept_back xs no_space no_tab =
-    ap reverse (kept_front (reverse xs)
-    (λ rest e. no_space (reverse rest) (last_first xs rest 32 e))
-    (λ rest e. no_tab (reverse rest) (last_first xs rest 9 e)))
-    ∙ reverse-reverse xs
+without_last : (b : ℕ) (xs : List ℕ) → is_blank b ≡ true → IsUtf8 (xs ++ b ∷ []) → IsUtf8 xs
+unfolding lib.Utf8.encode
+without_last b xs blank u =
+    let one : IsUtf8 (b ∷ []) = of_blank (λ c. IsUtf8 (c ∷ [])) b blank (32 ∷ [], (refl, refl)) (9 ∷ [], (refl, refl)) in
+    subst IsUtf8 (take_at xs (b ∷ []) (length xs) refl)
+    (IsUtf8-take (xs ++ b ∷ []) (length xs) u (IsCharBoundary-at_seam (xs ++ b ∷ []) xs (b ∷ []) refl one))
 
--- a space or a tab at the end is trimmed
-pub trimmed_space : (xs : List ℕ) → trimmed_back (xs ++ (32 ∷ [])) ≡ trimmed_back xs
-trimmed_space xs = ap (λ ys. reverse (trimmed_front ys)) (reverse-append xs (32 ∷ []))
+front : (xs : List ℕ) → IsUtf8 xs → IsUtf8 (trimmed_front xs)
+front [] u = u
+front (b ∷ xs) u = cond_both (is_blank b) (trimmed_front xs) (b ∷ xs) IsUtf8 (λ blank. front xs (without_first b xs blank u)) (λ _. u)
 
-pub trimmed_tab : (xs : List ℕ) → trimmed_back (xs ++ (9 ∷ [])) ≡ trimmed_back xs
-trimmed_tab xs = ap (λ ys. reverse (trimmed_front ys)) (reverse-append xs (9 ∷ []))
+back : (ys : List ℕ) → IsUtf8 (reverse ys) → IsUtf8 (reverse (trimmed_front ys))
+back [] u = u
+back (b ∷ ys) u =
+    cond_both (is_blank b) (trimmed_front ys) (b ∷ ys) (λ zs. IsUtf8 (reverse zs))
+    (λ blank. back ys (without_last b (reverse ys) blank (subst IsUtf8 (reverse-append (b ∷ []) ys) u))) (λ _. u)
 
--- what `before_blank` says where the text ends with no space
-pub before_tab : (xs : List ℕ) (r : Option (Bor (List ℕ))) → ((rest : List ℕ) → xs ≢ rest ++ (32 ∷ [])) → MatchOption r ((rest : List ℕ) → xs ≢ rest ++ (9 ∷ [])) (λ x. xs ≡ x.now ++ (9 ∷ [])) → MatchOption r (trimmed_back xs ≡ xs) (λ x. (trimmed_back xs ≡ trimmed_back x.now) × (length x.now < length xs))
-before_tab xs None no_space no_tab = kept_back xs no_space no_tab
-before_tab xs (Some x) no_space e = (
-  ap trimmed_back e ∙ trimmed_tab x.now,
-  let longer : length xs ≡ length x.now + 1 = ap length e ∙ length-append x.now (9 ∷ []) in omega arith,
-)
+pub trimmed_utf8 : (xs : List ℕ) → IsUtf8 xs → IsUtf8 (trimmed xs)
+trimmed_utf8 xs u = back (reverse (trimmed_front xs)) (subst IsUtf8 (sym (reverse-reverse (trimmed_front xs))) (front xs u))

@@ -7,11 +7,11 @@ mod fault;
 mod lines;
 mod media;
 mod message;
-mod trim;
 
 pub use fault::HttpFault;
+pub use lines::{good_names, good_values, normal_lines};
 pub use media::is_javascript;
-pub use message::{request, response};
+pub use message::{BODY_LIMIT, normal_method, request, response};
 
 #[cfg(test)]
 mod tests;

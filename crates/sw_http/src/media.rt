@@ -2,17 +2,17 @@
 
 ghost use Rattle.std.specs.Prelude.{◌≡◌, ◌==◌, codes, option_copied, option_map};
 ghost use Rattle.http_header.specs.Token.{lowercase};
-ghost use Rattle.sw_rules.specs.Headers.{last_value, trimmed};
-ghost use Rattle.sw_rules.specs.Media.{essence, is_javascript, is_javascript_essence};
+ghost use Rattle.sw_data.specs.Headers.{last_value, trimmed};
+ghost use Rattle.sw_data.specs.Media.{essence, is_javascript, is_javascript_essence};
 
-use sw_rules::Header;
-use sw_rules::cut::before;
-use sw_rules::header::{same_name, trimmed};
+use sw_data::Header;
+use sw_data::cut::before;
+use sw_data::header::{same_name, trimmed};
 
 /// The last `Content-Type` line has an essence of JavaScript (MIME Sniffing, 4.6, "JavaScript MIME
 /// type"): cut before its first `;`, without spaces and tabs at both ends and in any case. It takes
 /// no memory.
-#[tactic(auto, unfolding(sw_rules::specs::Media::is_javascript))]
+#[tactic(auto, unfolding(sw_data::specs::Media::is_javascript))]
 pub fn is_javascript(headers: &[Header]) -> bool
     ensures { result ≡ is_javascript headers.now }
 {
@@ -22,7 +22,7 @@ pub fn is_javascript(headers: &[Header]) -> bool
     }
 }
 
-/// The value of the last `Content-Type` line.
+// The value of the last `Content-Type` line.
 fn last_content_type(headers: &[Header]) -> Option<&[u8]>
     ensures { option_copied result ≡ last_value (codes "content-type") headers.now }
 {
@@ -39,7 +39,7 @@ fn is_javascript_value(value: &[u8]) -> bool
     is_javascript_name(trimmed(before(value, b';')))
 }
 
-/// One of the sixteen essences, in any case.
+// One of the sixteen essences, in any case.
 fn is_javascript_name(name: &[u8]) -> bool
     ensures { result ≡ is_javascript_essence (lowercase name.now) }
 {

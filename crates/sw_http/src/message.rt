@@ -3,17 +3,17 @@
 ghost use Rattle.std.specs.Prelude.{◌≡◌, ◌↔◌, ◌<◌, ◌||◌, true, false, IfOk, IsErrOf, SomeIff, bytes_eq, codes, length};
 ghost use Rattle.std.specs.List.{list_any};
 ghost use Rattle.http.specs.StatusCode.{IsStatusCode};
-ghost use Rattle.sw_rules.specs.Headers.{capital_methods, good_names, good_values, is_token, normal_lines, normal_method};
+ghost use Rattle.sw_data.specs.Headers.{capital_methods, good_names, good_values, is_token, normal_lines, normal_method};
 
 use crate::fault::HttpFault;
 use crate::lines::{good_names, good_values, normal_lines};
 use http::StatusCode;
 use std::alloc::Global;
-use sw_rules::header::is_token;
-use sw_rules::{Bytes, Header, Items, NoMemory, Request, Response, Text};
+use sw_data::header::is_token;
+use sw_data::{Bytes, Header, Items, NoMemory, Request, Response, Text};
 
 /// The most bytes that a body may have.
-const BODY_LIMIT: usize = 1_048_576;
+pub const BODY_LIMIT: usize = 1_048_576;
 
 /// A request as it is kept (Fetch, 2.2.1 and 2.2.2, "normalize"): DELETE, GET, HEAD, OPTIONS, POST
 /// and PUT in any case are written in capitals, names in lower case, and values lose the spaces
@@ -78,7 +78,7 @@ pub fn response(
         × (good_values headers ≡ false)) }
     ensures body_too_large { IsErrOf result HttpFault.BodyTooLarge
         ↔ (IsStatusCode status × (good_names headers ≡ true) × (good_values headers ≡ true)
-        × (1_048_576 < length body)) }
+        × (BODY_LIMIT < length body)) }
     ensures bad_method { ¬ (IsErrOf result HttpFault.BadMethod) }
 {
     let Some(status) = status_code(status) else {
@@ -100,7 +100,7 @@ pub fn response(
     })
 }
 
-/// The status, if it is from 100 to 999.
+// The status, if it is from 100 to 999.
 fn status_code(status: u64) -> Option<u16>
     ensures { SomeIff result (IsStatusCode status) status }
 {
@@ -108,8 +108,9 @@ fn status_code(status: u64) -> Option<u16>
     Some(code.as_u16())
 }
 
-/// The method as it is kept.
-fn normal_method(alloc: Global, method: &Text) -> Result<Text, NoMemory>
+/// The method as it is kept: DELETE, GET, HEAD, OPTIONS, POST and PUT in any case are written in
+/// capitals (Fetch, 2.2.1, "normalize").
+pub fn normal_method(alloc: Global, method: &Text) -> Result<Text, NoMemory>
     ensures { IfOk result (λ kept. kept ≡ normal_method method.now) }
 {
     let capitals = method.as_str().to_ascii_uppercase(alloc)?;

@@ -3,7 +3,7 @@
 use crate::{HttpFault, is_javascript, request, response};
 use std::alloc::Global;
 use std::test::Fail;
-use sw_rules::{Bytes, Header, Items, NoMemory, Text};
+use sw_data::{Bytes, Header, Items, NoMemory, Text};
 
 fn lines(alloc: Global, lines: &[(&str, &str)]) -> Result<Items<Header>, NoMemory> {
     let mut headers = Items::new(alloc);
@@ -16,7 +16,7 @@ fn lines(alloc: Global, lines: &[(&str, &str)]) -> Result<Items<Header>, NoMemor
     Ok(headers)
 }
 
-/// The lines hold exactly one, with this name and value.
+// The lines hold exactly one, with this name and value.
 fn holds(headers: &Items<Header>, name: &str, value: &str) -> bool {
     match headers.as_slice() {
         [line] => line.name.as_str() == name && line.value.as_str() == value,

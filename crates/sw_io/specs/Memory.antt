@@ -17,6 +17,11 @@ pub record SinkState : Type 0 where
   pub calls : ℕ
   pub faults : ℕ
 
+-- own: a source that never fails: the bytes that it has left, and how many reads were made
+pub record NeverState : Type 0 where
+  pub left : List ℕ
+  pub reads : ℕ
+
 -- own: the count after one more, which stays at the last value of its type
 abbrev pub counted : ℕ → ℕ
 counted n = min (n + 1) (2 ^ 64 - 1)

@@ -3,7 +3,7 @@
 ghost use Rattle.std.specs.Prelude.{◌≡◌, min, length, take, drop};
 
 use std::marker::Model;
-use sw_rules::Bytes;
+use sw_data::Bytes;
 
 /// Bytes that are handed out from the front, seen by contracts as those that remain.
 #[derive(Drop)]

@@ -1,9 +1,9 @@
 //! Where bytes go.
 
-ghost use Rattle.std.specs.Prelude.{◌≡◌, ◌<◌, ◌≤◌, ℕ, List, Option, length, IfOk, OnErr};
+ghost use Rattle.std.specs.Prelude.{◌≡◌, ◌<◌, ◌≤◌, ℕ, List, Option, length, IfOk, OnOk, OnErr};
 ghost use Rattle.std.specs.Io.{WritesAtMost};
 ghost use Rattle.std.specs.Io.KnownBytes.{WriteAppends};
-ghost use Rattle.sw_rules.specs.Faults.{Rose};
+ghost use Rattle.sw_io.specs.Memory.{counted};
 
 use super::source::Failed;
 
@@ -21,7 +21,8 @@ pub trait Sink {
         ensures some { IfOk result (λ n. 0 < length piece.now → 0 < n) }
         ensures bytes { WriteAppends (held self.old) (held self.new) result piece.now }
         ensures count { faults self.old ≤ faults self.new }
-        ensures failed { OnErr result (Rose (faults self.old) (faults self.new)) };
+        ensures ok { OnOk result (faults self.new ≡ faults self.old) }
+        ensures failed { OnErr result (faults self.new ≡ counted (faults self.old)) };
 
     /// How often a write failed. At 2^64 - 1 the count stays.
     fn faults(&self) -> u64

@@ -1,12 +1,15 @@
 //! Where bytes come from.
 
-ghost use Rattle.std.specs.Prelude.{◌≡◌, ◌+◌, ◌≤◌, ℕ, List, Option, OnErr};
+ghost use Rattle.std.specs.Prelude.{◌≡◌, ◌≤◌, ℕ, List, Option, OnOk, OnErr};
 ghost use Rattle.std.specs.Io.{ReadsAtMost};
 ghost use Rattle.std.specs.Io.KnownBytes.{ReadConsumes};
-ghost use Rattle.sw_rules.specs.Faults.{Rose};
+ghost use Rattle.sw_io.specs.Memory.{counted};
+
+use thiserror::Error;
 
 /// A call of a source or a sink failed, and its count of faults rose.
-#[derive(Debug, Clone, Copy, PartialEq, Eq)]
+#[derive(Debug, Clone, Copy, PartialEq, Eq, Error)]
+#[error("a read or a write failed")]
 pub struct Failed;
 
 /// Where bytes come from.
@@ -17,7 +20,7 @@ pub trait Source {
     /// How often a read failed.
     ghost faults: { Self → ℕ };
 
-    /// How many reads were made, as far as the source counts them.
+    /// How many reads were made.
     ghost reads: { Self → ℕ };
 
     /// Reads into the front of `into` and says how many bytes it read. Where there is room in `into`, 0 is the end.
@@ -25,8 +28,9 @@ pub trait Source {
         ensures within { ReadsAtMost result into.new }
         ensures bytes { ReadConsumes (left self.old) (left self.new) result into.new }
         ensures count { faults self.old ≤ faults self.new }
-        ensures failed { OnErr result (Rose (faults self.old) (faults self.new)) }
-        ensures once { reads self.new ≤ reads self.old + 1 };
+        ensures ok { OnOk result (faults self.new ≡ faults self.old) }
+        ensures failed { OnErr result (faults self.new ≡ counted (faults self.old)) }
+        ensures once { reads self.new ≡ counted (reads self.old) };
 
     /// How often a read failed. At 2^64 - 1 the count stays.
     fn faults(&self) -> u64

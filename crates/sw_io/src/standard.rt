@@ -12,16 +12,22 @@ use std::io::{Read, Write};
 #[derive(Drop)]
 pub struct StdSource<B: Read + Drop> {
     input: B,
+    reads: u64,
     faults: u64,
 }
 
 impl<B: Read + Drop> StdSource<B> {
-    /// A source over `input`, whose count of faults is 0.
+    /// A source over `input`, whose counts are 0.
     pub fn new(input: B) -> StdSource<B>
         ensures left { ⟦<StdSource<B> as Source>⟧.left result ≡ B.remaining input }
+        ensures reads { ⟦<StdSource<B> as Source>⟧.reads result ≡ 0 }
         ensures faults { ⟦<StdSource<B> as Source>⟧.faults result ≡ 0 }
     {
-        StdSource { input, faults: 0 }
+        StdSource {
+            input,
+            reads: 0,
+            faults: 0,
+        }
     }
 }
 
@@ -30,9 +36,10 @@ impl<B: Read + Drop> Source for StdSource<B> {
 
     ghost faults = { λ s. s.faults };
 
-    ghost reads = { λ _. 0 };
+    ghost reads = { λ s. s.reads };
 
     fn read(&mut self, into: &mut [u8]) -> Result<usize, Failed> {
+        self.reads = self.reads.saturating_add(1);
         match self.input.read(into) {
             Ok(count) => Ok(count),
             Err(_) => {

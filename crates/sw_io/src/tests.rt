@@ -4,7 +4,7 @@ use super::*;
 use std::alloc::{AllocError, Global};
 use std::io::{ErrorKind, Read};
 use std::test::Fail;
-use sw_rules::{Bytes, NoMemory, Text};
+use sw_data::{Bytes, NoMemory, Text};
 
 /// A sink that takes one byte at a time.
 #[derive(Drop)]

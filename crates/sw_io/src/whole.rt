@@ -2,23 +2,27 @@
 
 ghost use Rattle.std.specs.Prelude.{◌≡◌, ◌+◌, ◌<◌, ◌≤◌, List, ℕ, length, IfOk, OnOk, OnErr, IsErrOf};
 ghost use Rattle.std.specs.Io.KnownBytes.{Appends, IsAtEnd};
-ghost use Rattle.sw_rules.specs.Streams.{AppendsPrefix, ConsumesSome, Tells};
-ghost use Rattle.sw_rules.specs.Faults.{Rose};
+ghost use Rattle.sw_data.specs.Streams.{AppendsPrefix, ConsumesSome, Tells};
+ghost use Rattle.sw_data.specs.Faults.{Rose};
 ghost use Rattle.sw_io.specs.declared.whole.ReadAllError.TheVariants.{ReadFault, NoMemory};
 
 use super::sink::Sink;
 use super::source::{Failed, Source};
 use std::alloc::{AllocError, Global};
-use sw_rules::Bytes;
+use sw_data::Bytes;
+use thiserror::Error;
 
 /// Why a source was not read to its end.
-#[derive(Debug, Clone, Copy, PartialEq, Eq)]
+#[derive(Debug, Clone, Copy, PartialEq, Eq, Error)]
 pub enum ReadAllError {
     /// A read failed.
+    #[error("a read failed")]
     ReadFault,
     /// More bytes came than the limit allows.
+    #[error("there are more bytes than the limit allows")]
     TooLarge,
     /// There was no memory for the bytes.
+    #[error("there is no memory for the bytes")]
     NoMemory,
 }
 

@@ -2,11 +2,11 @@
 use Rattle.std.proofs.Common.{◌≡◌, arith, ℕ, List, take, true, false, Option, Some, None, refl, sym, ◌∙◌, ap, subst}
 use Rattle.std.proofs.lemmas.List.{take-take}
 use Rattle.std.specs.Prelude.{MatchOption, IsSome, is_some}
-use Rattle.sw_rules.specs.declared.disk.Part.{Part}
-use Rattle.sw_rules.specs.Image.{Image, get}
-use Rattle.sw_rules.specs.DiskRule.{ForTold}
-use Rattle.sw_rules.specs.Format.{Format, format_of}
-use Rattle.sw_rules.proofs.PartChanges.{format_of-front}
+use Rattle.sw_disk.specs.declared.part.Part.{Part}
+use Rattle.sw_disk.specs.Image.{Image, get}
+use Rattle.sw_disk.specs.DiskRule.{ForTold}
+use Rattle.sw_journal.specs.Format.{Format, format_of}
+use Rattle.sw_journal.proofs.PartChanges.{format_of-front}
 use Rattle.sw_journal.specs.declared.version.Version.{Version}
 use Rattle.sw_journal.specs.Version.{format_at}
 
@@ -23,3 +23,7 @@ some_of (Some version) format told holds = subst (λ (f : Option Format). IsSome
 pub none_of : (found : Option Version) (format : Option Format) → MatchOption found (format ≡ None) (λ version. format ≡ Some (format_at version)) → is_some found ≡ false → format ≡ None
 none_of None format told no_version = told
 none_of (Some version) format told no_version = absurd (cc)
+
+pub none_some : (format : Option Format) (P : Type 0) → format ≡ None → IsSome format → P
+none_some None P is there = absurd (cc)
+none_some (Some f) P is there = absurd (cc)

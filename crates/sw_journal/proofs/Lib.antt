@@ -1,7 +1,10 @@
 mod Appends
 mod Fresh
+pub mod FreshParts
 mod Gates
 mod Headers
-mod Images
 mod ParseSteps
+pub mod PartChanges
+pub mod PartLemmas
 mod ReadLemmas
+pub mod WholeParts

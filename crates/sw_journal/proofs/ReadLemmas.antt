@@ -2,31 +2,31 @@
 use Rattle.std.proofs.Common.{◌≡◌, ℕ, ◌+◌, ◌≤◌, List, ◌++◌, length, take, drop, Option, Some, None, Result, Ok, Err, refl, sym, ◌∙◌, arith, take-append-drop}
 use Rattle.std.proofs.lemmas.List.{take_at, drop_at, take-take, take-append-le, drop-take, length-take-le}
 use Rattle.std.specs.Prelude.{IfOk}
-use Rattle.sw_rules.specs.Image.{Image}
-use Rattle.sw_rules.specs.DiskRule.{ForTold, Within, Elapses}
+use Rattle.sw_disk.specs.declared.disk.Disk.{Ghosts}
+use Rattle.sw_disk.specs.Image.{Image}
+use Rattle.sw_disk.specs.DiskRule.{ForTold, Within, Elapses}
 use Rattle.sw_disk.proofs.Moments.{started, goes_on, both, weaker}
 use Rattle.sw_journal.specs.Quiet.{IsQuiet}
 
-module _ {D : Type 0} (seen : D → Option Image) (may_leave : D → Image → Type 0) (clock : D → ℕ) (left_since : D → ℕ → Image → Type 0) (faults : D → ℕ) where
-  pub quiet_start : (disk : D) → IsQuiet seen may_leave clock left_since faults disk disk
-  quiet_start disk = record { same = refl; crash = λ c now. now; moments = started clock left_since disk (may_leave disk); count = omega arith }
+module _ {D : Type 0} (disk : Ghosts D) where
+  pub quiet_start : (now : D) → IsQuiet disk now now
+  quiet_start now = record { same = refl; crash = λ c left. left; moments = started disk now (disk.may_leave now); count = omega arith }
 
   -- one call that changes nothing
-  pub quiet_call : (old new : D) → seen new ≡ seen old → Within (may_leave new) (may_leave old) → Elapses (clock old) (clock new) (left_since old) (left_since new) (may_leave new)
-      → faults old ≤ faults new → IsQuiet seen may_leave clock left_since faults old new
+  pub quiet_call : (old new : D) → disk.seen new ≡ disk.seen old → Within (disk.may_leave new) (disk.may_leave old) → Elapses disk.clock disk.left_since disk.may_leave old new
+      → disk.faults old ≤ disk.faults new → IsQuiet disk old new
   quiet_call old new same crash time count = record {
     same = same;
     crash = crash;
-    moments = goes_on clock left_since old old new (may_leave old) (may_leave new) (started clock left_since old (may_leave old)) time crash;
+    moments = goes_on disk old old new (disk.may_leave old) (started disk old (disk.may_leave old)) time crash;
     count = count;
   }
 
-  pub quiet_then : (old mid new : D) → IsQuiet seen may_leave clock left_since faults old mid → IsQuiet seen may_leave clock left_since faults mid new
-      → IsQuiet seen may_leave clock left_since faults old new
+  pub quiet_then : (old mid new : D) → IsQuiet disk old mid → IsQuiet disk mid new → IsQuiet disk old new
   quiet_then old mid new one two = record {
     same = two.same ∙ one.same;
-    crash = λ c now. one.crash c (two.crash c now);
-    moments = both clock left_since old mid new (may_leave old) one.moments (weaker clock left_since mid new (may_leave mid) (may_leave old) one.crash two.moments);
+    crash = λ c left. one.crash c (two.crash c left);
+    moments = both disk old mid new (disk.may_leave old) one.moments (weaker disk mid new (disk.may_leave mid) (disk.may_leave old) one.crash two.moments);
     count = omega (arith, one.count, two.count);
   }
 

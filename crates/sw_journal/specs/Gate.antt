@@ -8,12 +8,6 @@ pub record HasBehind (gate : ℕ) (bytes : List ℕ) (old new : List ℕ) : Type
   pub rest : List ℕ
   pub behind : drop gate new ≡ byte ∷ (bytes ++ rest)
 
--- own: all bytes before the gate stay, the gate is open, and this record is whole behind it
-pub record IsOpened (gate : ℕ) (bytes : List ℕ) (old new : List ℕ) : Type 0 where
-  pub front : take gate new ≡ take gate old
-  pub rest : List ℕ
-  pub behind : drop gate new ≡ 1 ∷ (bytes ++ rest)
-
 -- own: the gate and all before it stay, or the record is whole behind the gate
 abbrev pub IsTornRecord : ℕ → List ℕ → List ℕ → List ℕ → Type 0
 IsTornRecord gate bytes old new = (take (gate + 1) new ≡ take (gate + 1) old) ⊎ HasBehind gate bytes old new

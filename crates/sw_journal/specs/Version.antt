@@ -1,5 +1,5 @@
 -- The formats of a part, as the code names them.
-use Rattle.sw_rules.specs.Format.{Format, format_1, format_2}
+use Rattle.sw_journal.specs.Format.{Format, format_1, format_2}
 use Rattle.sw_journal.specs.declared.version.Version.{Version}
 use Rattle.sw_journal.specs.declared.version.Version.TheVariants.{One, Two}
 

@@ -1,19 +1,23 @@
 //! The journal of one part.
 
-ghost use Rattle.std.specs.Prelude.{◌≡◌, ◌↔◌, ◌+◌, ◌-◌, ◌^◌, ◌<◌, ◌≤◌, ◌++◌, ◌∷◌, [], ℕ, min, length, vec_len, vec_capacity, IfOk, IsErrOf, IsTrue, OnOk, OnErr};
-ghost use Rattle.sw_rules.specs.Image.{Image, get};
-ghost use Rattle.sw_rules.specs.DiskRule.{ForTold, Tells, OnPart, Only, LeavesOnly};
-ghost use Rattle.sw_rules.specs.Faults.{Rose};
-ghost use Rattle.sw_rules.specs.Format.{format_2, needed_length, record_bytes};
-ghost use Rattle.sw_rules.specs.Journal.{StandsFor, HasMore, HasSameOrMore, Since, Stepped};
+ghost use Rattle.std.specs.Prelude.{◌≡◌, ◌↔◌, ◌+◌, ◌-◌, ◌^◌, ◌<◌, ◌≤◌, ◌++◌, ◌∷◌, [], ℕ, List, length, vec_len, vec_capacity};
+ghost use Rattle.std.specs.Prelude.{IfOk, IsErrOf, IsTrue, OnOk, OnErr};
+ghost use Rattle.sw_data.specs.Faults.{Rose};
+ghost use Rattle.sw_disk.specs.DiskRule.{ForTold, OnPart, Puts, written, Stepped, capped};
+ghost use Rattle.sw_disk.specs.Meanings.{Becomes, IsDurable, LeavesSteps};
+ghost use Rattle.sw_journal.specs.Format.{format_2, needed_length, record_bytes};
+ghost use Rattle.sw_journal.specs.Journal.{StandsIn, StandsFor, appended, HasMore, HasSameOrMore, Since};
 ghost use Rattle.sw_journal.specs.Version.{format_at};
+ghost use Rattle.sw_journal.specs.WholePart.{IsWhole, place_behind};
 
 use crate::gate::add_record;
+use crate::parse::end_of_records;
 use crate::version::Version;
 use std::alloc::Global;
 use std::marker::Model;
-use sw_disk::{Disk, Failed};
-use sw_rules::{NoMemory, Part};
+use sw_data::NoMemory;
+use sw_disk::{Disk, Failed, Part};
+use thiserror::Error;
 
 // What stands in a record of format 2 beside its payload: the length, the number and the next gate.
 const OVERHEAD: u64 = 13;
@@ -31,7 +35,7 @@ pub struct Journal {
 
 impl Model for Journal {
     ghost use Rattle.std.specs.Prelude.{◌-◌, ◌^◌, ◌<◌, ◌≤◌, vec_capacity};
-    ghost use Rattle.sw_rules.specs.Journal.{JournalState};
+    ghost use Rattle.sw_journal.specs.Journal.{JournalState};
     ghost use Rattle.sw_journal.specs.Version.{format_at};
 
     ghost Value = { JournalState };
@@ -45,20 +49,23 @@ impl Model for Journal {
       spare = vec_capacity j.buffer - 13;
     } };
 
-    ghost invariant = { λ j. (j.limit ≤ 2 ^ 32) × (j.gate < 2 ^ 63) × (j.count ≤ j.gate) × (13 ≤ vec_capacity j.buffer) };
+    ghost invariant = { λ j. (j.limit ≤ 2 ^ 32) × (j.gate < 2 ^ 63) × (j.count ≤ j.gate)
+        × (13 ≤ vec_capacity j.buffer) };
 }
 
 /// Why a record was not appended.
-#[derive(Debug, Clone, Copy, PartialEq, Eq)]
+#[derive(Debug, Clone, Copy, PartialEq, Eq, Error)]
 pub enum AppendError {
     /// The disk's count of faults rose, or stands at its type's end. The journal must be reopened.
+    #[error("the disk failed")]
     DiskFault,
     /// The record would pass the limit: the next free offset, and what the record needs from there on.
+    #[error("the journal is full: {length} bytes, and {needed} more are needed")]
     Full { length: u64, needed: u64 },
 }
 
 impl Journal {
-    /// A journal whose first closed gate stands at `gate`, behind `count` records.
+    // A journal whose first closed gate stands at `gate`, behind `count` records.
     pub(crate) fn standing(
         alloc: Global,
         part: Part,
@@ -103,7 +110,7 @@ impl Journal {
 
     /// What a record whose payload has this length needs, from the next free offset on.
     pub fn needed(&self, length: u64) -> u64
-        ensures { result ≡ min (needed_length self.now.format length) (2 ^ 64 - 1) }
+        ensures { result ≡ capped (needed_length self.now.format length) }
     {
         length.saturating_add(5 + self.version.width())
     }
@@ -122,17 +129,43 @@ impl Journal {
         Ok(())
     }
 
+    /// Goes over to a part that was written whole, as these bytes of format 2, and has nothing behind them; it takes no
+    /// memory.
+    pub fn move_to(&mut self, part: Part, contents: &[u8])
+        requires whole { (payloads : List (List ℕ)) × IsWhole payloads contents.now }
+        requires small { length contents.now < 2 ^ 63 }
+        ensures place { self.new ≡ record self.old {
+          part = part;
+          format = format_2;
+          gate = self.new.gate;
+          count = self.new.count;
+        } }
+        ensures end { (payloads : List (List ℕ)) → IsWhole payloads contents.now
+            → (self.new.gate ≡ place_behind format_2 16 payloads)
+            × (self.new.count ≡ length payloads) }
+        ensures stands { StandsIn self.new contents.now }
+    {
+        let (gate, count) = end_of_records(Version::Two, contents);
+        self.part = part;
+        self.version = Version::Two;
+        self.gate = gate;
+        self.count = count;
+    }
+
     /// Appends a record of format 2: writes it behind the closed gate, syncs, opens the gate, syncs.
     pub fn append<D: Disk>(&mut self, disk: &mut D, payload: &[u8]) -> Result<(), AppendError>
         requires format { self.old.format ≡ format_2 }
         requires room { length payload.now ≤ self.old.spare }
-        requires stands { StandsFor self.old (D.seen disk.old) (D.may_leave disk.old) }
+        requires stands { StandsFor self.old D.Disk disk.old }
 
         // Full comes exactly where the next free offset and what the record needs pass the limit.
         ensures full { (from needs : ℕ) → IsErrOf result (AppendError.Full from needs)
-            ↔ ((from ≡ self.old.gate + 1) × (needs ≡ needed_length format_2 (length payload.now)) × (self.old.limit < from + needs)) }
-        ensures untouched { (from needs : ℕ) → IsErrOf result (AppendError.Full from needs) → disk.new ≡ disk.old }
-        ensures still_stands { (from needs : ℕ) → IsErrOf result (AppendError.Full from needs) → StandsFor self.new (D.seen disk.new) (D.may_leave disk.new) }
+            ↔ ((from ≡ self.old.gate + 1) × (needs ≡ needed_length format_2 (length payload.now))
+            × (self.old.limit < from + needs)) }
+        ensures untouched { (from needs : ℕ) → IsErrOf result (AppendError.Full from needs)
+            → disk.new ≡ disk.old }
+        ensures still_stands { (from needs : ℕ) → IsErrOf result (AppendError.Full from needs)
+            → StandsFor self.new D.Disk disk.new }
 
         ensures next { OnOk result (self.new ≡ record self.old {
           gate = self.old.gate + needed_length format_2 (length payload.now);
@@ -142,22 +175,29 @@ impl Journal {
         ensures same { OnErr result (self.new ≡ record self.old { spare = self.new.spare }) }
         ensures spare { self.old.spare ≤ self.new.spare }
 
-        // After Ok the record is on the disk.
-        ensures added { OnOk result (Tells (D.seen disk.old) (D.seen disk.new) (OnPart self.old.part (HasMore self.old payload.now))) }
-        ensures durable { OnOk result (ForTold (D.seen disk.new) (λ image. Only image (D.may_leave disk.new))) }
-        ensures acknowledged { OnOk result (ForTold (D.seen disk.old) (λ image. Since D.clock D.left_since disk.new disk.new
+        // After Ok the record is on the disk, and no other byte was written.
+        ensures bytes { OnOk result (Becomes D.Disk disk.old disk.new
+            (Puts self.old.part (written self.old.gate (appended self.old payload.now)))) }
+        ensures added { OnOk result (Becomes D.Disk disk.old disk.new
+            (OnPart self.old.part (HasMore self.old payload.now))) }
+        ensures durable { OnOk result (IsDurable D.Disk disk.new) }
+        ensures acknowledged { OnOk result
+            (ForTold (D.seen disk.old) (λ image. Since D.Disk disk.new disk.new
             (OnPart self.old.part (HasMore self.old payload.now) image))) }
-        ensures stands { OnOk result (StandsFor self.new (D.seen disk.new) (D.may_leave disk.new)) }
+        ensures stands { OnOk result (StandsFor self.new D.Disk disk.new) }
 
         // At every moment of the call a crash leaves the records as they were, or these and the new one, and the
         // other parts as it might have left them before.
-        ensures any_moment { ForTold (D.seen disk.old) (λ image. LeavesOnly D.clock D.left_since disk.old disk.new
-            (Stepped self.old.part (HasSameOrMore self.old payload.now) (D.may_leave disk.old))) }
-        ensures since_entry { ForTold (D.seen disk.old) (λ image. Since D.clock D.left_since disk.old disk.new
-            (Stepped self.old.part (HasSameOrMore self.old payload.now) (D.may_leave disk.old))) }
+        ensures any_moment { LeavesSteps D.Disk disk.old disk.new
+            (λ image. OnPart self.old.part (HasSameOrMore self.old payload.now)) }
+        ensures since_entry { ForTold (D.seen disk.old) (λ image. Since D.Disk disk.old disk.new
+            (Stepped (OnPart self.old.part (HasSameOrMore self.old payload.now))
+            (D.may_leave disk.old))) }
 
-        ensures calls { OnOk result (D.clock disk.new ≡ min (D.clock disk.old + 4) (2 ^ 64 - 1)) }
-        ensures fault { IsErrOf result AppendError.DiskFault → Rose (D.faults disk.old) (D.faults disk.new) }
+        ensures calls { OnOk result (D.clock disk.new ≡ capped (D.clock disk.old + 4)) }
+        ensures most { D.clock disk.new ≤ D.clock disk.old + 4 }
+        ensures fault { IsErrOf result AppendError.DiskFault
+            → Rose (D.faults disk.old) (D.faults disk.new) }
         ensures count { D.faults disk.old ≤ D.faults disk.new }
     {
         let length = self.next();

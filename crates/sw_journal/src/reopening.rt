@@ -1,12 +1,13 @@
 //! Reopening a part that a crash may have left.
 
-ghost use Rattle.std.specs.Prelude.{◌≡◌, ◌<◌, ◌≤◌, ◌^◌, length, IsErrOf, IfOk, IfErr};
-ghost use Rattle.sw_rules.specs.Image.{get};
-ghost use Rattle.sw_rules.specs.DiskRule.{ForTold, Only};
-ghost use Rattle.sw_rules.specs.Faults.{Rose};
-ghost use Rattle.sw_rules.specs.Content.{content, BadAt, Records};
-ghost use Rattle.sw_rules.specs.Content as parts;
-ghost use Rattle.sw_rules.specs.Journal.{StandsIn, StandsFor};
+ghost use Rattle.std.specs.Prelude.{◌≡◌, ◌<◌, ◌≤◌, ◌+◌, ◌-◌, ◌^◌, length, IsErrOf, IfOk, IfErr};
+ghost use Rattle.sw_disk.specs.Image.{Image, get};
+ghost use Rattle.sw_disk.specs.DiskRule.{ForTold};
+ghost use Rattle.sw_disk.specs.Meanings.{IsDurable};
+ghost use Rattle.sw_data.specs.Faults.{Rose};
+ghost use Rattle.sw_journal.specs.Content.{content, BadAt, Records};
+ghost use Rattle.sw_journal.specs.Content as parts;
+ghost use Rattle.sw_journal.specs.Journal.{StandsIn, StandsFor};
 ghost use Rattle.sw_journal.specs.Quiet.{IsQuiet};
 ghost use Rattle.sw_journal.specs.Reopening.{OnBadJournal};
 
@@ -15,20 +16,25 @@ use crate::parse::read_records;
 use crate::read::{ReadError, read_part};
 use crate::version::Version;
 use std::alloc::Global;
-use sw_disk::{Disk, Failed};
-use sw_rules::{Bytes, NoMemory, Part};
+use sw_data::{Bytes, NoMemory};
+use sw_disk::{Disk, Failed, Part};
+use thiserror::Error;
 
 /// Why a journal was not reopened.
-#[derive(Debug, Drop)]
+#[derive(Debug, Drop, Error)]
 pub enum ReopenError {
     /// A growth was refused by the allocator.
+    #[error("out of memory")]
     NoMemory,
     /// The disk's count of faults rose, or stands at its type's end.
+    #[error("the disk failed")]
     DiskFault,
     /// The part begins with the header of neither format.
+    #[error("the part has no journal")]
     NotFormatted,
     /// The first gate is missing, or the open gate at this offset, with all before it whole, is followed by no whole
     /// record. `before` has the whole records before it, each with the offset of its gate.
+    #[error("the journal is bad at offset {offset}")]
     BadJournal {
         offset: u64,
         before: Vec<(u64, Bytes)>,
@@ -70,18 +76,26 @@ impl Journal {
         requires { limit ≤ 2 ^ 32 }
 
         // Each answer is what the part's bytes stand for.
-        ensures records { ForTold (D.seen disk.old) (λ image. IfOk result (λ r. content (get part image) ≡ Records r.1.items)) }
-        ensures not_formatted { IsErrOf result ReopenError.NotFormatted → ForTold (D.seen disk.old) (λ image. content (get part image) ≡ parts.NotFormatted) }
-        ensures bad { ForTold (D.seen disk.old) (λ image. IfErr result (λ e. OnBadJournal e (λ offset before. content (get part image) ≡ BadAt offset before))) }
+        ensures records { ForTold (D.seen disk.old)
+            (λ image. IfOk result (λ r. content (get part image) ≡ Records r.1.items)) }
+        ensures not_formatted { IsErrOf result ReopenError.NotFormatted
+            → ForTold (D.seen disk.old) (λ image. content (get part image) ≡ parts.NotFormatted) }
+        ensures bad { ForTold (D.seen disk.old) (λ image. IfErr result
+            (λ e. OnBadJournal e (λ offset before. content (get part image)
+            ≡ BadAt offset before))) }
 
         ensures place { IfOk result (λ r. (r.0.part ≡ part) × (r.0.limit ≡ limit)) }
-        ensures stands { IfOk result (λ r. StandsFor r.0 (D.seen disk.new) (D.may_leave disk.new)) }
+        ensures stands { IfOk result (λ r. StandsFor r.0 D.Disk disk.new) }
 
         // Nothing is written. Unless the disk failed, what was read is sure.
-        ensures quiet { IsQuiet D.seen D.may_leave D.clock D.left_since D.faults disk.old disk.new }
-        ensures durable { (IsErrOf result ReopenError.DiskFault → ⊥) → ForTold (D.seen disk.old) (λ image. Only image (D.may_leave disk.new)) }
-
-        ensures fault { IsErrOf result ReopenError.DiskFault → Rose (D.faults disk.old) (D.faults disk.new) }
+        ensures quiet { IsQuiet D.Disk disk.old disk.new }
+        ensures durable { (IsErrOf result ReopenError.DiskFault → ⊥) → IsDurable D.Disk disk.new }
+        // It syncs first: what a crash since one call after the entry may have left is what reads give.
+        ensures first { (IsErrOf result ReopenError.DiskFault → ⊥) → ForTold (D.seen disk.old)
+            (λ image. D.clock disk.old + 1 < 2 ^ 64 - 1 → (c : Image)
+            → D.left_since disk.new (D.clock disk.old + 1) c → c ≡ image) }
+        ensures fault { IsErrOf result ReopenError.DiskFault
+            → Rose (D.faults disk.old) (D.faults disk.new) }
     {
         match disk.sync() {
             Ok(()) => {}
@@ -102,8 +116,10 @@ fn parse_part(
     requires limit { limit ≤ 2 ^ 32 }
     requires small { length bytes.now < 2 ^ 63 }
     ensures records { IfOk result (λ r. content bytes.now ≡ Records r.1.items) }
-    ensures not_formatted { IsErrOf result ReopenError.NotFormatted → content bytes.now ≡ parts.NotFormatted }
-    ensures bad { IfErr result (λ e. OnBadJournal e (λ offset before. content bytes.now ≡ BadAt offset before)) }
+    ensures not_formatted { IsErrOf result ReopenError.NotFormatted
+        → content bytes.now ≡ parts.NotFormatted }
+    ensures bad { IfErr result
+        (λ e. OnBadJournal e (λ offset before. content bytes.now ≡ BadAt offset before)) }
     ensures place { IfOk result (λ r. (r.0.part ≡ part) × (r.0.limit ≡ limit)) }
     ensures stands { IfOk result (λ r. StandsIn r.0 bytes.now) }
     ensures no_fault { IsErrOf result ReopenError.DiskFault → ⊥ }

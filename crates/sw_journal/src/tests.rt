@@ -4,8 +4,8 @@ use super::*;
 use std::alloc::Global;
 use std::fs::{self, File, OpenOptions};
 use std::test::Fail;
-use sw_disk::{CallKind, Disk, Failing, FileDisk, MemoryDisk};
-use sw_rules::{Bytes, NoMemory, Part};
+use sw_data::{Bytes, NoMemory};
+use sw_disk::{CallKind, Disk, Failing, FileDisk, MemoryDisk, Part};
 
 const LIMIT: u64 = 4_294_967_296;
 
@@ -141,6 +141,55 @@ fn a_part_is_told_as_its_bytes_are(rt: HostRuntime) -> Result<(), Fail> {
     Ok(())
 }
 
+// An empty disk all of whose calls fail from one on.
+fn stopping(alloc: Global, after: u64) -> Result<MemoryDisk, NoMemory> {
+    let root = Bytes::of(alloc, &[])?;
+    let left = Bytes::of(alloc, &[])?;
+    Ok(MemoryDisk::stopping(root, left, Bytes::of(alloc, &[])?, after))
+}
+
+// Whether a crash has left so many records, or one more.
+fn is_kept(alloc: Global, mut left: MemoryDisk, count: usize) -> bool {
+    match answer_of(alloc, &mut left) {
+        Told::NotFormatted => count == 0,
+        Told::Records(found) => count <= found && found - count <= 1,
+        Told::BadAt(_, _) | Told::Other => false,
+    }
+}
+
+#[test]
+fn a_failed_read_formats_nothing(rt: HostRuntime) -> Result<(), Fail> {
+    let alloc = rt.alloc();
+    let failing = vec![in alloc; Failing {
+        call: CallKind::Read,
+        from: 0,
+        to: 0
+    }; 1]?;
+    let mut disk = with_left(alloc, &EXAMPLE, failing)?;
+    assert_eq!(rt; init(&mut disk, Part::Left), Err(InitError::DiskFault));
+    assert_eq!(rt; disk.image(Part::Left), EXAMPLE.as_slice());
+    assert_eq!(rt;
+        init(&mut disk, Part::Left),
+        Err(InitError::AlreadyFormatted)
+    );
+    assert_eq!(rt; answer_of(alloc, &mut disk), Told::Records(1));
+    Ok(())
+}
+
+#[test]
+fn a_journal_goes_over_to_a_whole_part(rt: HostRuntime) -> Result<(), Fail> {
+    let alloc = rt.alloc();
+    let mut disk = with_left(alloc, &EXAMPLE, Vec::new(alloc))?;
+    let (mut journal, _) = match Journal::reopen(alloc, &mut disk, Part::Left, 31) {
+        Ok(found) => found,
+        Err(_) => return Err(Fail::new("not reopened")),
+    };
+    assert_eq!(rt; (journal.format(), journal.next()), (1, 46));
+    journal.move_to(Part::Right, b"SWHOST-JOURNAL-2\x00");
+    assert_eq!(rt; (journal.format(), journal.next()), (2, 17));
+    Ok(())
+}
+
 #[test]
 fn a_crash_keeps_what_was_acknowledged(rt: HostRuntime) -> Result<(), Fail> {
     let alloc = rt.alloc();
@@ -152,26 +201,24 @@ fn a_crash_keeps_what_was_acknowledged(rt: HostRuntime) -> Result<(), Fail> {
         *b"\x01\xff\xff\xff\xff\xff\xff\xff\xff\xff\xff\xff\xff\xff\xff\xff\xff\xff\xff\xff\xff\xff\xff\xff\xff\xff\xff\xff\xff\xff\xff\xff",
         *b"\x01\xff\x07\x00\x01\x9c\x01\x01\x00\x52\x00\x00\x01\x33\xee\x04\x01\x00\xff\x11\x00\x00\x00\x01\x01\x02\xfe\x00\x08\x01\x01\x61",
     ];
+    for after in 0..40u64 {
+        for pick in &picks {
+            let mut disk = stopping(alloc, after)?;
+            let count = play(alloc, &mut disk)?;
+            assert!(rt; is_kept(alloc, disk.crash(pick)?, count), "{after}");
+        }
+    }
     for call in [CallKind::Write, CallKind::Sync] {
-        for from in 0..8u64 {
+        for once in 0..8u64 {
             for pick in &picks {
                 let failing = vec![in alloc; Failing {
                     call,
-                    from,
-                    to: u64::MAX
+                    from: once,
+                    to: once
                 }; 1]?;
                 let mut disk = with_left(alloc, &[], failing)?;
                 let count = play(alloc, &mut disk)?;
-                let mut left = disk.crash(pick)?;
-                match answer_of(alloc, &mut left) {
-                    Told::NotFormatted => assert_eq!(rt; count, 0),
-                    Told::Records(found) => {
-                        assert!(rt; count <= found && found <= count + 1, "{call:?} {from}");
-                    }
-                    other => return Err(Fail::new(format!(in alloc;
-                        "{call:?} {from}: {other:?}"
-                    )?)),
-                }
+                assert!(rt; is_kept(alloc, disk.crash(pick)?, count), "{call:?} {once}");
             }
         }
     }

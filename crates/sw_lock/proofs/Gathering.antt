@@ -31,17 +31,18 @@ module _ {X : Type 0} where
   all_more P old new x e all here = All-same P new (old ++ x ∷ []) e (All-push P old x all here)
 
 module _ {T E G O : Type 0} {g : Ghosts T E G O} where
-  pub gathered_more : (first : Pass T E G O g) (others : List (Pass T E G O g)) (pass : Pass T E G O g) (seat new : Seat (Option T) (View T E))
-      → IsGathered first others seat → IsIdle pass.seat.me
-      → (let m : Sat T E = (together seat.me.0 pass.seat.me.0, seat.me.1) in new.me ≡ m)
+  -- the seat takes in one more pass
+  pub gathered_next : (first : Pass T E G O g) (others : List (Pass T E G O g)) (pass : Pass T E G O g) (seat other new : Seat (Option T) (View T E))
+      → IsGathered first others seat → other ≡ pass.seat → (let m : Sat T E = (together seat.me.0 other.me.0, seat.me.1) in new.me ≡ m)
       → IsGathered first (others ++ pass ∷ []) new
-  gathered_more first others pass seat new so_far idle e =
-      let alone = idle.alone in let many = so_far.stands in
+  gathered_next first others pass seat other new so_far same is =
+      let e = is ∙ ap (λ (s : Seat (Option T) (View T E)). let m : Sat T E = (together seat.me.0 s.me.0, seat.me.1) in m) same in
+      let idle = pass.idle in let alone = idle.alone in let many = so_far.stands in
       record {
         empty = ap (λ (m : Sat T E). m.1) e ∙ so_far.empty;
         ticket = ap (λ (m : Sat T E). m.0.ticket) e ∙ so_far.ticket;
         place = ap (λ (m : Sat T E). m.0.place) e ∙ so_far.place;
-        stands = let is = ap (λ (m : Sat T E). m.0.passes) e in omega (arith, length-append others (pass ∷ []));
+        stands = let passes = ap (λ (m : Sat T E). m.0.passes) e in omega (arith, length-append others (pass ∷ []));
         own = ap (λ (m : Sat T E). note m.0) e ∙ so_far.own;
         joined =
             ap (λ (m : Sat T E). m.0.joined) e
@@ -67,10 +68,3 @@ module _ {T E G O : Type 0} {g : Ghosts T E G O} where
 
   pub seat_table : (pass : Pass T E G O g) (seat : Seat (Option T) (View T E)) (table : TableId) → seat ≡ pass.seat → pass.seat.table_id ≡ table → seat.table_id ≡ table
   seat_table pass seat table e here = ap (λ (s : Seat (Option T) (View T E)). s.table_id) e ∙ here
-
-  pub gathered_next : (first : Pass T E G O g) (others : List (Pass T E G O g)) (pass : Pass T E G O g) (seat other new : Seat (Option T) (View T E))
-      → IsGathered first others seat → other ≡ pass.seat → (let m : Sat T E = (together seat.me.0 other.me.0, seat.me.1) in new.me ≡ m)
-      → IsGathered first (others ++ pass ∷ []) new
-  gathered_next first others pass seat other new so_far e is =
-      gathered_more first others pass seat new so_far pass.idle
-      (is ∙ ap (λ (s : Seat (Option T) (View T E)). let m : Sat T E = (together seat.me.0 s.me.0, seat.me.1) in m) e)

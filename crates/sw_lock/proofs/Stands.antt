@@ -8,7 +8,7 @@ use Rattle.atomic_table.proofs.Lists.{at_set, set_here, set_else, at_longer}
 use Rattle.sw_lock.specs.declared.view.View.{View}
 use Rattle.sw_lock.specs.declared.view.Note.{Note}
 use Rattle.sw_lock.specs.Entries.{ThenOwn, ThenOthers}
-use Rattle.sw_lock.specs.Turns.{Has, Spent, Knows, Stands}
+use Rattle.sw_lock.specs.Turns.{Has, Spent, Knows, Stands, AllStand}
 use Rattle.sw_lock.specs.Steps.{gave, further, together, note, gone}
 use Rattle.sw_lock.proofs.Views.{at_lt, at_one}
 
@@ -71,12 +71,11 @@ module _ {E : Type 0} (maker : E → ℕ) where
 
     -- one view changes what it has seen, and the history grows by entries of its pass
     pub stands_set : (views : List (View V E)) (history more : List E) (me : ℕ) (v w : View V E)
-        → ((id : ℕ) (u : View V E) → Has views id u → 0 < u.passes → Stands maker opened views history id u)
-        → ThenOwn maker me history more → Has views me v → 0 < v.passes
+        → AllStand maker opened views history → ThenOwn maker me history more → Has views me v → 0 < v.passes
         → w.number ≡ v.number → w.opened ≡ v.opened → w.joined ≡ v.joined → w.made ≡ v.made
         → Knows maker v.number w.seen w.known more
         → (me ≡ 0 → (k : ℕ) → length views ≤ k → ThenOthers maker k w.seen more)
-        → (id : ℕ) (u : View V E) → Has (set views me w) id u → 0 < u.passes → Stands maker opened (set views me w) more id u
+        → AllStand maker opened (set views me w) more
     stands_set views history more me v w old g h live number start joined made own first id u has stands =
         let long = length-set views me w in let spent = spent_else views me v w h live in
         ⊎_elim
@@ -95,9 +94,8 @@ module _ {E : Type 0} (maker : E → ℕ) where
 
     -- a further pass gets the number that the first one keeps
     pub stands_split : (views : List (View V E)) (history : List E) (me : ℕ) (v : View V E)
-        → ((id : ℕ) (u : View V E) → Has views id u → 0 < u.passes → Stands maker opened views history id u)
-        → Has views me v → 0 < v.passes → me ≡ 0
-        → (id : ℕ) (u : View V E) → Has (set views me (gave v) ++ further v ∷ []) id u → 0 < u.passes → Stands maker opened (set views me (gave v) ++ further v ∷ []) history id u
+        → AllStand maker opened views history → Has views me v → 0 < v.passes → me ≡ 0
+        → AllStand maker opened (set views me (gave v) ++ further v ∷ []) history
     stands_split views history me v old h live zero_is id u has stands =
         let s = old me v h live in let f = s.first zero_is in let made = f.0 in
         let new : List (View V E) = set views me (gave v) ++ further v ∷ [] in
@@ -127,9 +125,8 @@ module _ {E : Type 0} (maker : E → ℕ) where
 
     -- one view takes in another
     pub stands_joined : (views : List (View V E)) (history : List E) (me other : ℕ) (v w : View V E)
-        → ((id : ℕ) (u : View V E) → Has views id u → 0 < u.passes → Stands maker opened views history id u)
-        → Has views me v → 0 < v.passes → other ≢ me → Has (set views me (together v w)) other w → 0 < w.passes
-        → (id : ℕ) (u : View V E) → Has (set (set views me (together v w)) other gone) id u → 0 < u.passes → Stands maker opened (set (set views me (together v w)) other gone) history id u
+        → AllStand maker opened views history → Has views me v → 0 < v.passes → other ≢ me → Has (set views me (together v w)) other w → 0 < w.passes
+        → AllStand maker opened (set (set views me (together v w)) other gone) history
     stands_joined views history me other v w old h live ne k' live' id u has stands =
         let k : Has views other w = sym (set_else views me other (together v w) ne) ∙ k' in
         let between : List (View V E) = set views me (together v w) in

@@ -140,6 +140,11 @@ module _ {V E : Type 0} where
     most_is = c.most_is;
   }
 
+  -- nothing is counted
+  pub counts_same : (views : List (View V E)) (next most me : ℕ) (v w : View V E) → Counts views next most → Has views me v → w.passes ≡ v.passes → w.turns ≡ v.turns → Counts (set views me w) next most
+  counts_same views next most me v w c h same turns =
+      subst (λ (n : ℕ). Counts (set views me w) n most) (omega arith) (counts_set views next most me 0 v w c h same (omega arith) (let b = c.bound me v h in omega arith))
+
   pub counts_snoc : (views : List (View V E)) (next most : ℕ) (w : View V E) → Counts views next most → w.passes ≡ 1 → w.turns ≡ 0 → length views < most → Counts (views ++ w ∷ []) next most
   counts_snoc views next most w c one no_turns room = record {
     turns = let s = total_snoc (λ (u : View V E). u.turns) views w in let t = c.turns in omega arith;

@@ -1,6 +1,7 @@
 -- What each step of the lock tells the pass that makes it.
 use Rattle.std.specs.Prelude.{◌≡◌, ◌≢◌, ℕ, ◌+◌, ◌^◌, ◌<◌, ◌≤◌, List, [], ◌∷◌, ◌++◌, length, Option, Some, None}
 use Rattle.atomic_table.specs.Table.{Me, Step, rest}
+use Rattle.sw_lock.specs.declared.logged.Logged.{Ghosts}
 use Rattle.sw_lock.specs.declared.view.View.{View}
 use Rattle.sw_lock.specs.declared.view.Note.{Note}
 use Rattle.sw_lock.specs.declared.view.Place.TheVariants.{Away, Out, Counted}
@@ -82,20 +83,20 @@ module _ {V E : Type 0} where
   abbrev pub looked : At V → Sat V E → ℕ → Sat V E → Type 0
   looked st m r n = (n ≡ (record m.0 { known = r }, m.1)) × (length m.0.seen ≤ m.0.known) × (m.0.known ≤ r)
 
-module _ {V E B : Type 0} (base : V → B) (log : V → List E) (maker : E → ℕ) (passes : B → ℕ) where
+module _ {V E G O : Type 0} (g : Ghosts V E G O) where
   -- own: the pass has the value, and has seen its history
   abbrev pub holding : View V E → V → View V E
-  holding v x = record v { place = Out; seen = log x; known = length (log x) }
+  holding v x = record v { place = Out; seen = g.log x; known = length (g.log x) }
 
   -- own: the pass has seen the history of the value that it has, and its entries are counted
   abbrev pub counting : Sat V E → V → Sat V E
-  counting m x = (record m.0 { place = Counted; seen = log x; known = length (log x) }, m.1)
+  counting m x = (record m.0 { place = Counted; seen = g.log x; known = length (g.log x) }, m.1)
 
   -- own: the pass has the value, whose history goes on from what the pass had seen with entries of others
   pub record Found (m : Sat V E) (x : V) (n : Sat V E) : Type 0 where
     pub seat : n ≡ (holding m.0 x, (0, Some x) ∷ m.1)
-    pub knows : Knows maker m.0.number m.0.seen m.0.known (log x)
-    pub base_is : (opened : V) → m.0.opened ≡ Some opened → (base x ≡ base opened) × (m.0.number < passes (base opened))
+    pub knows : Knows g.maker m.0.number m.0.seen m.0.known (g.log x)
+    pub base_is : (opened : V) → m.0.opened ≡ Some opened → (g.base x ≡ g.base opened) × (m.0.number < g.passes (g.base opened))
 
   -- own: where the ticket that is served is the pass's own, it has the value; else nothing changed
   abbrev pub saw : At V → Sat V E → ℕ → Sat V E → Type 0
@@ -105,23 +106,22 @@ module _ {V E B : Type 0} (base : V → B) (log : V → List E) (maker : E → �
   abbrev pub counted : At V → Sat V E → ℕ → Sat V E → Type 0
   counted st m r n = (x : V) → m.1 ≡ (0, Some x) ∷ [] → n ≡ counting m x
 
-module _ {V E G O B : Type 0} (base : V → B) (log : V → List E) (maker : E → ℕ) (steps : V → G → ℕ → V → O → Type 0) where
   -- own: a step of the pass made this value and this answer, and so many entries
   pub record Advanced (x : V) (given : G) (pass : ℕ) (y : V) (answer : O) (added : ℕ) : Type 0 where
-    pub base_is : base y ≡ base x
-    pub own : ThenOwn maker pass (log x) (log y)
-    pub steps_are : steps x given pass y answer
-    pub added_are : length (log y) ≡ length (log x) + added
-    pub small : length (log y) < 2 ^ 64
+    pub base_is : g.base y ≡ g.base x
+    pub own : ThenOwn g.maker pass (g.log x) (g.log y)
+    pub steps_are : g.steps x given pass y answer
+    pub added_are : length (g.log y) ≡ length (g.log x) + added
+    pub small : length (g.log y) < 2 ^ 64
 
   -- own: one turn of a seat. The value that it took had the base of the start, and a history that goes on from what the seat
   -- had seen with entries of others; the step made of it a value whose history goes on with entries of this pass
   pub record Took (opened : V) (m : Sat V E) (given : G) (answer : O) (n : Sat V E) : Type 0 where
     pub before : V
     pub after : V
-    pub base_is : base before ≡ base opened
-    pub others : ThenOthers maker m.0.number m.0.seen (log before)
-    pub own : ThenOwn maker m.0.number (log before) (log after)
-    pub steps_are : steps before given m.0.number after answer
-    pub known : m.0.known ≤ length (log after)
-    pub seat : n ≡ (record m.0 { ticket = None; place = Away; seen = log after; known = length (log after); turns = m.0.turns + 1 }, [])
+    pub base_is : g.base before ≡ g.base opened
+    pub others : ThenOthers g.maker m.0.number m.0.seen (g.log before)
+    pub own : ThenOwn g.maker m.0.number (g.log before) (g.log after)
+    pub steps_are : g.steps before given m.0.number after answer
+    pub known : m.0.known ≤ length (g.log after)
+    pub seat : n ≡ (record m.0 { ticket = None; place = Away; seen = g.log after; known = length (g.log after); turns = m.0.turns + 1 }, [])

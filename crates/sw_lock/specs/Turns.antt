@@ -4,6 +4,7 @@ use mathlib.Core.Option.{some, none}
 use mathlib.Core.Option as maybe
 use lib.ListN.{get_elem?}
 use Rattle.atomic_table.specs.Table.{State}
+use Rattle.sw_lock.specs.declared.logged.Logged.{Ghosts}
 use Rattle.sw_lock.specs.declared.view.View.{View}
 use Rattle.sw_lock.specs.declared.view.Place.TheVariants.{Away}
 use Rattle.sw_lock.specs.Entries.{ThenOthers}
@@ -57,15 +58,31 @@ module _ {E : Type 0} (maker : E → ℕ) where
     pub start : v.opened ≡ Some opened
     pub own : Knows v.number v.seen v.known history
     pub joined : All (λ n. Knows n.number n.seen n.known history × Spent views n.number) v.joined
-    pub first : id ≡ 0 → (v.made ≡ length views) × ((k : ℕ) → length views ≤ k → ThenOthers maker k v.seen history)
+    pub first : id ≡ 0
+        → (v.made ≡ length views) × ((k : ℕ) → length views ≤ k → ThenOthers maker k v.seen history)
 
-module _ {V E B : Type 0} (base : V → B) (log : V → List E) (maker : E → ℕ) (passes : B → ℕ) where
+  -- own: each view that stands for a pass says what is true
+  abbrev pub AllStand : {V : Type 0} → V → List (View V E) → List E → Type 0
+  AllStand {V} opened views history =
+      (id : ℕ) (v : View V E) → Has views id v → 0 < v.passes → Stands opened views history id v
+
+module _ {V E G O : Type 0} (g : Ghosts V E G O) where
   -- own: the value is at home, with this history and the base of the start, and no pass has a place in a turn;
   -- or it is out with one pass, whose `seen` is the history
   abbrev pub Slot : V → List (maybe.Option (Option V)) → List (View V E) → List E → Type 0
   Slot opened homes views history =
-      ((x : V) × (homes ≡ some (Some x) ∷ []) × (base x ≡ base opened) × (log x ≡ history) × ((id : ℕ) (v : View V E) → Has views id v → v.place ≡ Away))
-      ⊎ ((id : ℕ) × (v : View V E) × (homes ≡ none ∷ []) × Has views id v × (v.place ≢ Away) × (v.seen ≡ history) × (0 < v.passes))
+      ((x : V)
+      × (homes ≡ some (Some x) ∷ [])
+      × (g.base x ≡ g.base opened)
+      × (g.log x ≡ history)
+      × ((id : ℕ) (v : View V E) → Has views id v → v.place ≡ Away))
+      ⊎ ((id : ℕ)
+      × (v : View V E)
+      × (homes ≡ none ∷ [])
+      × Has views id v
+      × (v.place ≢ Away)
+      × (v.seen ≡ history)
+      × (0 < v.passes))
 
   -- own: the rule, for the value that the lock was opened with and the number of passes that were made
   pub record Kept (opened : V) (made : ℕ) (s : State (Option V) (View V E)) : Type 0 where
@@ -74,7 +91,13 @@ module _ {V E B : Type 0} (base : V → B) (log : V → List E) (maker : E → �
     pub history : List E
     pub words : s.words ≡ length history ∷ next ∷ served ∷ []
     pub tickets : Tickets s.views next served
-    pub told : made ≡ passes (base opened)
+    pub told : made ≡ g.passes (g.base opened)
     pub counts : Counts s.views next made
     pub slot : Slot opened s.homes s.views history
-    pub views : (id : ℕ) (v : View V E) → Has s.views id v → 0 < v.passes → Stands maker opened s.views history id v
+    pub views : AllStand g.maker opened s.views history
+
+  -- own: the value at the end has the base of the start, and what this view and those that joined it know is true of it
+  pub record IsEnd (opened : V) (v : View V E) (value : V) : Type 0 where
+    pub base : g.base value ≡ g.base opened
+    pub own : Knows g.maker v.number v.seen v.known (g.log value)
+    pub joined : All (λ n. Knows g.maker n.number n.seen n.known (g.log value)) v.joined

@@ -2,7 +2,7 @@
 ghost use Rattle.std.specs.Prelude.{◌≡◌, ◌≤◌, ◌<◌, ◌+◌, ◌↔◌, ℕ, [], ◌++◌, ◌∷◌, length, All, map, vec_len, Some, IfOk, IfErr, IsErr};
 ghost use Rattle.sw_lock.specs.Entries.{ThenOthers};
 ghost use Rattle.sw_lock.specs.declared.view.Place.TheVariants.{Away};
-ghost use Rattle.sw_lock.specs.Turns.{Knows};
+ghost use Rattle.sw_lock.specs.Turns.{IsEnd};
 ghost use Rattle.sw_lock.specs.Passes.{number, seen, known, opened_of, made_of, IsPassOf, IsGathered};
 
 use crate::lock::{Missing, Shared};
@@ -34,9 +34,7 @@ impl<T: Logged> Shared<T> {
         requires place { seat.me.0.place ≡ Away }
         requires some { 0 < seat.me.0.passes }
         requires all { made_of self ≤ seat.me.0.passes }
-        ensures base { T.base result ≡ T.base (opened_of self) }
-        ensures own { Knows T.maker seat.me.0.number seat.me.0.seen seat.me.0.known (T.log result) }
-        ensures joined { All (λ n. Knows T.maker n.number n.seen n.known (T.log result)) seat.me.0.joined }
+        ensures { IsEnd T.Logged (opened_of self) seat.me.0 result }
     {
         let Shared { table, made: _ } = self;
         let mut closed = table.close_with(seat);
@@ -53,8 +51,10 @@ impl<T: Logged> Shared<T> {
         ensures missing { IsErr result ↔ (vec_len passes < made_of self) }
         ensures back { IfErr result (λ m. (m.shared ≡ self) × (m.passes.items ≡ passes.items)) }
         ensures base { IfOk result (λ value. T.base value ≡ T.base (opened_of self)) }
-        ensures seen { IfOk result (λ value. All (λ p. ThenOthers T.maker (number p) (seen p) (T.log value)) passes.items) }
-        ensures known { IfOk result (λ value. All (λ p. known p ≤ length (T.log value)) passes.items) }
+        ensures seen { IfOk result (λ value.
+            All (λ p. ThenOthers T.maker (number p) (seen p) (T.log value)) passes.items) }
+        ensures known { IfOk result (λ value.
+            All (λ p. known p ≤ length (T.log value)) passes.items) }
     {
         if passes.len() < self.made as usize {
             return Err(Missing {

@@ -12,7 +12,7 @@ use crate::view::View;
 use atomic_table::{Refused, Seat, Table};
 use std::alloc::Global;
 use std::snapshot::Snapshot;
-use sw_rules::NoMemory;
+use sw_data::NoMemory;
 
 impl<T: Logged> Shared<T> {
     // The lock with its first seat.
@@ -25,7 +25,8 @@ impl<T: Logged> Shared<T> {
         requires told { passes ≡ T.passes (T.base value) }
         ensures back { IfErr result (λ e. e.1 ≡ value) }
         ensures lock { IfOk result (λ r. (opened_of r.0 ≡ value) × (made_of r.0 ≡ passes)) }
-        ensures seat { IfOk result (λ r. (r.1.table_id ≡ r.0.table.shared.table_id) × IsFirst T.log value 1 r.1.me) }
+        ensures seat { IfOk result (λ r.
+            (r.1.table_id ≡ r.0.table.shared.table_id) × IsFirst T.log value 1 r.1.me) }
     {
         let start = Start {
             opened: Snapshot::of(&value),

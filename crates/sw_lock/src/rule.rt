@@ -26,7 +26,7 @@ pub struct Turns<T> {
 }
 
 impl<T: Logged> TableRule<Option<T>, View<T, T::Entry>, Start<T>> for Turns<T> {
-    ghost holds = { λ key. Kept T.base T.log T.maker T.passes key.opened.value key.made };
+    ghost holds = { λ key. Kept T.Logged key.opened.value key.made };
 
     ghost first = { λ key. newcomer T.log key.opened.value };
 }
@@ -70,7 +70,7 @@ pub struct See<T> {
 }
 
 impl<T: Logged> Play<Option<T>, View<T, T::Entry>> for See<T> {
-    ghost then = { saw T.base T.log T.maker T.passes };
+    ghost then = { saw T.Logged };
 }
 
 pub struct Count<T> {
@@ -78,5 +78,5 @@ pub struct Count<T> {
 }
 
 impl<T: Logged> Play<Option<T>, View<T, T::Entry>> for Count<T> {
-    ghost then = { counted T.base T.log T.maker T.passes };
+    ghost then = { counted T.Logged };
 }

@@ -3,6 +3,7 @@ ghost use Rattle.std.specs.Prelude.{◌≡◌, ◌++◌, ◌∷◌, ℕ, [], All
 ghost use Rattle.sw_lock.specs.Passes.{IsPassOf, made_of};
 
 use crate::{Logged, Missing, Pass, Shared};
+use std::hint::spin_loop;
 use std::sync::Wait;
 use std::test::Fail;
 use std::thread;
@@ -18,6 +19,8 @@ struct Mark {
 struct Marks<D> {
     list: Vec<Mark>,
     passes: u32,
+    // How often each step spins.
+    spins: u32,
     held: D,
 }
 
@@ -38,9 +41,14 @@ impl<D> Logged for Marks<D> {
 
     ghost maker = { λ mark. mark.pass };
 
-    ghost steps = { λ before given pass after answer. MatchBool answer (after.list.items ≡ before.list.items ++ record { pass = pass; turn = given } ∷ []) (after.list.items ≡ before.list.items) };
+    ghost steps = { λ before given pass after answer. MatchBool answer
+        (after.list.items ≡ before.list.items ++ record { pass = pass; turn = given } ∷ [])
+        (after.list.items ≡ before.list.items) };
 
     fn step(&mut self, given: u64, pass: u32) -> bool {
+        for _ in 0..self.spins {
+            spin_loop();
+        }
         if self.list.len() >= self.list.capacity() {
             return false;
         }
@@ -74,13 +82,15 @@ fn all_turns<D: Send, R: Threads + Wait + Sync>(
     thread::for_each_mut(rt, passes, 16, &|_, pass| make_turns(rt, lock, pass, turns));
 }
 
+// In the last case a step takes far longer than a pass looks before it sleeps: each waiting pass has to be woken.
 #[test]
 fn each_pass_has_its_turns_in_its_order(rt: HostRuntime) -> Result<(), Fail> {
-    for (passes, turns) in [(4u32, 1000u64), (16, 200)] {
+    for (passes, turns, spins) in [(4u32, 1000u64, 0), (16, 200, 0), (3, 40, 100_000)] {
         let mut next = vec![in rt.alloc(); 0u64; passes as usize]?;
         let marks = Marks {
             list: Vec::with_capacity(rt.alloc(), passes as usize * turns as usize)?,
             passes,
+            spins,
             held: (),
         };
         let Ok((lock, mut all)) = Shared::new(rt.alloc(), marks, passes) else {
@@ -121,6 +131,7 @@ fn a_look_after_an_entry_tells_of_it(rt: HostRuntime) -> Result<(), Fail> {
     let marks = Marks {
         list: Vec::with_capacity(rt.alloc(), 1)?,
         passes: 1,
+        spins: 0,
         held: (),
     };
     let Ok((lock, mut all)) = Shared::new(rt.alloc(), marks, 1) else {
@@ -138,6 +149,7 @@ fn a_lock_closes_with_all_its_passes_only(rt: HostRuntime) -> Result<(), Fail> {
     let marks = Marks {
         list: Vec::new(rt.alloc()),
         passes: 2,
+        spins: 0,
         held: (),
     };
     let Ok((lock, mut all)) = Shared::new(rt.alloc(), marks, 2) else {

@@ -36,7 +36,8 @@ const LOW: u64 = 0xffff_ffff;
 // One step on the value, and how many entries it made.
 fn advance<T: Logged>(slot: &mut Option<T>, given: T::Given, pass: u32) -> (T::Out, u64)
     requires { (x : T) × (slot.old ≡ Some x) × (pass < T.passes (T.base x)) }
-    ensures { (x : T) → slot.old ≡ Some x → (y : T) × (slot.new ≡ Some y) × Advanced T.base T.log T.maker T.steps x given pass y result.0 result.1 }
+    ensures { (x : T) → slot.old ≡ Some x
+        → (y : T) × (slot.new ≡ Some y) × Advanced T.Logged x given pass y result.0 result.1 }
 {
     let value = slot.as_mut().unwrap();
     let before = value.entries();
@@ -73,7 +74,7 @@ impl<T: Logged> Shared<T> {
         requires place { seat.old.me.0.place ≡ Away }
         requires alone { seat.old.me.0.passes ≡ 1 }
         ensures table { seat.new.table_id ≡ seat.old.table_id }
-        ensures found { (x : T) × Found T.base T.log T.maker T.passes seat.old.me x seat.new.me }
+        ensures found { (x : T) × Found T.Logged seat.old.me x seat.new.me }
     {
         let mut looks: u32 = 0;
         'wait: for _ in rt.forever() {
@@ -107,7 +108,7 @@ impl<T: Logged> Shared<T> {
         requires idle { IsIdle seat.old.me }
         requires room { seat.old.me.0.turns < 2 ^ 40 }
         ensures table { seat.new.table_id ≡ seat.old.table_id }
-        ensures took { Took T.base T.log T.maker T.steps (opened_of self.now) seat.old.me given result seat.new.me }
+        ensures took { Took T.Logged (opened_of self.now) seat.old.me given result seat.new.me }
     {
         let ticket = self.draw(seat);
         self.wait_for(rt, seat, ticket);

@@ -1,10 +1,61 @@
 //! The program `swhost`: the words are its arguments, the source is standard input, the sink is standard output.
 #![tactic(auto)]
 
+ghost use Rattle.std.specs.Prelude.{◌≡◌, ◌+◌, ◌≤◌, ◌∷◌, ℕ, List, [], Contains, true, false};
+ghost use Rattle.std.specs.Io.KnownBytes.{Appends, IsAtEnd, Keeps};
+ghost use Rattle.std.specs.Process.{exit_status};
+ghost use Rattle.sw_data.specs.Faults.{Rose};
+ghost use Rattle.sw_data.specs.Streams.{AppendsPrefix, ConsumesSome};
+ghost use Rattle.sw_record.specs.Limits.{recording_limit};
+ghost use Rattle.sw_host.specs.Stands.{IsBadLine, IsDone, IsNotYet, IsTooLarge, Stands, is_replay, refusal_text};
+ghost use Rattle.sw_host.specs.declared.statuses.Status.{Status};
+
+use std::alloc::Global;
 use std::env;
 use std::process::ExitCode;
 use sw_host::{Status, run};
-use sw_io::{StdSink, StdSource};
+use sw_io::{Sink, Source, StdSink, StdSource};
+
+// Does what the words say, as `run` does, and ends with the number of the status.
+fn ended<S: Source, K: Sink>(
+    alloc: Global,
+    words: &[String],
+    source: &mut S,
+    sink: &mut K,
+) -> ExitCode
+    ensures done { exit_status result ≡ 0 → (text : List ℕ)
+        × IsDone words.now (S.left source.old) text
+        × Appends (K.held sink.old) (K.held sink.new) text }
+    ensures bad_line { exit_status result ≡ 3 → (text : List ℕ)
+        × IsBadLine words.now (S.left source.old) text
+        × Appends (K.held sink.old) (K.held sink.new) text }
+    ensures too_large { exit_status result ≡ 10 → (text : List ℕ)
+        × IsTooLarge words.now (S.left source.old) text
+        × Appends (K.held sink.old) (K.held sink.new) text }
+    ensures not_yet { exit_status result ≡ 14 → IsNotYet words.now (S.left source.old)
+        × Appends (K.held sink.old) (K.held sink.new) (refusal_text Status.NotYet) }
+    ensures read_fault { exit_status result ≡ 4 → (is_replay words.now ≡ true)
+        × Rose (S.faults source.old) (S.faults source.new)
+        × Appends (K.held sink.old) (K.held sink.new) (refusal_text Status.ReadFault) }
+    ensures write_fault { exit_status result ≡ 5 → Rose (K.faults sink.old) (K.faults sink.new)
+        × ((status : Status) × (text : List ℕ)
+        × Stands words.now (S.left source.old) (S.faults source.old) (S.faults source.new)
+        status text
+        × AppendsPrefix (K.held sink.old) (K.held sink.new) text) }
+    ensures no_memory { exit_status result ≡ 1 → Keeps (K.held sink.old) (K.held sink.new) }
+
+    // The exit status is one of these.
+    ensures known { Contains (0 ∷ 1 ∷ 3 ∷ 4 ∷ 5 ∷ 10 ∷ 14 ∷ []) (exit_status result) }
+
+    // What it reads.
+    ensures untouched { is_replay words.now ≡ false → source.new ≡ source.old }
+    ensures reads { S.reads source.new ≤ S.reads source.old + (recording_limit + 2) }
+    ensures consumed { is_replay words.now ≡ true
+        → ConsumesSome (S.left source.old) (S.left source.new) }
+    ensures end { exit_status result ≡ 0 → IsAtEnd (S.left source.new) }
+{
+    ExitCode::from(run(alloc, words, source, sink).code())
+}
 
 fn main(rt: HostRuntime) -> ExitCode {
     let alloc = rt.alloc();
@@ -18,5 +69,5 @@ fn main(rt: HostRuntime) -> ExitCode {
     }
     let mut source = StdSource::new(rt.stdin());
     let mut sink = StdSink::new(rt.stdout());
-    ExitCode::from(run(alloc, &words, &mut source, &mut sink).code())
+    ended(alloc, &words, &mut source, &mut sink)
 }

@@ -1,21 +1,21 @@
 //! The texts of answers and of notices.
 
 ghost use Rattle.std.specs.Prelude.{◌≡◌, IfOk, string_bytes};
-ghost use Rattle.sw_rules.specs.Transcript.{answer_text, switch_word, worker_state_word, notice_text};
+ghost use Rattle.sw_print.specs.Transcript.{answer_text, switch_word, worker_state_word, notice_text};
 
 use crate::faults::{fault_text, settlement_text, truth_word};
 use crate::lists::{listed_names, listed_numbers, quoted};
 use std::alloc::{AllocError, Global};
-use sw_rules::{Answer, Notice, Settlement, Text, WorkerState};
+use sw_data::{Answer, Notice, Settlement, Text, WorkerState};
 
 /// The word for a switch.
-fn switch_word(on: bool) -> &'static str
+pub fn switch_word(on: bool) -> &'static str
     ensures { result.now ≡ switch_word on }
 {
     if on { "on" } else { "off" }
 }
 
-/// A first match: its cache, its place, its status and the length of its body.
+// A first match: its cache, its place, its status and the length of its body.
 fn hit_text(
     alloc: Global,
     name: &Text,
@@ -23,13 +23,14 @@ fn hit_text(
     status: u16,
     length: u64,
 ) -> Result<String, AllocError>
-    ensures { IfOk result (λ text. string_bytes text ≡ answer_text (Answer.Hit name.now place status length)) }
+    ensures { IfOk result (λ text. string_bytes text
+        ≡ answer_text (Answer.Hit name.now place status length)) }
 {
     let name = quoted(alloc, name)?;
     format!(in alloc; "hit {name} {place} {status} {length}")
 }
 
-/// A registration's navigation preload: its switch and its value.
+// A registration's navigation preload: its switch and its value.
 fn preload_text(alloc: Global, on: bool, value: &Text) -> Result<String, AllocError>
     ensures { IfOk result (λ text. string_bytes text ≡ answer_text (Answer.Preload on value.now)) }
 {
@@ -38,9 +39,10 @@ fn preload_text(alloc: Global, on: bool, value: &Text) -> Result<String, AllocEr
     format!(in alloc; "{word} {value}")
 }
 
-/// How many registrations and caches there are after a restart.
+// How many registrations and caches there are after a restart.
 fn restarted_text(alloc: Global, registrations: u32, caches: u32) -> Result<String, AllocError>
-    ensures { IfOk result (λ text. string_bytes text ≡ answer_text (Answer.Restarted registrations caches)) }
+    ensures { IfOk result (λ text. string_bytes text
+        ≡ answer_text (Answer.Restarted registrations caches)) }
 {
     format!(in alloc; "{registrations} registrations {caches} caches")
 }
@@ -93,7 +95,7 @@ pub fn answer_text(alloc: Global, answer: &Answer) -> Result<String, AllocError>
     }
 }
 
-/// The word for a worker's state.
+// The word for a worker's state.
 fn worker_state_word(state: WorkerState) -> &'static str
     ensures { result.now ≡ worker_state_word state }
 {
@@ -107,7 +109,7 @@ fn worker_state_word(state: WorkerState) -> &'static str
     }
 }
 
-/// A change of a worker's state.
+// A change of a worker's state.
 fn worker_text(alloc: Global, worker: u32, state: WorkerState) -> Result<String, AllocError>
     ensures { IfOk result (λ text. string_bytes text ≡ notice_text (Notice.Worker worker state)) }
 {
@@ -115,7 +117,7 @@ fn worker_text(alloc: Global, worker: u32, state: WorkerState) -> Result<String,
     format!(in alloc; "w{worker} {word}")
 }
 
-/// The end of a job's promise.
+// The end of a job's promise.
 fn settled_text(alloc: Global, job: u32, value: Settlement) -> Result<String, AllocError>
     ensures { IfOk result (λ text. string_bytes text ≡ notice_text (Notice.Settled job value)) }
 {

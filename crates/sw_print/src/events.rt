@@ -1,13 +1,13 @@
 //! The texts of makers and of events.
 
 ghost use Rattle.std.specs.Prelude.{◌≡◌, IfOk, string_bytes};
-ghost use Rattle.sw_rules.specs.Events.{who_of};
-ghost use Rattle.sw_rules.specs.Transcript.{phase_word, who_text, call_word, event_text, mark};
+ghost use Rattle.sw_data.specs.Events.{who_of};
+ghost use Rattle.sw_print.specs.Transcript.{phase_word, who_text, call_word, event_text, mark};
 
 use std::alloc::{AllocError, Global};
-use sw_rules::{Call, Event, Phase, Who};
+use sw_data::{Call, Event, Phase, Who};
 
-/// The word for a worker's handler.
+// The word for a worker's handler.
 fn phase_word(phase: Phase) -> &'static str
     ensures { result.now ≡ phase_word phase }
 {
@@ -17,7 +17,7 @@ fn phase_word(phase: Phase) -> &'static str
     }
 }
 
-/// A handler's call as the maker of an event.
+// A handler's call as the maker of an event.
 fn handler_text(alloc: Global, worker: u32, phase: Phase, call: u32) -> Result<String, AllocError>
     ensures { IfOk result (λ text. string_bytes text ≡ who_text (Who.Handler worker phase call)) }
 {
@@ -25,7 +25,7 @@ fn handler_text(alloc: Global, worker: u32, phase: Phase, call: u32) -> Result<S
     format!(in alloc; "w{worker}.{word}.{call}")
 }
 
-/// The maker of an event.
+// The maker of an event.
 fn who_text(alloc: Global, who: Who) -> Result<String, AllocError>
     ensures { IfOk result (λ text. string_bytes text ≡ who_text who) }
 {
@@ -40,7 +40,7 @@ fn who_text(alloc: Global, who: Who) -> Result<String, AllocError>
     }
 }
 
-/// The word for a handler's call.
+// The word for a handler's call.
 fn call_word(call: &Call) -> &'static str
     ensures { result.now ≡ call_word call.now }
 {
@@ -57,7 +57,7 @@ fn call_word(call: &Call) -> &'static str
     }
 }
 
-/// The name of an event, and the number of what a host's event is about.
+// The name of an event, and the number of what a host's event is about.
 fn event_text(alloc: Global, event: &Event) -> Result<String, AllocError>
     ensures { IfOk result (λ text. string_bytes text ≡ event_text event.now) }
 {
@@ -106,58 +106,11 @@ fn event_text(alloc: Global, event: &Event) -> Result<String, AllocError>
     }
 }
 
-/// The maker of an event.
-fn who_of(event: &Event) -> Who
-    ensures { result ≡ who_of event.now }
-{
-    match event {
-        Event::Open { who, .. } => *who,
-        Event::Close { who, .. } => *who,
-        Event::Register { who, .. } => *who,
-        Event::Update { who, .. } => *who,
-        Event::SoftUpdate { who, .. } => *who,
-        Event::Unregister { who, .. } => *who,
-        Event::Await { who, .. } => *who,
-        Event::Ready { who, .. } => *who,
-        Event::Registration { who, .. } => *who,
-        Event::Registrations { who, .. } => *who,
-        Event::SkipWaiting { who, .. } => *who,
-        Event::Claim { who, .. } => *who,
-        Event::Begin { who, .. } => *who,
-        Event::End { who, .. } => *who,
-        Event::CacheOpen { who, .. } => *who,
-        Event::CacheHas { who, .. } => *who,
-        Event::CacheDelete { who, .. } => *who,
-        Event::CacheKeys { who, .. } => *who,
-        Event::Forget { who, .. } => *who,
-        Event::Match { who, .. } => *who,
-        Event::MatchAll { who, .. } => *who,
-        Event::Keys { who, .. } => *who,
-        Event::Put { who, .. } => *who,
-        Event::Delete { who, .. } => *who,
-        Event::Batch { who, .. } => *who,
-        Event::AddAll { who, .. } => *who,
-        Event::PreloadEnable { who, .. } => *who,
-        Event::PreloadDisable { who, .. } => *who,
-        Event::PreloadValue { who, .. } => *who,
-        Event::PreloadState { who, .. } => *who,
-        Event::Call { who, .. } => *who,
-        Event::Run { who, .. } => *who,
-        Event::Fetched { who, .. } => *who,
-        Event::Evaluated { who, .. } => *who,
-        Event::Installed { who, .. } => *who,
-        Event::TryActivate { who, .. } => *who,
-        Event::Activated { who, .. } => *who,
-        Event::Added { who, .. } => *who,
-        Event::Restarted { who } => *who,
-    }
-}
-
 /// The mark of an event: its maker and its name.
 pub fn mark(alloc: Global, event: &Event) -> Result<String, AllocError>
     ensures { IfOk result (λ text. string_bytes text ≡ mark event.now) }
 {
-    let who = who_text(alloc, who_of(event))?;
+    let who = who_text(alloc, event.who())?;
     let name = event_text(alloc, event)?;
     format!(in alloc; "{who} {name}")
 }

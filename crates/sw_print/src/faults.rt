@@ -1,10 +1,10 @@
 //! The texts of faults and of the values of promises.
 
 ghost use Rattle.std.specs.Prelude.{◌≡◌, IfOk, string_bytes};
-ghost use Rattle.sw_rules.specs.Transcript.{cause_word, security_word, state_word, index_text, fault_text, truth_word, settlement_text};
+ghost use Rattle.sw_print.specs.Transcript.{cause_word, security_word, state_word, index_text, fault_text, truth_word, settlement_text};
 
 use std::alloc::{AllocError, Global};
-use sw_rules::{Cause, Fault, SecurityCause, Settlement, StateCause};
+use sw_data::{Cause, Fault, SecurityCause, Settlement, StateCause};
 
 /// The word for the cause of a TypeError.
 pub fn cause_word(cause: Cause) -> &'static str
@@ -57,7 +57,7 @@ pub fn truth_word(truth: bool) -> &'static str
     if truth { "true" } else { "false" }
 }
 
-/// A TypeError, with its index behind a space where it has one.
+// A TypeError, with its index behind a space where it has one.
 fn type_error_text(alloc: Global, cause: Cause, index: Option<u32>) -> Result<String, AllocError>
     ensures { IfOk result (λ text. string_bytes text ≡ fault_text (Fault.TypeError cause index)) }
 {
@@ -68,7 +68,7 @@ fn type_error_text(alloc: Global, cause: Cause, index: Option<u32>) -> Result<St
     }
 }
 
-/// A SecurityError.
+// A SecurityError.
 fn security_error_text(alloc: Global, cause: SecurityCause) -> Result<String, AllocError>
     ensures { IfOk result (λ text. string_bytes text ≡ fault_text (Fault.SecurityError cause)) }
 {
@@ -76,7 +76,7 @@ fn security_error_text(alloc: Global, cause: SecurityCause) -> Result<String, Al
     format!(in alloc; "SecurityError {word}")
 }
 
-/// An InvalidStateError with a cause.
+// An InvalidStateError with a cause.
 fn state_error_text(alloc: Global, cause: StateCause) -> Result<String, AllocError>
     ensures { IfOk result (λ text. string_bytes text ≡ fault_text (Fault.InvalidState cause)) }
 {

@@ -1,14 +1,14 @@
 //! The lines of a transcript.
 
 ghost use Rattle.std.specs.Prelude.{◌≡◌, IfOk, string_bytes, flat_map};
-ghost use Rattle.sw_rules.specs.Transcript.{barred, rest_of_line, line_of_entry, further, refused_marks, end_line};
+ghost use Rattle.sw_print.specs.Transcript.{barred, rest_of_line, line_of_entry, further, refused_marks, end_line};
 
 use crate::answers::{answer_text, notice_text};
 use crate::events::mark;
 use std::alloc::{AllocError, Global};
-use sw_rules::{End, Entry, Event, Notice};
+use sw_data::{End, Entry, Event, Notice};
 
-/// The notices of an entry in order, each behind its bar.
+// The notices of an entry in order, each behind its bar.
 fn barred_notices(alloc: Global, notices: &[Notice]) -> Result<String, AllocError>
     ensures { IfOk result (λ text. string_bytes text ≡ flat_map barred notices.now) }
 {
@@ -21,7 +21,7 @@ fn barred_notices(alloc: Global, notices: &[Notice]) -> Result<String, AllocErro
     Ok(told)
 }
 
-/// What a line has behind its arrow: the answer, the notices and the line feed.
+// What a line has behind its arrow: the answer, the notices and the line feed.
 fn rest_of_line(alloc: Global, entry: &Entry) -> Result<String, AllocError>
     ensures { IfOk result (λ text. string_bytes text ≡ rest_of_line entry.now) }
 {
@@ -39,7 +39,7 @@ pub fn line_of_entry(alloc: Global, entry: &Entry) -> Result<String, AllocError>
     format!(in alloc; "{mark} -> {rest}")
 }
 
-/// The marks of refused events, each behind a comma and a space.
+// The marks of refused events, each behind a comma and a space.
 fn further_marks(alloc: Global, events: &[Event]) -> Result<String, AllocError>
     ensures { IfOk result (λ text. string_bytes text ≡ flat_map further events.now) }
 {
@@ -52,7 +52,7 @@ fn further_marks(alloc: Global, events: &[Event]) -> Result<String, AllocError>
     Ok(marks)
 }
 
-/// The marks of the refused events, behind a space where there is one.
+// The marks of the refused events, behind a space where there is one.
 fn refused_marks(alloc: Global, events: &[Event]) -> Result<String, AllocError>
     ensures { IfOk result (λ text. string_bytes text ≡ refused_marks events.now) }
 {
@@ -66,7 +66,7 @@ fn refused_marks(alloc: Global, events: &[Event]) -> Result<String, AllocError>
     }
 }
 
-/// The last line where a fault of the disk refused events.
+// The last line where a fault of the disk refused events.
 fn disk_line(alloc: Global, events: &[Event]) -> Result<String, AllocError>
     ensures { IfOk result (λ text. string_bytes text ≡ end_line (End.Disk events.now)) }
 {
@@ -74,7 +74,7 @@ fn disk_line(alloc: Global, events: &[Event]) -> Result<String, AllocError>
     format!(in alloc; "end disk{marks}\n")
 }
 
-/// The last line where the journal had no room for an event.
+// The last line where the journal had no room for an event.
 fn full_line(alloc: Global, event: &Event) -> Result<String, AllocError>
     ensures { IfOk result (λ text. string_bytes text ≡ end_line (End.Full event.now)) }
 {

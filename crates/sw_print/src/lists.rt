@@ -2,13 +2,13 @@
 
 ghost use Rattle.std.specs.Prelude.{◌≡◌, IfOk, string_bytes};
 ghost use Rattle.json.specs.Print.{quoted};
-ghost use Rattle.sw_rules.specs.Transcript.{listed, numbered};
+ghost use Rattle.sw_print.specs.Transcript.{listed, numbered};
 
 use serde_json::Value;
 use std::alloc::{AllocError, Global};
-use sw_rules::Text;
+use sw_data::Text;
 
-/// How many members of a list are printed.
+// How many members of a list are printed.
 const PRINTED: usize = 16;
 
 /// A name as a JSON string.

@@ -1,3 +1,4 @@
-pub mod BuiltForms
+pub mod LineLemmas
+pub mod OnLiterals
 pub mod OnlyListed
-pub mod ReadLines
+pub mod PartLemmas

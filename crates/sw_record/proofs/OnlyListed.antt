@@ -8,7 +8,7 @@ use Rattle.serde_json.specs.Data.{Data, Members}
 use Rattle.serde_json.specs.Find.{as_object}
 use Rattle.serde_json.specs.View.{members_view}
 use Rattle.serde_json.specs.declared.value.Value.{Value}
-use Rattle.sw_rules.specs.Grammar.{only, has_only}
+use Rattle.sw_record.specs.Members.{only, has_only}
 
 one_of_map : (name : List ℕ) (names : List (Bor (List ℕ))) →
     list_any (λ other. bytes_eq name other.now) names ≡ list_any (bytes_eq name) (map (λ other. other.now) names)

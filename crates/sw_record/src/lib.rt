@@ -1,16 +1,26 @@
-//! Reads a recording: one JSON object on each line, in the forms that are read so far.
+//! Reads a recording: one JSON object on each line, which is an answer of the network or an action of a lane.
 //!
-//! What is read is exactly what the grammar of `sw_rules` gives, over JSON values as `serde_json` reads them.
+//! What is read is exactly what the grammar gives, over JSON values as `serde_json` reads them.
 #![tactic(auto)]
 
-mod address;
-mod forms;
+mod actions;
+mod caches;
+mod calls;
+mod clients;
+mod error;
+mod exchanges;
+mod fetches;
+mod flaw;
+mod lanes;
 mod limits;
-mod lines;
+mod lists;
 mod members;
+mod reading;
 mod recording;
+mod word;
 
-pub use recording::{RecordingError, read_recording};
+pub use error::{Limit, LineCause, RecordingError};
+pub use recording::read_recording;
 
 #[cfg(test)]
 mod tests;

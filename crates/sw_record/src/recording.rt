@@ -1,56 +1,52 @@
 //! Reading a recording whole.
 
-ghost use Rattle.std.specs.Prelude.{◌≡◌, Err, None, Some, IfOk};
-ghost use Rattle.sw_rules.specs.Grammar.{recording_of, IsBuiltRecording};
-ghost use Rattle.sw_record.specs.declared.recording.RecordingError.TheVariants as failure;
+ghost use Rattle.std.specs.Prelude.{◌≡◌, map, IfOk};
+ghost use Rattle.sw_record.specs.Grammar as grammar;
+ghost use Rattle.sw_record.specs.Grammar.{recording_of, Reads};
 
-use crate::limits::ACTIONS_LIMIT;
-use crate::lines::{actions_of, first_lines};
+use crate::error::RecordingError;
+use crate::flaw::error_at;
+use crate::reading::{nothing_read, with_line};
 use std::alloc::{AllocError, Global};
-use sw_rules::{Items, NoMemory, Recording};
+use sw_data::Recording;
 
-/// Why a recording wasn't read.
-#[derive(Debug, Clone, Copy, PartialEq, Eq)]
-pub enum RecordingError {
-    /// There was no memory.
-    NoMemory,
-    /// A line isn't of a form that is read so far, or there are more than 65,536 actions.
-    NotYet,
-}
-
-impl From<NoMemory> for RecordingError {
-    ghost from_gives = { λ _ error. error ≡ failure.NoMemory };
-
-    fn from(_: NoMemory) -> RecordingError {
-        RecordingError::NoMemory
-    }
-}
-
-impl From<AllocError> for RecordingError {
-    ghost from_gives = { λ _ error. error ≡ failure.NoMemory };
-
-    fn from(_: AllocError) -> RecordingError {
-        RecordingError::NoMemory
-    }
-}
-
-/// The recording that a source's bytes are, in lines of JSON.
-pub fn read_recording(alloc: Global, bytes: &[u8]) -> Result<Recording, RecordingError>
-    ensures ok { IfOk result (λ recording. recording_of bytes.now ≡ Some recording) }
-    ensures built { IfOk result IsBuiltRecording }
-    ensures not_yet { result ≡ Err failure.NotYet → recording_of bytes.now ≡ None }
+// The lines of a source, those between line feeds.
+fn lines_of(alloc: Global, bytes: &[u8]) -> Result<Vec<&[u8]>, AllocError>
+    ensures { IfOk result (λ lines. map (λ line. line.now) lines.items
+        ≡ grammar.lines_of bytes.now) }
 {
-    let lines = first_lines(alloc, bytes)?;
-    if lines.len() > ACTIONS_LIMIT {
-        return Err(RecordingError::NotYet);
+    bytes.split(|byte| *byte == b'\n').collect(alloc)
+}
+
+// What the lines come to, or the refusal of the first bad one.
+fn with_lines(alloc: Global, lines: &[&[u8]]) -> Result<Recording, RecordingError>
+    ensures { Reads result
+        (grammar.with_lines grammar.nothing_read 1 (map (λ line. line.now) lines.now)) }
+{
+    let mut so_far = nothing_read(alloc);
+    let mut number: u32 = 0;
+    for line in lines {
+        let Some(next) = number.checked_add(1) else {
+            return Err(RecordingError::NoMemory);
+        };
+        number = next;
+        match with_line(alloc, so_far, *line)? {
+            Ok(reading) => so_far = reading,
+            Err(why) => return Err(error_at(number, why)),
+        }
     }
-    let Some(actions) = actions_of(alloc, &lines)? else {
-        return Err(RecordingError::NotYet);
-    };
-    let mut lanes = Items::new(alloc);
-    lanes.push(actions)?;
-    Ok(Recording {
-        fetches: Items::new(alloc),
-        lanes,
-    })
+    Ok(so_far.recording)
+}
+
+/// The recording that a source's bytes are: one JSON object on each line, blank lines being
+/// skipped but counted.
+///
+/// `BadLine` and `TooLarge` tell the first bad line, counted from 1, and of its flaws the one that
+/// is tested first.
+#[tactic(auto, unfolding(crate::specs::Grammar::recording_of))]
+pub fn read_recording(alloc: Global, bytes: &[u8]) -> Result<Recording, RecordingError>
+    ensures { Reads result (recording_of bytes.now) }
+{
+    let lines = lines_of(alloc, bytes)?;
+    with_lines(alloc, &lines)
 }

@@ -2,11 +2,11 @@
 use Rattle.std.proofs.Common.{◌≡◌, ◌∙◌, ℕ, zero, suc, slice_get, Some, List, [], ◌∷◌, ◌++◌, refl, sym, ap, subst, arith, append_assoc}
 use Rattle.std.proofs.lemmas.List.{append-nil}
 use Rattle.std.proofs.lemmas.List.Sums.{fold-append}
-use Rattle.sw_rules.specs.declared.histories.Entry.{Entry}
-use Rattle.sw_rules.specs.declared.storage.Kept.{Kept}
+use Rattle.sw_data.specs.declared.histories.Entry.{Entry}
+use Rattle.sw_data.specs.declared.storage.Kept.{Kept}
 use Rattle.sw_rules.specs.History.{Stamped, StampedFrom, EachFrom, EachLater, IsStep, Legal, Opens, after, after_entries, moved}
 use Rattle.sw_rules.specs.State.{State}
-use Rattle.sw_rules.specs.Storage.{restart}
+use Rattle.sw_rules.specs.Restart.{restart}
 
 pub after_entries-snoc : (state : State) (entries : List Entry) (entry : Entry) → after_entries state (entries ++ entry ∷ []) ≡ moved (after_entries state entries) entry
 after_entries-snoc state entries entry = fold-append moved state entries (entry ∷ [])

@@ -1,15 +1,16 @@
 -- A batch of operations on one cache.
-use Rattle.std.specs.Prelude.{ℕ, ◌+◌, Bool, false, not, ◌||◌, ◌==◌, nat_le, List, [], ◌∷◌, ◌++◌, filter, length, sum_by, codes, bytes_eq, Option, Some, None, Result, Ok, Err, if◌then◌else◌}
+use Rattle.std.specs.Prelude.{ℕ, ◌+◌, Bool, not, ◌||◌, ◌==◌, nat_le, List, [], ◌∷◌, ◌++◌, filter, length, sum_by, codes, bytes_eq, Option, Some, None, Result, Ok, Err, if◌then◌else◌}
 use Rattle.std.specs.List.{list_any}
-use Rattle.sw_rules.specs.declared.exchange.Header.{Header}
-use Rattle.sw_rules.specs.declared.exchange.Options.{Options}
-use Rattle.sw_rules.specs.declared.exchange.Request.{Request}
-use Rattle.sw_rules.specs.declared.exchange.Response.{Response}
-use Rattle.sw_rules.specs.declared.exchange.Op.{Op}
-use Rattle.sw_rules.specs.declared.exchange.Op.TheVariants as op
-use Rattle.sw_rules.specs.declared.answers.Cause.{Cause}
-use Rattle.sw_rules.specs.declared.answers.Cause.TheVariants as cause
-use Rattle.sw_rules.specs.Addresses.{scheme_of}
+use Rattle.sw_data.specs.declared.exchange.Header.{Header}
+use Rattle.sw_data.specs.declared.exchange.Options.{Options}
+use Rattle.sw_data.specs.declared.exchange.Request.{Request}
+use Rattle.sw_data.specs.declared.exchange.Response.{Response}
+use Rattle.sw_data.specs.declared.exchange.Op.{Op}
+use Rattle.sw_data.specs.declared.exchange.Op.TheVariants as op
+use Rattle.sw_data.specs.declared.answers.Cause.{Cause}
+use Rattle.sw_data.specs.declared.answers.Cause.TheVariants as cause
+use Rattle.sw_data.specs.Addresses.{scheme_of}
+use Rattle.sw_data.specs.Exchange.{no_options}
 use Rattle.sw_rules.specs.Matching.{Pair, is_get, varies_on_all, finds_nothing, matches_pair}
 
 -- what a batch throws, with the place of the operation, or with the size of all operations
@@ -17,10 +18,6 @@ pub data BatchFault : Type 0 where
   TypeError : ℕ → Cause → BatchFault
   InvalidState : ℕ → BatchFault
   Quota : ℕ → BatchFault
-
--- no option is set
-abbrev pub no_options : Options
-no_options = record { ignore_search = false; ignore_method = false; ignore_vary = false }
 
 -- the scheme of a serialized address is http or https (Fetch, "HTTP(S) scheme")
 abbrev pub has_http_scheme : Request → Bool

@@ -1,40 +1,29 @@
 -- Histories: when one is legal, which state it leaves, when it was acknowledged, and who controls each client.
-use Rattle.std.specs.Prelude.{◌≡◌, ℕ, ◌+◌, ◌*◌, ◌≤◌, min, Bool, true, false, ◌&&◌, ◌==◌, List, [], ◌∷◌, ◌++◌, length, filter, find, fold, take, bytes_eq, is_some, Option, Some, None, option_map, option_and_then, slice_get, All, if◌then◌else◌}
+use Rattle.std.specs.Prelude.{◌≡◌, ℕ, ◌+◌, ◌*◌, ◌≤◌, min, Bool, false, ◌&&◌, ◌==◌, List, [], ◌∷◌, ◌++◌, length, filter, fold, take, is_some, Option, Some, None, option_map, option_and_then, slice_get, All, if◌then◌else◌}
 use Rattle.std.specs.List.{list_any}
-use Rattle.sw_rules.specs.declared.answers.Answer.{Answer}
-use Rattle.sw_rules.specs.declared.answers.Answer.TheVariants as answer
-use Rattle.sw_rules.specs.declared.answers.Notice.{Notice}
-use Rattle.sw_rules.specs.declared.answers.Notice.TheVariants as notice
-use Rattle.sw_rules.specs.declared.events.Event.{Event}
-use Rattle.sw_rules.specs.declared.events.Event.TheVariants as event
-use Rattle.sw_rules.specs.declared.events.Who.TheVariants as who
-use Rattle.sw_rules.specs.declared.histories.Entry.{Entry}
-use Rattle.sw_rules.specs.declared.recordings.Call.TheVariants as call
-use Rattle.sw_rules.specs.declared.recordings.ClientScope.{ClientScope}
-use Rattle.sw_rules.specs.declared.rows.ClientRow.{ClientRow}
-use Rattle.sw_rules.specs.declared.storage.Kept.{Kept}
-use Rattle.sw_rules.specs.declared.workers.Slot.{Slot}
-use Rattle.sw_rules.specs.declared.workers.Slot.TheVariants as slot
-use Rattle.sw_rules.specs.declared.workers.WorkerState.{WorkerState}
-use Rattle.sw_rules.specs.declared.workers.WorkerState.TheVariants as worker_state
-use Rattle.sw_rules.specs.Addresses.{resolved, without_fragment}
-use Rattle.sw_rules.specs.Changes.{changes_of}
-use Rattle.sw_rules.specs.Events.{who_of}
-use Rattle.sw_rules.specs.State.{State, Registration, Worker}
-use Rattle.sw_rules.specs.Step.{Outcome, Step, step}
-use Rattle.sw_rules.specs.Storage.{IsMade, restart}
-use Rattle.sw_rules.specs.Tasks.{worker_row}
+use Rattle.sw_data.specs.declared.answers.Answer.{Answer}
+use Rattle.sw_data.specs.declared.answers.Answer.TheVariants as answer
+use Rattle.sw_data.specs.declared.answers.Notice.{Notice}
+use Rattle.sw_data.specs.declared.answers.Notice.TheVariants as notice
+use Rattle.sw_data.specs.declared.events.Event.{Event}
+use Rattle.sw_data.specs.declared.events.Event.TheVariants as event
+use Rattle.sw_data.specs.declared.events.Who.TheVariants as who
+use Rattle.sw_data.specs.declared.histories.Entry.{Entry}
+use Rattle.sw_data.specs.declared.recordings.Call.TheVariants as call
+use Rattle.sw_data.specs.declared.rows.ClientRow.{ClientRow}
+use Rattle.sw_data.specs.declared.storage.Kept.{Kept}
+use Rattle.sw_data.specs.Events.{who_of}
+use Rattle.sw_rules.specs.State.{State, Worker}
+use Rattle.sw_rules.specs.Rows.{active_worker, named_registration, registration_of, slot_worker, worker_row}
+use Rattle.sw_rules.specs.Step.{Step, changes_of, state_after}
+use Rattle.sw_rules.specs.Restart.{restart}
+use Rattle.sw_rules.specs.Storage.{IsMade}
 
 -- ---- states along a history
 
--- the state after an event that came to this; one that isn't enabled leaves it
-abbrev pub state_after : State → Option Outcome → State
-state_after state None = state
-state_after state (Some outcome) = outcome.new
-
 -- the state after an entry (own)
 abbrev pub moved : State → Entry → State
-moved state entry = state_after state (step state entry.event)
+moved state entry = state_after state entry.event
 
 -- the state after these entries
 abbrev pub after_entries : State → List Entry → State
@@ -114,51 +103,12 @@ Stamped base low high entries = StampedFrom low high entries × IsPaced base ent
 
 -- ---- controllers
 
-abbrev pub is_active : WorkerState → Bool
-is_active worker_state.Activating = true
-is_active worker_state.Activated = true
-is_active _ = false
-
-abbrev pub in_slot : Slot → WorkerState → Bool
-in_slot slot.Installing worker_state.Installing = true
-in_slot slot.Waiting worker_state.Installed = true
-in_slot slot.Active state = is_active state
-in_slot _ _ = false
-
--- the worker of a registration in a slot (Service Workers, "installing worker", "waiting worker", "active worker")
-abbrev pub slot_worker : State → Slot → ℕ → Option Worker
-slot_worker state place registration =
-    find (λ row. (row.registration == registration) && in_slot place row.state) state.workers
-
--- the number of the active worker of a registration
-abbrev pub active_worker : State → ℕ → Option ℕ
-active_worker state registration = option_map (λ row. row.number) (slot_worker state slot.Active registration)
-
-abbrev pub client_row : State → ℕ → Option ClientRow
-client_row state client = find (λ row. row.number == client) state.clients
-
--- the mapped registration of a key and a scope (Service Workers, "scope to registration map")
-abbrev pub mapped_registration : State → List ℕ → List ℕ → Option Registration
-mapped_registration state key scope =
-    find (λ row. row.mapped && bytes_eq row.key key && bytes_eq row.scope scope) state.registrations
-
--- the mapped registration that a client names by a scope
-abbrev pub named_registration : State → ClientScope → Option Registration
-named_registration state of =
-    option_and_then (λ client.
-    option_and_then (λ scope. mapped_registration state client.key (without_fragment scope)) (resolved of.scope client.url))
-    (client_row state of.client)
-
 -- the worker that claims in an event: that of the named slot, or that of the handler
 abbrev pub claiming_worker : State → Event → Option Worker
 claiming_worker state (event.Claim who of place) =
     option_and_then (λ row. slot_worker state place row.number) (named_registration state of)
 claiming_worker state (event.Call (who.Handler worker phase number) call.Claim) = worker_row state worker
 claiming_worker state _ = None
-
--- the registration of a worker
-abbrev pub registration_of : State → ℕ → Option ℕ
-registration_of state worker = option_map (λ row. row.registration) (worker_row state worker)
 
 abbrev pub tells_change : ℕ → Notice → Bool
 tells_change client (notice.ControllerChange other) = other == client

@@ -2,12 +2,12 @@
 use Rattle.std.specs.Prelude.{ℕ, Bool, true, false, not, ◌&&◌, ◌||◌, nat_eq, nat_lt, List, [], codes, map, filter, fold, length, bytes_eq, Option, Some, None, find, if◌then◌else◌}
 use Rattle.std.specs.List.{list_any, list_all, enumerate_from, starts_with}
 use Rattle.std.specs.Option.{option_map_or}
-use Rattle.sw_rules.specs.declared.exchange.Header.{Header}
-use Rattle.sw_rules.specs.declared.exchange.Options.{Options}
-use Rattle.sw_rules.specs.declared.exchange.Request.{Request}
-use Rattle.sw_rules.specs.declared.exchange.Response.{Response}
-use Rattle.sw_rules.specs.Addresses.{without_fragment, without_query}
-use Rattle.sw_rules.specs.Headers.{combined, vary_members}
+use Rattle.sw_data.specs.declared.exchange.Header.{Header}
+use Rattle.sw_data.specs.declared.exchange.Options.{Options}
+use Rattle.sw_data.specs.declared.exchange.Request.{Request}
+use Rattle.sw_data.specs.declared.exchange.Response.{Response}
+use Rattle.sw_data.specs.Addresses.{without_fragment, without_query}
+use Rattle.sw_data.specs.Headers.{combined, vary_members}
 
 -- ---- scopes
 

@@ -1,18 +1,19 @@
 -- How a history follows a recording, when it is complete or stalled, and what the pick order has next.
-use Rattle.std.specs.Prelude.{◌≡◌, ℕ, ◌<◌, Bool, false, ◌==◌, List, [], length, filter, find, filter_map, count_by, is_none, Option, Some, None, option_map, option_and_then, slice_get}
+use Rattle.std.specs.Prelude.{◌≡◌, ℕ, ◌<◌, Bool, true, false, ◌==◌, List, [], length, filter, find, filter_map, count_by, is_none, is_some, Option, Some, None, option_map, option_and_then, slice_get}
 use Rattle.std.specs.List.{range_with_len}
-use Rattle.sw_rules.specs.declared.events.Event.{Event}
-use Rattle.sw_rules.specs.declared.events.Event.TheVariants as event
-use Rattle.sw_rules.specs.declared.events.Who.{Who}
-use Rattle.sw_rules.specs.declared.events.Who.TheVariants as who
-use Rattle.sw_rules.specs.declared.histories.Entry.{Entry}
-use Rattle.sw_rules.specs.declared.recordings.Recording.{Recording}
-use Rattle.sw_rules.specs.declared.storage.Kept.{Kept}
+use Rattle.sw_data.specs.declared.events.Event.{Event}
+use Rattle.sw_data.specs.declared.events.Event.TheVariants as event
+use Rattle.sw_data.specs.declared.events.Who.{Who}
+use Rattle.sw_data.specs.declared.events.Who.TheVariants as who
+use Rattle.sw_data.specs.declared.histories.Entry.{Entry}
+use Rattle.sw_data.specs.declared.recordings.Recording.{Recording}
+use Rattle.sw_data.specs.declared.storage.Kept.{Kept}
 use Rattle.sw_rules.specs.History.{EachLater}
 use Rattle.sw_rules.specs.Recordings.{recorded_event}
 use Rattle.sw_rules.specs.State.{State}
 use Rattle.sw_rules.specs.Step.{enabled}
-use Rattle.sw_rules.specs.Tasks.{add_all_lines, add_all_row, event_of, is_unfinished, job_line, job_row, ready_tasks}
+use Rattle.sw_rules.specs.Rows.{is_unfinished, job_row, task_row}
+use Rattle.sw_rules.specs.Tasks.{add_all_lines, event_of, job_line, ready_tasks}
 
 -- ---- lanes
 
@@ -41,17 +42,27 @@ abbrev pub HasLines : Recording → State → Event → Type 0
 HasLines recording state (event.Fetched who job line) =
     line ≡ option_and_then (job_line recording) (job_row state job)
 HasLines recording state (event.Added who number lines) =
-    Some lines ≡ option_map (add_all_lines recording) (add_all_row state number)
+    Some lines ≡ option_map (add_all_lines recording) (task_row state number)
 HasLines recording state _ = Unit {0}
 
--- an entry follows the recording, after the entries before it
+-- own: an entry is the next action of its lane, and carries the recorded lines
 pub record IsRecorded (recording : Recording) (before : List Entry) (state : State) (entry : Entry) : Type 0 where
   pub action : IsNextOfLane recording before entry entry.who
   pub lines : HasLines recording state entry.event
 
--- a history has each lane's actions in order, each once, and the recorded lines (own)
+-- an event is one by which the host forgets a key
+abbrev pub is_host_forget : Event → Bool
+is_host_forget (event.Forget who.Host place) = true
+is_host_forget _ = false
+
+-- own: an entry follows the recording, after the entries before it: it is recorded, and forgets nothing for the host
+pub record IsFollowing (recording : Recording) (before : List Entry) (state : State) (entry : Entry) : Type 0 where
+  pub recorded : IsRecorded recording before state entry
+  pub unforced : is_host_forget entry.event ≡ false
+
+-- a history has each lane's actions in order, each once, the recorded lines, and nothing that the host forgets (own)
 abbrev pub Follows : Recording → Kept → List Entry → Type 0
-Follows recording base history = EachLater (IsRecorded recording) base history
+Follows recording base history = EachLater (IsFollowing recording) base history
 
 -- ---- ends
 
@@ -59,9 +70,9 @@ Follows recording base history = EachLater (IsRecorded recording) base history
 pub record Complete (recording : Recording) (entries : List Entry) (state : State) : Type 0 where
   pub lanes : (lane : ℕ) → next_action recording entries lane ≡ None
   pub jobs : filter is_unfinished state.jobs ≡ []
-  pub handlers : state.handlers ≡ []
+  pub handlers : filter (λ row. is_some row.handler) state.workers ≡ []
   pub tasks : filter (λ row. is_none row.settled) state.tasks ≡ []
-  pub owed : state.owed ≡ []
+  pub owed : filter (λ row. row.owed) state.registrations ≡ []
 
 -- the first enabled event among the next actions of the lanes, lowest first
 abbrev pub first_enabled : Recording → List Entry → State → Option Event

@@ -1,18 +1,18 @@
 -- The state of the host: lists of rows (Service Workers, section 2 "Model" and Appendix A; the cut into rows is own).
 use Rattle.std.specs.Prelude.{ℕ, Bool, List, [], Option}
-use Rattle.sw_rules.specs.declared.workers.Mode.{Mode}
-use Rattle.sw_rules.specs.declared.workers.Kind.{Kind}
-use Rattle.sw_rules.specs.declared.workers.WorkerState.{WorkerState}
-use Rattle.sw_rules.specs.declared.workers.Phase.{Phase}
-use Rattle.sw_rules.specs.declared.events.Who.{Who}
-use Rattle.sw_rules.specs.declared.recordings.Handlers.{Handlers}
-use Rattle.sw_rules.specs.declared.rows.JobRow.{JobRow}
-use Rattle.sw_rules.specs.declared.rows.ClientRow.{ClientRow}
-use Rattle.sw_rules.specs.declared.answers.Settlement.{Settlement}
-use Rattle.sw_rules.specs.declared.exchange.Request.{Request}
-use Rattle.sw_rules.specs.declared.storage.KeptCache.{KeptCache}
+use Rattle.sw_data.specs.declared.workers.Mode.{Mode}
+use Rattle.sw_data.specs.declared.workers.Kind.{Kind}
+use Rattle.sw_data.specs.declared.workers.WorkerState.{WorkerState}
+use Rattle.sw_data.specs.declared.workers.Phase.{Phase}
+use Rattle.sw_data.specs.declared.events.Who.{Who}
+use Rattle.sw_data.specs.declared.recordings.Handlers.{Handlers}
+use Rattle.sw_data.specs.declared.rows.JobRow.{JobRow}
+use Rattle.sw_data.specs.declared.rows.ClientRow.{ClientRow}
+use Rattle.sw_data.specs.declared.answers.Settlement.{Settlement}
+use Rattle.sw_data.specs.declared.exchange.Request.{Request}
+use Rattle.sw_data.specs.declared.storage.KeptCache.{KeptCache}
 
--- a service worker registration (Service Workers, "service worker registration"); `first` is own
+-- a service worker registration (Service Workers, "service worker registration"); `first` and `owed`, that it is owed a Try Activate, are own
 pub record Registration : Type 0 where
   pub number : ℕ
   pub key : List ℕ
@@ -20,10 +20,17 @@ pub record Registration : Type 0 where
   pub mode : Mode
   pub mapped : Bool
   pub first : Option ℕ
+  pub owed : Bool
   pub preload : Bool
   pub preload_value : List ℕ
 
--- a service worker (Service Workers, "service worker"), with what the recording says of its runs
+-- a handler that runs: how many calls it has made, and whether one of them was answered by a fault or an addAll of it settled with one
+pub record Handler : Type 0 where
+  pub phase : Phase
+  pub made : ℕ
+  pub faulted : Bool
+
+-- a service worker (Service Workers, "service worker"), with what the recording says of its runs, and the handler of it that runs
 pub record Worker : Type 0 where
   pub number : ℕ
   pub registration : ℕ
@@ -34,6 +41,7 @@ pub record Worker : Type 0 where
   pub skip_waiting : Bool
   pub fetch : Option ℕ
   pub handlers : Handlers
+  pub handler : Option Handler
 
 -- what a promise waits for, or its value
 pub data Awaited : Type 0 where
@@ -57,13 +65,6 @@ pub record AddAll : Type 0 where
   pub fetches : List ℕ
   pub settled : Option Settlement
 
--- a handler that runs
-pub record Handler : Type 0 where
-  pub worker : ℕ
-  pub phase : Phase
-  pub made : ℕ
-  pub faulted : Bool
-
 -- a fetch event that is pending
 pub record FetchEvent : Type 0 where
   pub number : ℕ
@@ -82,9 +83,7 @@ pub record State : Type 0 where
   pub jobs : List JobRow
   pub promises : List Promise
   pub tasks : List AddAll
-  pub handlers : List Handler
   pub fetch_events : List FetchEvent
-  pub owed : List ℕ
   pub caches : List KeptCache
   pub draws : List Draws
 
@@ -97,9 +96,7 @@ initial = record {
   jobs = [];
   promises = [];
   tasks = [];
-  handlers = [];
   fetch_events = [];
-  owed = [];
   caches = [];
   draws = [];
 }

@@ -1,157 +1,78 @@
--- One step: what an event answers and tells, and the state that it leaves.
-use Rattle.std.specs.Prelude.{◌≡◌, ℕ, Bool, true, false, ◌&&◌, List, [], ◌∷◌, ◌++◌, filter, find, length, bytes_eq, is_some, Option, Some, None, option_map, Result, Ok, Err, if◌then◌else◌}
+-- One step: what an event answers and tells, and the state that it leaves. It joins the cases of the other files.
+use Rattle.std.specs.Prelude.{◌≡◌, Bool, true, false, List, [], is_some, Option, Some, None}
 use Rattle.std.specs.Option.{option_map_or}
-use Rattle.sw_rules.specs.declared.answers.Answer.{Answer}
-use Rattle.sw_rules.specs.declared.answers.Answer.TheVariants as answer
-use Rattle.sw_rules.specs.declared.answers.Cause.{Cause}
-use Rattle.sw_rules.specs.declared.answers.Cause.TheVariants as cause
-use Rattle.sw_rules.specs.declared.answers.Fault.{Fault}
-use Rattle.sw_rules.specs.declared.answers.Fault.TheVariants as fault
-use Rattle.sw_rules.specs.declared.answers.SecurityCause.TheVariants as security
-use Rattle.sw_rules.specs.declared.answers.Notice.{Notice}
-use Rattle.sw_rules.specs.declared.events.Event.{Event}
-use Rattle.sw_rules.specs.declared.events.Event.TheVariants as event
-use Rattle.sw_rules.specs.declared.exchange.Op.TheVariants as op
-use Rattle.sw_rules.specs.declared.exchange.Options.{Options}
-use Rattle.sw_rules.specs.declared.exchange.Request.{Request}
-use Rattle.sw_rules.specs.declared.recordings.CacheMatch.{CacheMatch}
-use Rattle.sw_rules.specs.declared.recordings.CachePut.{CachePut}
-use Rattle.sw_rules.specs.declared.recordings.Place.{Place}
-use Rattle.sw_rules.specs.declared.storage.KeptCache.{KeptCache}
-use Rattle.sw_rules.specs.Addresses.{address_of, is_trustworthy, resolved}
-use Rattle.sw_rules.specs.Batch.{BatchFault, TypeError, InvalidState, Quota, batch}
-use Rattle.sw_rules.specs.Events.{has_right_maker}
-use Rattle.sw_rules.specs.Keys.{key_of}
-use Rattle.sw_rules.specs.Matching.{Pair, first_match}
+use Rattle.sw_data.specs.declared.answers.Answer.{Answer}
+use Rattle.sw_data.specs.declared.answers.Notice.{Notice}
+use Rattle.sw_data.specs.declared.events.Event.{Event}
+use Rattle.sw_data.specs.declared.events.Event.TheVariants as event
+use Rattle.sw_data.specs.declared.events.Who.{Who}
+use Rattle.sw_data.specs.declared.events.Who.TheVariants as who
+use Rattle.sw_data.specs.declared.storage.Change.{Change}
+use Rattle.sw_rules.specs.Activating.{activated, tryactivate}
+use Rattle.sw_rules.specs.Caching.{add_all_at, added, batch_ops, cache_names, delete_cache, delete_request, forget, has_cache, match_request, open_cache, put_response, query_cache, with_key}
+use Rattle.sw_rules.specs.Calls.{make_call}
+use Rattle.sw_rules.specs.Clients.{await, begin, claim_of, close, end, get_registration, get_registrations, open_client, ready, skip_waiting_of, with_slot}
+use Rattle.sw_rules.specs.Installing.{evaluated, fetched, installed}
+use Rattle.sw_rules.specs.Preloading.{preload_state, preload_switch, preload_value}
+use Rattle.sw_rules.specs.Registering.{register, run, soft_update, unregister, update}
 use Rattle.sw_rules.specs.State.{State}
-use Rattle.sw_rules.specs.Storage.{is_cache, with_cache}
+use Rattle.sw_rules.specs.Told.{Outcome}
 
--- what an event comes to: its answer, its notices in order, and the new state
-pub record Outcome : Type 0 where
-  pub answer : Answer
-  pub notices : List Notice
-  pub new : State
+-- ---- makers
 
--- an answer that leaves the state as it is
-abbrev pub answered : State → Answer → Outcome
-answered state reply = record { answer = reply; notices = []; new = state }
+-- what an action comes to, where a lane made it
+abbrev pub by_lane : Who → Option Outcome → Option Outcome
+by_lane (who.Lane lane at) outcome = outcome
+by_lane _ outcome = None
 
--- a fault, which leaves the state as it is
-abbrev pub refused : State → Fault → Outcome
-refused state why = answered state (answer.Fault why)
-
--- a TypeError without an index
-abbrev pub type_error : Cause → Fault
-type_error why = fault.TypeError why None
-
--- ---- the storage key of a page (Storage, "obtain a storage key"; Service Workers, "SecureContext")
-
--- the key, or the first refusal: the address doesn't parse; it isn't http or https; it isn't trustworthy
-abbrev pub key_or_fault : Bool → Option (List ℕ) → Bool → Result (List ℕ) Fault
-key_or_fault false key trusted = Err (type_error cause.Unparsed)
-key_or_fault true None trusted = Err (type_error cause.Scheme)
-key_or_fault true (Some key) false = Err (fault.SecurityError security.Untrusted)
-key_or_fault true (Some key) true = Ok key
-
-abbrev pub place_key : Place → Result (List ℕ) Fault
-place_key place =
-    key_or_fault (is_some (address_of place.at)) (key_of place.at place.partition) (is_trustworthy place.at)
-
--- what an action does with the key of its place
-abbrev pub with_key : State → Place → (List ℕ → Outcome) → Outcome
-with_key state place act = elim (place_key place) [ Ok key ↦ act key | Err why ↦ refused state why ]
-
--- ---- caches by key and name (Service Workers, "name to cache map")
-
--- the pairs of the cache of this name, none where the name is absent
-abbrev pub pairs_of : List ℕ → List ℕ → List KeptCache → Option (List Pair)
-pairs_of key name rows = option_map (λ row. row.pairs) (find (is_cache key name) rows)
-
-abbrev pub with_pairs : List ℕ → List ℕ → List Pair → List KeptCache → List KeptCache
-with_pairs key name pairs rows = with_cache key name (λ row. record row { pairs = pairs }) rows
-
--- an empty cache is added last
-abbrev pub with_new_cache : List ℕ → List ℕ → List KeptCache → List KeptCache
-with_new_cache key name rows = rows ++ record { key = key; name = name; pairs = [] } ∷ []
-
--- the caches of a key, or the one of them that has this name
-abbrev pub asked_caches : List ℕ → Option (List ℕ) → List KeptCache → List KeptCache
-asked_caches key name rows =
-    filter (λ row. bytes_eq row.key key && option_map_or (bytes_eq row.name) name true) rows
-
--- ---- the cache actions
-
--- a cache is opened, and made where it is absent (Service Workers, CacheStorage, "open()")
-abbrev pub open_cache : State → List ℕ → List ℕ → Outcome
-open_cache state name key =
-    if is_some (pairs_of key name state.caches) then answered state answer.Found
-    else record {
-      answer = answer.Made;
-      notices = [];
-      new = record state { caches = with_new_cache key name state.caches };
-    }
-
--- the fault of a batch of one put, which has no index but that of a clash
-abbrev pub put_fault_of : BatchFault → Fault
-put_fault_of (TypeError at why) = type_error why
-put_fault_of (InvalidState at) = fault.InvalidStateAt at
-put_fault_of (Quota size) = fault.Quota
-
--- a response is put into a cache, the request's address being parsed (Service Workers, Cache, "put()")
-abbrev pub put_parsed : State → CachePut → List ℕ → List Pair → List ℕ → Outcome
-put_parsed state put key pairs url =
-    elim (batch pairs (op.Put (record put.request { url = url }) put.response ∷ [])) [
-      | Ok new ↦ record {
-        answer = answer.Ok;
-        notices = [];
-        new = record state { caches = with_pairs key put.name new state.caches };
-      }
-      | Err why ↦ refused state (put_fault_of why)
-    ]
-
--- a response is put into the cache of this name, the request's address being parsed against a base
-abbrev pub put_response : State → List ℕ → CachePut → List ℕ → Outcome
-put_response state base put key =
-    elim (pairs_of key put.name state.caches) [
-      | None ↦ refused state fault.CacheGone
-      | Some pairs ↦
-          elim (resolved put.request.url base) [
-            | None ↦ refused state (type_error cause.Unparsed)
-            | Some url ↦ put_parsed state put key pairs url
-          ]
-    ]
-
--- the first match in the first cache that has one (Service Workers, CacheStorage, "match()")
-abbrev pub first_hit : Request → Options → List KeptCache → Answer
-first_hit query options [] = answer.None
-first_hit query options (cache ∷ rest) =
-    elim (first_match cache.pairs query options) [
-      | Some item ↦ answer.Hit cache.name item.0 item.1.1.status (length item.1.1.body)
-      | None ↦ first_hit query options rest
-    ]
-
--- a look-up, the request's address being parsed against a base
-abbrev pub match_request : State → List ℕ → CacheMatch → List ℕ → Outcome
-match_request state base asked key =
-    elim (resolved asked.request.url base) [
-      | None ↦ refused state (type_error cause.Unparsed)
-      | Some url ↦
-          answered state
-          (first_hit (record asked.request { url = url }) asked.options (asked_caches key asked.name state.caches))
-    ]
+-- what an event of the host comes to, where the host made it
+abbrev pub by_host : Who → Option Outcome → Option Outcome
+by_host who.Host outcome = outcome
+by_host _ outcome = None
 
 -- ---- the step
 
--- what an event comes to, where its maker is right; none where it isn't enabled
-abbrev pub outcome : State → Event → Option Outcome
-outcome state (event.CacheOpen who place name) = Some (with_key state place (open_cache state name))
-outcome state (event.Match who place asked) = Some (with_key state place (match_request state place.at asked))
-outcome state (event.Put who place put) = Some (with_key state place (put_response state place.at put))
-outcome state _ = None
-
--- the step of an event; none where it isn't enabled (own: the cut of the algorithms into steps)
-abbrev pub step : State → Event → Option Outcome
-step state happened = if has_right_maker happened then outcome state happened else None
+-- what an event comes to; none where it isn't enabled (own: the cut of the algorithms into steps)
+unfoldable pub step : State → Event → Option Outcome
+step state (event.Open who client url partition) = by_lane who (Some (open_client state client url partition))
+step state (event.Close who client) = by_lane who (Some (close state client))
+step state (event.Register who asked) = by_lane who (Some (register state who asked))
+step state (event.Update who of) = by_lane who (Some (update state who of))
+step state (event.SoftUpdate who of) = by_lane who (Some (soft_update state of))
+step state (event.Unregister who of) = by_lane who (Some (unregister state who of))
+step state (event.Await who of) = await state who of
+step state (event.Ready who client) = by_lane who (ready state client)
+step state (event.Registration who client url) = by_lane who (Some (get_registration state client url))
+step state (event.Registrations who client) = by_lane who (Some (get_registrations state client))
+step state (event.SkipWaiting who of place) = by_lane who (Some (with_slot state of place (skip_waiting_of state)))
+step state (event.Claim who of place) = by_lane who (Some (with_slot state of place (claim_of state)))
+step state (event.Begin who client number) = by_lane who (begin state client number)
+step state (event.End who number) = by_lane who (Some (end state number))
+step state (event.CacheOpen who place name) = by_lane who (Some (with_key state place (open_cache state name)))
+step state (event.CacheHas who place name) = by_lane who (Some (with_key state place (has_cache state name)))
+step state (event.CacheDelete who place name) = by_lane who (Some (with_key state place (delete_cache state name)))
+step state (event.CacheKeys who place) = by_lane who (Some (with_key state place (cache_names state)))
+step state (event.Forget who place) = by_lane who (Some (with_key state place (forget state)))
+step state (event.Match who place asked) = by_lane who (Some (with_key state place (match_request state place.at asked)))
+step state (event.MatchAll who place asked) = by_lane who (Some (with_key state place (query_cache state place.at asked)))
+step state (event.Keys who place asked) = by_lane who (Some (with_key state place (query_cache state place.at asked)))
+step state (event.Put who place put) = by_lane who (Some (with_key state place (put_response state place.at put)))
+step state (event.Delete who place asked) = by_lane who (Some (with_key state place (delete_request state place.at asked)))
+step state (event.Batch who place asked) = by_lane who (Some (with_key state place (batch_ops state place.at asked)))
+step state (event.AddAll who place asked) = by_lane who (Some (add_all_at state who place asked))
+step state (event.PreloadEnable who of) = by_lane who (Some (preload_switch state of true))
+step state (event.PreloadDisable who of) = by_lane who (Some (preload_switch state of false))
+step state (event.PreloadValue who of text) = by_lane who (Some (preload_value state of text))
+step state (event.PreloadState who of) = by_lane who (Some (preload_state state of))
+step state (event.Call who call) = make_call state who call
+step state (event.Run who job) = by_host who (run state job)
+step state (event.Fetched who job line) = by_host who (fetched state job line)
+step state (event.Evaluated who job) = by_host who (evaluated state job)
+step state (event.Installed who job) = by_host who (installed state job)
+step state (event.TryActivate who registration) = by_host who (tryactivate state registration)
+step state (event.Activated who worker) = by_host who (activated state worker)
+step state (event.Added who task lines) = by_host who (added state task lines)
+step state (event.Restarted who) = None
 
 -- an event may happen
 abbrev pub enabled : State → Event → Bool
@@ -160,4 +81,14 @@ enabled state happened = is_some (step state happened)
 -- an event answers and tells this, and leaves this state
 abbrev pub Step : State → Event → Answer → List Notice → State → Type 0
 Step old happened reply notices new =
-    step old happened ≡ Some (record { answer = reply; notices = notices; new = new })
+    (changes : List Change)
+    × (step old happened
+    ≡ Some (record { answer = reply; told = record { state = new; notices = notices; changes = changes } }))
+
+-- the durable changes of an event, in the order of its steps (own)
+abbrev pub changes_of : State → Event → List Change
+changes_of state happened = option_map_or (λ outcome. outcome.told.changes) (step state happened) []
+
+-- the state after an event; one that isn't enabled leaves it
+abbrev pub state_after : State → Event → State
+state_after state happened = option_map_or (λ outcome. outcome.told.state) (step state happened) state

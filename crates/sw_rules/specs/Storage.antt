@@ -1,21 +1,16 @@
--- The kept content: the effect of each durable change, and the restart from it.
-use Rattle.std.specs.Prelude.{◌≡◌, ℕ, ◌+◌, Bool, true, false, not, ◌&&◌, List, [], ◌∷◌, ◌++◌, map, filter, fold, codes, bytes_eq, Option, Some, None, Ok, Err, if◌then◌else◌}
-use Rattle.std.specs.List.{list_any, enumerate_from}
-use Rattle.sw_rules.specs.declared.exchange.Op.{Op}
-use Rattle.sw_rules.specs.declared.storage.Change.{Change}
-use Rattle.sw_rules.specs.declared.storage.Change.TheVariants as change
-use Rattle.sw_rules.specs.declared.storage.Kept.{Kept}
-use Rattle.sw_rules.specs.declared.storage.KeptCache.{KeptCache}
-use Rattle.sw_rules.specs.declared.storage.KeptRegistration.{KeptRegistration}
-use Rattle.sw_rules.specs.declared.storage.KeptWorker.{KeptWorker}
-use Rattle.sw_rules.specs.declared.workers.Mode.{Mode}
-use Rattle.sw_rules.specs.declared.workers.WorkerState.{WorkerState}
-use Rattle.sw_rules.specs.declared.workers.WorkerState.TheVariants.{Activating, Activated}
-use Rattle.sw_rules.specs.declared.workers.Phase.TheVariants.{Activate}
-use Rattle.sw_rules.specs.declared.recordings.Handlers.{Handlers}
+-- The kept content, and the effect of each durable change.
+use Rattle.std.specs.Prelude.{◌≡◌, ℕ, Bool, true, false, not, ◌&&◌, List, [], ◌∷◌, ◌++◌, map, filter, fold, codes, bytes_eq, Some, None, Ok, Err, if◌then◌else◌}
+use Rattle.std.specs.List.{list_any}
+use Rattle.sw_data.specs.declared.exchange.Op.{Op}
+use Rattle.sw_data.specs.declared.storage.Change.{Change}
+use Rattle.sw_data.specs.declared.storage.Change.TheVariants as change
+use Rattle.sw_data.specs.declared.storage.Kept.{Kept}
+use Rattle.sw_data.specs.declared.storage.KeptCache.{KeptCache}
+use Rattle.sw_data.specs.declared.storage.KeptRegistration.{KeptRegistration}
+use Rattle.sw_data.specs.declared.storage.KeptWorker.{KeptWorker}
+use Rattle.sw_data.specs.declared.workers.Mode.{Mode}
 use Rattle.sw_rules.specs.Batch.{batch}
 use Rattle.sw_rules.specs.Matching.{Pair}
-use Rattle.sw_rules.specs.State.{State, Registration, Worker, Handler, initial}
 
 -- nothing is kept
 abbrev pub nothing : Kept
@@ -31,8 +26,8 @@ abbrev pub with_registration : List ℕ → List ℕ → (KeptRegistration → K
 with_registration key scope f rows = map (λ row. if is_registration key scope row then f row else row) rows
 
 -- a registration that has just got its first waiting worker (Service Workers, "service worker registration"; preload "true" by "NavigationPreloadManager")
-abbrev pub new_registration : List ℕ → List ℕ → Mode → KeptWorker → KeptRegistration
-new_registration key scope mode worker = record {
+abbrev pub first_waiting : List ℕ → List ℕ → Mode → KeptWorker → KeptRegistration
+first_waiting key scope mode worker = record {
   key = key;
   scope = scope;
   mode = mode;
@@ -48,7 +43,7 @@ abbrev pub with_waiting : List ℕ → List ℕ → Mode → KeptWorker → List
 with_waiting key scope mode worker rows =
     if list_any (is_registration key scope) rows
     then with_registration key scope (λ row. record row { mode = mode; waiting = Some worker }) rows
-    else rows ++ new_registration key scope mode worker ∷ []
+    else rows ++ first_waiting key scope mode worker ∷ []
 
 -- the waiting worker, where there is one, becomes the active one, not activated
 abbrev pub promoted : KeptRegistration → KeptRegistration
@@ -117,80 +112,3 @@ kept_after kept changes = fold applied kept changes
 -- the content is one that some changes make of nothing
 abbrev pub IsMade : Kept → Type 0
 IsMade kept = (changes : List Change) × (kept ≡ kept_after nothing changes)
-
--- ---- restart
-
--- the handlers of a restored worker: no calls, and nothing fails (own)
-abbrev pub no_handlers : Handlers
-no_handlers = record { throws = false; install = []; install_fails = false; activate = [] }
-
--- a worker that was kept
-abbrev pub restored_worker : ℕ → ℕ → KeptWorker → WorkerState → Worker
-restored_worker number registration kept state = record {
-  number = number;
-  registration = registration;
-  script = kept.script;
-  kind = kept.kind;
-  body = kept.body;
-  state = state;
-  skip_waiting = false;
-  fetch = None;
-  handlers = no_handlers;
-}
-
--- the state of an active worker that was kept
-abbrev pub active_state : Bool → WorkerState
-active_state true = Activated
-active_state false = Activating
-
--- the worker of a kept registration after a restart: the waiting one, in place of the active one, or else that one
-abbrev pub worker_after_restart : ℕ → ℕ → KeptRegistration → Option Worker
-worker_after_restart number registration row =
-    elim row.waiting [
-      | Some worker ↦ Some (restored_worker number registration worker Activating)
-      | None ↦
-          elim row.active [
-            | Some worker ↦ Some (restored_worker number registration worker (active_state row.activated))
-            | None ↦ None
-          ]
-    ]
-
--- the workers of the kept registrations, numbered in kept order from the first number on
-abbrev pub restored_workers : ℕ → List (ℕ × KeptRegistration) → List Worker
-restored_workers number [] = []
-restored_workers number (row ∷ rest) =
-    elim (worker_after_restart number row.0 row.1) [
-      | Some worker ↦ worker ∷ restored_workers (number + 1) rest
-      | None ↦ restored_workers number rest
-    ]
-
--- a kept registration, with its number
-abbrev pub restored_registration : ℕ × KeptRegistration → Registration
-restored_registration row = record {
-  number = row.0;
-  key = row.1.key;
-  scope = row.1.scope;
-  mode = row.1.mode;
-  mapped = true;
-  first = Some row.0;
-  preload = row.1.preload;
-  preload_value = row.1.preload_value;
-}
-
-abbrev pub is_activating : Worker → Bool
-is_activating worker = elim worker.state [ Activating ↦ true | _ ↦ false ]
-
--- the activate handler of a worker starts
-abbrev pub activate_handler : Worker → Handler
-activate_handler worker = record { worker = worker.number; phase = Activate; made = 0; faulted = false }
-
--- the state after a restart from a content (Service Workers, Appendix A, "User Agent Shutdown"; the moment, at opening, and that activate handlers start again are own)
-abbrev pub restart : Kept → State
-restart kept =
-    let workers = restored_workers 0 (enumerate_from 0 kept.registrations) in
-    record initial {
-      registrations = map restored_registration (enumerate_from 0 kept.registrations);
-      workers = workers;
-      handlers = map activate_handler (filter is_activating workers);
-      caches = kept.caches;
-    }

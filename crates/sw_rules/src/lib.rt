@@ -1,37 +1,16 @@
-//! Plain data, definitions and laws of the service worker lifecycle host.
+//! Definitions and laws of the service worker lifecycle host.
 //!
-//! The types that every crate shares stand in `src/`; the definitions that contracts cite stand in
-//! `specs/`, one file for each subject.
+//! The definitions stand in `specs/`, one file for each subject; the laws are the calls of `laws`. The plain data and
+//! the definitions of `sw_data` are passed on.
 #![tactic(auto)]
 
-pub mod address;
-pub mod answers;
-pub mod base;
-pub mod cut;
-pub mod disk;
-pub mod events;
-pub mod exchange;
-pub mod header;
-pub mod histories;
 pub mod laws;
-pub mod recordings;
-pub mod rows;
-pub mod storage;
-pub mod workers;
 
-pub use answers::{Answer, Cause, Fault, Notice, SecurityCause, Settlement, StateCause};
-pub use base::bytes::Bytes;
-pub use base::items::Items;
-pub use base::no_memory::NoMemory;
-pub use base::text::Text;
-pub use disk::Part;
-pub use events::{Event, Who};
-pub use exchange::{Header, Op, Options, Request, Response};
-pub use histories::{End, Entry, Task};
-pub use recordings::{
-    Action, CacheAddAll, CacheBatch, CacheDelete, CacheMatch, CachePut, CacheQuery, Call,
-    ClientScope, FetchLine, Fetched, Handlers, Place, Recording, Registering,
+pub use sw_data::{
+    Action, Answer, Bytes, CacheAddAll, CacheBatch, CacheDelete, CacheMatch, CachePut, CacheQuery,
+    Call, Cause, Change, ClientRow, ClientScope, End, Entry, Event, Fault, FetchLine, Fetched,
+    HandlerRow, Handlers, Header, Items, Job, JobKind, JobPhase, JobRow, Kept, KeptCache,
+    KeptRegistration, KeptWorker, Kind, Mode, NoMemory, Notice, Op, Options, Phase, Place,
+    Recording, Registering, RegistrationRow, Request, Response, SecurityCause, Settlement, Slot,
+    StateCause, Task, Text, Who, WorkerRow, WorkerState,
 };
-pub use rows::{ClientRow, HandlerRow, Job, JobKind, JobPhase, JobRow, RegistrationRow, WorkerRow};
-pub use storage::{Change, Kept, KeptCache, KeptRegistration, KeptWorker};
-pub use workers::{Kind, Mode, Phase, Slot, WorkerState};

@@ -14,7 +14,7 @@ use Rattle.url.specs.Scheme.{scheme_type, default_port}
 use Rattle.url.proofs.Theorems.{parse_url-serialize_special}
 use Rattle.sw_url.specs.Answers.{Answers}
 use Rattle.sw_url.specs.declared.fault.UrlFault.{UrlFault}
-use Rattle.sw_rules.specs.Addresses.{Unparsed, accepted, address_of, joined, path_of, no_fragment, parsed_against, when_parsed, script_address, scope_bound, is_within_bound}
+use Rattle.sw_data.specs.Addresses.{Unparsed, accepted, address_of, joined, path_of, no_fragment, parsed_against, when_parsed, script_address, scope_bound, is_within_bound}
 
 -- a valid address is valid without its fragment
 valid_bare : (url : Parts) → IsValid url → IsValid (no_fragment url)

@@ -24,8 +24,8 @@ use Rattle.url.proofs.HostLemmas.{All-host_text}
 use Rattle.url.proofs.SetLemmas.{passes_from_kept}
 use Rattle.url.proofs.SetterLemmas.{own_host}
 use Rattle.url.proofs.ValidLemmas.{special_has_authority}
-use Rattle.sw_rules.specs.Addresses.{Unparsed, address_of, origin_of, parsed_origin}
-use Rattle.sw_rules.specs.Keys.{partitioned, key_origin}
+use Rattle.sw_data.specs.Addresses.{Unparsed, address_of, origin_of, parsed_origin}
+use Rattle.sw_data.specs.Keys.{partitioned, key_origin}
 use Rattle.sw_url.proofs.AgainLemmas.{special_kind}
 use Rattle.sw_url.proofs.ResolvedLemmas.{rule_is}
 

@@ -5,7 +5,7 @@ use Rattle.url.specs.Parser.{Parsed, parse_url}
 use Rattle.url.specs.Parts.{Parts, serialize, IsValid}
 use Rattle.url.proofs.ParsedCanonical.{parse_url_canonical}
 use Rattle.url.proofs.Theorems.{parse_url_idempotent}
-use Rattle.sw_rules.specs.Addresses.{Unparsed, address_of, joined, when_parsed, resolved}
+use Rattle.sw_data.specs.Addresses.{Unparsed, address_of, joined, when_parsed, resolved}
 
 parsed_ok : (answer : Parsed Parts) (url : Parts) → when_parsed answer ≡ Some url → answer ≡ Ok url
 parsed_ok (Ok found) url e = cc

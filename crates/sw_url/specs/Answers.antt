@@ -1,6 +1,6 @@
 -- How a call's answer stands to the rule that it computes.
 use Rattle.std.specs.Prelude.{◌≡◌, Result, Ok, Err}
-use Rattle.sw_rules.specs.Addresses.{AddressFault, Unparsed, Scheme, EscapedSlash}
+use Rattle.sw_data.specs.Addresses.{AddressFault, Unparsed, Scheme, EscapedSlash}
 use Rattle.sw_url.specs.declared.fault.UrlFault.{UrlFault}
 use Rattle.sw_url.specs.declared.fault.UrlFault.TheVariants.{NoMemory, Unparsed as NotParsed, Scheme as OtherScheme, EscapedSlash as Escaped}
 

@@ -3,13 +3,14 @@
 ghost use Rattle.std.specs.Prelude.{◌≡◌, ◌↔◌, List, ℕ, Option, take, codes, Some, None, Ok, Err, ok_or, option_map, option_copied, IfOk, IsErrOf, IsNone, IsSome, IsTrue};
 ghost use Rattle.url.specs.Parser.{parse_url};
 ghost use Rattle.url.specs.Parts.{Parts, serialize};
-ghost use Rattle.sw_rules.specs.Addresses.{AddressFault, Unparsed, Scheme, EscapedSlash, accepted, address_of, has_escaped_slash, is_escaped_slash, is_within_bound, no_fragment, parsed_against, when_parsed, resolved, scope_address, scope_bound, script_address, without_fragment, without_query};
+ghost use Rattle.sw_data.specs.Addresses.{AddressFault, Unparsed, Scheme, EscapedSlash, accepted, address_of, has_escaped_slash, is_escaped_slash, is_within_bound, no_fragment, parsed_against, when_parsed, resolved, scope_address, scope_bound, script_address, without_fragment, without_query};
 ghost use Rattle.sw_url.specs.Answers.{Answers, UnlessNoMemory};
+ghost use Rattle.sw_url.specs.HttpAddress.{http_address};
 
 use crate::fault::UrlFault;
 use crate::parsing::{is_http, joined, parsed, parsed_against};
 use std::alloc::Global;
-use sw_rules::Text;
+use sw_data::Text;
 use url::{Position, Url};
 
 /// The serialized address of a text against a base, with its fragment (URL, 4.4 and 4.5).
@@ -34,7 +35,7 @@ pub fn resolve(alloc: Global, text: &Text, base: &Text) -> Result<Text, UrlFault
 ///
 /// `Unparsed` as in `resolve`, then `Scheme` where the scheme is neither http nor https, then
 /// `EscapedSlash` where the path holds `%2f` or `%5c` in any case.
-#[tactic(auto, using(crate::proofs::AgainLemmas::again), unfolding(sw_rules::specs::Addresses::script_address))]
+#[tactic(auto, using(crate::proofs::AgainLemmas::again), unfolding(sw_data::specs::Addresses::script_address))]
 pub fn script_url(alloc: Global, text: &Text, base: &Text) -> Result<Text, UrlFault>
     ensures ok { IfOk result (λ address. script_address text.now base.now ≡ Ok address) }
     ensures unparsed { UnlessNoMemory result (IsErrOf result UrlFault.Unparsed
@@ -53,7 +54,7 @@ pub fn script_url(alloc: Global, text: &Text, base: &Text) -> Result<Text, UrlFa
 
 /// The scope address of a text against a base; where no text is given, that of `./` against the
 /// script (Service Workers, "Start Register"). It refuses as `script_url` does.
-#[tactic(auto, using(crate::proofs::AgainLemmas::again, crate::proofs::AgainLemmas::default_within), unfolding(sw_rules::specs::Addresses::scope_address))]
+#[tactic(auto, using(crate::proofs::AgainLemmas::again, crate::proofs::AgainLemmas::default_within), unfolding(sw_data::specs::Addresses::scope_address))]
 pub fn scope_url(
     alloc: Global,
     text: Option<&Text>,
@@ -83,22 +84,38 @@ pub fn scope_url(
     }
 }
 
+/// The http or https address that a text is, without its fragment (URL, 4.4 and 4.5).
+///
+/// `Unparsed` where the text doesn't parse, then `Scheme` where the scheme is neither http nor
+/// https.
+#[tactic(auto, unfolding(crate::specs::HttpAddress::http_address))]
+pub fn http_address(alloc: Global, text: &str) -> Result<Text, UrlFault>
+    ensures answer { Answers result (http_address text.now) }
+    ensures escaped_slash { ¬ (IsErrOf result UrlFault.EscapedSlash) }
+{
+    let url = parsed(alloc, text)?;
+    if !is_http(&url) {
+        return Err(UrlFault::Scheme);
+    }
+    Ok(Text::of(alloc, bare_text(&url))?)
+}
+
 /// The address without its fragment, as bytes (URL, 4.5, "exclude fragment"). It takes no memory.
 pub fn without_fragment(address: &Text) -> &[u8]
     ensures { result.now ≡ without_fragment address.now }
 {
-    sw_rules::address::without_fragment(address.as_bytes())
+    sw_data::address::without_fragment(address.as_bytes())
 }
 
 /// The address without fragment and query, as bytes. It takes no memory.
 pub fn without_query(address: &Text) -> &[u8]
     ensures { result.now ≡ without_query address.now }
 {
-    sw_rules::address::without_query(address.as_bytes())
+    sw_data::address::without_query(address.as_bytes())
 }
 
-/// The serialized address of a text against a base.
-#[tactic(auto, unfolding(sw_rules::specs::Addresses::resolved))]
+// The serialized address of a text against a base.
+#[tactic(auto, unfolding(sw_data::specs::Addresses::resolved))]
 fn resolved(alloc: Global, text: &str, base: &str) -> Result<Text, UrlFault>
     ensures answer { Answers result (ok_or (resolved text.now base.now) Unparsed) }
     ensures again { IfOk result (λ address. (other : List ℕ) → IsSome (address_of other)
@@ -109,7 +126,7 @@ fn resolved(alloc: Global, text: &str, base: &str) -> Result<Text, UrlFault>
     Ok(Text::of(alloc, url.as_str())?)
 }
 
-/// The address of a text against a base, where a worker may have it as script or scope.
+// The address of a text against a base, where a worker may have it as script or scope.
 fn accepted(alloc: Global, text: &str, base: &str) -> Result<Text, UrlFault>
     ensures answer { Answers result (accepted (parsed_against text.now base.now)) }
     ensures parses { IfOk result (λ address. (other : Option Parts)
@@ -126,14 +143,14 @@ fn accepted(alloc: Global, text: &str, base: &str) -> Result<Text, UrlFault>
     Ok(Text::of(alloc, bare_text(&url))?)
 }
 
-/// The text of the address without its fragment.
+// The text of the address without its fragment.
 fn bare_text(url: &Url) -> &str
     ensures { result.now ≡ serialize (no_fragment url.now) }
 {
     url.slice(Position::BeforeScheme, Position::AfterQuery)
 }
 
-#[tactic(auto, unfolding(sw_rules::specs::Addresses::has_escaped_slash))]
+#[tactic(auto, unfolding(sw_data::specs::Addresses::has_escaped_slash))]
 fn has_escaped_slash(path: &[u8]) -> bool
     ensures { result ≡ has_escaped_slash path.now }
 {

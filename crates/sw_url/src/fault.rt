@@ -3,18 +3,23 @@
 ghost use Rattle.std.specs.Prelude.{◌≡◌};
 
 use std::alloc::AllocError;
-use sw_rules::NoMemory;
+use sw_data::NoMemory;
+use thiserror::Error;
 
 /// Why a call gave no address.
-#[derive(Debug, Clone, Copy, PartialEq, Eq)]
+#[derive(Debug, Clone, Copy, PartialEq, Eq, Error)]
 pub enum UrlFault {
     /// A growth was refused by the allocator.
+    #[error("there is no memory")]
     NoMemory,
     /// The base doesn't parse, or the text doesn't parse against it.
+    #[error("the address doesn't parse")]
     Unparsed,
     /// The scheme is neither http nor https.
+    #[error("the scheme is neither http nor https")]
     Scheme,
     /// The path holds `%2f` or `%5c` in any case.
+    #[error("the path holds an escaped slash")]
     EscapedSlash,
 }
 

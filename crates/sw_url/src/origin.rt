@@ -1,13 +1,13 @@
 //! Storage keys and the bound of a scope.
 
 ghost use Rattle.std.specs.Prelude.{◌≡◌, ◌++◌, codes, string_bytes, IfOk, option_and_then, option_copied, option_map};
-ghost use Rattle.sw_rules.specs.Addresses.{address_of, allowed_bound, joined, parsed_against, parsed_origin, equal_origins, is_within_bound, path_of, path_of_same_origin, origin_of, scope_bound};
-ghost use Rattle.sw_rules.specs.Keys.{key_of, key_origin, partitioned};
+ghost use Rattle.sw_data.specs.Addresses.{address_of, allowed_bound, joined, parsed_against, parsed_origin, equal_origins, is_within_bound, path_of, path_of_same_origin, origin_of, scope_bound};
+ghost use Rattle.sw_data.specs.Keys.{key_of, key_origin, partitioned};
 
 use crate::fault::UrlFault;
 use crate::parsing::{is_http, joined, parsed, parsed_against};
 use std::alloc::{AllocError, Global};
-use sw_rules::{NoMemory, Text};
+use sw_data::{NoMemory, Text};
 use url::Url;
 
 /// The storage key of an http or https address and a partition: the serialized origin, followed
@@ -15,7 +15,7 @@ use url::Url;
 /// our own).
 ///
 /// None where the text doesn't parse or its scheme is neither http nor https.
-#[tactic(auto, unfolding(sw_rules::specs::Keys::key_of, sw_rules::specs::Addresses::origin_of))]
+#[tactic(auto, unfolding(sw_data::specs::Keys::key_of, sw_data::specs::Addresses::origin_of))]
 pub fn key_of(
     alloc: Global,
     address: &Text,
@@ -41,7 +41,7 @@ pub fn key_of(
 ///
 /// None where the script doesn't parse, where the value doesn't parse, and where the value has
 /// another origin than the script.
-#[tactic(auto, unfolding(sw_rules::specs::Addresses::scope_bound))]
+#[tactic(auto, unfolding(sw_data::specs::Addresses::scope_bound))]
 pub fn max_scope(
     alloc: Global,
     script: &Text,
@@ -57,7 +57,7 @@ pub fn max_scope(
 
 /// The path of the scope starts with the bound, byte for byte (Service Workers, "Update"). A scope
 /// that doesn't parse isn't within.
-#[tactic(auto, unfolding(sw_rules::specs::Addresses::is_within_bound))]
+#[tactic(auto, unfolding(sw_data::specs::Addresses::is_within_bound))]
 pub fn is_within_bound(alloc: Global, scope: &Text, bound: &Text) -> Result<bool, NoMemory>
     ensures { IfOk result (λ within. within ≡ is_within_bound scope.now bound.now) }
 {
@@ -68,8 +68,8 @@ pub fn is_within_bound(alloc: Global, scope: &Text, bound: &Text) -> Result<bool
     }
 }
 
-/// The serialized origin of an http or https address.
-fn origin(alloc: Global, url: &Url) -> Result<Option<Text>, NoMemory>
+// The serialized origin of an http or https address.
+pub(crate) fn origin(alloc: Global, url: &Url) -> Result<Option<Text>, NoMemory>
     ensures { IfOk result (λ origin. origin ≡ parsed_origin url.now) }
 {
     if !is_http(url) {
@@ -81,8 +81,12 @@ fn origin(alloc: Global, url: &Url) -> Result<Option<Text>, NoMemory>
     }
 }
 
-/// The origin, followed by `^` and the partition where there is one.
-fn partitioned(alloc: Global, origin: Text, partition: Option<&Text>) -> Result<Text, NoMemory>
+// The origin, followed by `^` and the partition where there is one.
+pub(crate) fn partitioned(
+    alloc: Global,
+    origin: Text,
+    partition: Option<&Text>,
+) -> Result<Text, NoMemory>
     ensures { IfOk result (λ key. key ≡ partitioned (option_copied partition.entry) origin) }
 {
     match partition {
@@ -101,7 +105,7 @@ fn marked(alloc: Global, origin: &str, partition: &str) -> Result<String, AllocE
     format!(in alloc; "{origin}^{partition}")
 }
 
-/// The path of `./` against the script.
+// The path of `./` against the script.
 fn default_bound(alloc: Global, script: &str) -> Result<Option<Text>, NoMemory>
     ensures { IfOk result (λ bound. bound
         ≡ option_map path_of (parsed_against (codes "./") script.now)) }
@@ -113,7 +117,7 @@ fn default_bound(alloc: Global, script: &str) -> Result<Option<Text>, NoMemory>
     }
 }
 
-/// The path of the allowed value against the script.
+// The path of the allowed value against the script.
 fn allowed_bound(alloc: Global, value: &str, script: &str) -> Result<Option<Text>, NoMemory>
     ensures { IfOk result (λ bound. bound
         ≡ option_and_then (allowed_bound value.now) (address_of script.now)) }
@@ -135,7 +139,7 @@ fn bound_of(alloc: Global, value: &str, script: &Url) -> Result<Option<Text>, No
     }
 }
 
-/// The path of an address that has the script's origin.
+// The path of an address that has the script's origin.
 fn path_of_same_origin(alloc: Global, script: &Url, url: &Url) -> Result<Option<Text>, NoMemory>
     ensures { IfOk result (λ bound. bound ≡ path_of_same_origin script.now url.now) }
 {

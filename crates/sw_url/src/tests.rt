@@ -1,12 +1,12 @@
 //! The cases that a browser meets, as tables. The values are those of the URL Standard and of
 //! Secure Contexts.
 use crate::{
-    UrlFault, is_trustworthy, is_within_bound, key_of, max_scope, resolve, scope_url, script_url,
-    without_fragment, without_query,
+    PageFault, UrlFault, http_address, is_trustworthy, is_within_bound, key_of, max_scope,
+    page_key, resolve, scope_url, script_url, without_fragment, without_query,
 };
 use std::alloc::Global;
 use std::test::Fail;
-use sw_rules::{NoMemory, Text};
+use sw_data::{NoMemory, Text};
 
 fn text_or_none(alloc: Global, text: Option<&str>) -> Result<Option<Text>, NoMemory> {
     match text {
@@ -15,7 +15,7 @@ fn text_or_none(alloc: Global, text: Option<&str>) -> Result<Option<Text>, NoMem
     }
 }
 
-/// The answer is this text, or this fault.
+// The answer is this text, or this fault.
 fn answers(answer: Result<Text, UrlFault>, want: Result<&str, UrlFault>) -> bool {
     match (answer, want) {
         (Ok(text), Ok(want)) => text.as_str() == want,
@@ -211,6 +211,46 @@ fn keys(rt: HostRuntime) -> Result<(), Fail> {
         let given = text_or_none(alloc, partition)?;
         let answer = key_of(alloc, &Text::of(alloc, address)?, given.as_ref())?;
         assert!(rt; tells(answer, want), "{address}");
+    }
+    Ok(())
+}
+
+#[test]
+fn pages_have_keys(rt: HostRuntime) -> Result<(), Fail> {
+    let alloc = rt.alloc();
+    for (address, partition, want) in [
+        (
+            "https://a.test/x",
+            Some("b.test"),
+            Ok("https://a.test^b.test"),
+        ),
+        ("http://localhost:8080/", None, Ok("http://localhost:8080")),
+        ("a.test", None, Err(PageFault::Unparsed)),
+        ("ftp://a.test/", None, Err(PageFault::Scheme)),
+        ("http://a.test/", None, Err(PageFault::Untrusted)),
+    ] {
+        let given = text_or_none(alloc, partition)?;
+        let answer = page_key(alloc, &Text::of(alloc, address)?, given.as_ref())?;
+        let same = match (&answer, want) {
+            (Ok(key), Ok(want)) => key.as_str() == want,
+            (Err(fault), Err(want)) => *fault == want,
+            _ => false,
+        };
+        assert!(rt; same, "{address}");
+    }
+    Ok(())
+}
+
+#[test]
+fn an_http_address_stands_alone(rt: HostRuntime) -> Result<(), Fail> {
+    let alloc = rt.alloc();
+    for (text, want) in [
+        ("https://A.test/x?q#f", Ok("https://a.test/x?q")),
+        ("HTTP://a.test:80/%2f", Ok("http://a.test/%2f")),
+        ("/x", Err(UrlFault::Unparsed)),
+        ("ftp://a.test/", Err(UrlFault::Scheme)),
+    ] {
+        assert_eq!(rt; answers(http_address(alloc, text), want), true, "{text}");
     }
     Ok(())
 }

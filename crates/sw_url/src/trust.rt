@@ -5,18 +5,18 @@ ghost use Rattle.std.specs.List.{ends_with};
 ghost use Rattle.std.specs.Option.{option_map_or};
 ghost use Rattle.url.specs.Parts.{nonempty_host};
 ghost use Rattle.url.specs.Host.{borrowed_host};
-ghost use Rattle.sw_rules.specs.Addresses.{is_loopback, is_trusted, is_trustworthy};
+ghost use Rattle.sw_data.specs.Addresses.{is_loopback, is_trusted, is_trustworthy};
 
 use crate::fault::UrlFault;
 use crate::parsing::parsed;
 use std::alloc::Global;
-use sw_rules::{NoMemory, Text};
+use sw_data::{NoMemory, Text};
 use url::{Host, Url};
 
 /// The text is a trustworthy address: https, or http at 127.0.0.0/8, `[::1]`, `localhost` or a
 /// name below `localhost` (Secure Contexts, 3.1 and 3.2, in a profile of our own). A text that
 /// doesn't parse isn't.
-#[tactic(auto, unfolding(sw_rules::specs::Addresses::is_trustworthy))]
+#[tactic(auto, unfolding(sw_data::specs::Addresses::is_trustworthy))]
 pub fn is_trustworthy(alloc: Global, address: &Text) -> Result<bool, NoMemory>
     ensures { IfOk result (λ trusted. trusted ≡ is_trustworthy address.now) }
 {
@@ -27,7 +27,7 @@ pub fn is_trustworthy(alloc: Global, address: &Text) -> Result<bool, NoMemory>
     }
 }
 
-fn is_trusted(url: &Url) -> bool
+pub(crate) fn is_trusted(url: &Url) -> bool
     ensures { result ≡ is_trusted url.now }
 {
     url.scheme() == "https" || (url.scheme() == "http" && is_at_loopback(url))

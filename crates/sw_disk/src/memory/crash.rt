@@ -4,7 +4,7 @@ ghost use Rattle.std.specs.Prelude.{◌≡◌, ◌<◌, ◌≤◌, drop, length,
 ghost use Rattle.sw_disk.specs.Picks.{in_doubt, first_pick, later_picks, picked, picks_left};
 
 use super::part::MemoryPart;
-use super::parts::Parts;
+use crate::part::Parts;
 
 // Whether the byte of a place is in doubt.
 fn is_in_doubt(marks: &[bool], at: usize) -> bool
@@ -31,8 +31,10 @@ fn next_pick(picks: &[u8], used: &mut usize) -> u8
 // Puts the next pick in a place whose byte is in doubt.
 fn pick_at(bytes: &mut [u8], at: usize, marks: &[bool], picks: &[u8], used: &mut usize)
     requires { at < length bytes.old }
-    ensures bytes { bytes.new ≡ slice_set bytes.old at (if in_doubt (drop at marks.now) then first_pick (drop used.old picks.now) else slice_index bytes.old at) }
-    ensures used { drop used.new picks.now ≡ (if in_doubt (drop at marks.now) then later_picks (drop used.old picks.now) else drop used.old picks.now) }
+    ensures bytes { bytes.new ≡ slice_set bytes.old at (if in_doubt (drop at marks.now)
+        then first_pick (drop used.old picks.now) else slice_index bytes.old at) }
+    ensures used { drop used.new picks.now ≡ (if in_doubt (drop at marks.now)
+        then later_picks (drop used.old picks.now) else drop used.old picks.now) }
     ensures within { used.old ≤ length picks.now → used.new ≤ length picks.now }
 {
     if is_in_doubt(marks, at) {
@@ -57,7 +59,7 @@ impl MemoryPart {
     ghost use Rattle.std.specs.Prelude.{false};
     ghost use Rattle.sw_disk.specs.Picks.{part_picked, part_left};
 
-    /// Leaves the image in which the bytes in doubt are taken from picks, and says how many it used.
+    // Leaves the image in which the bytes in doubt are taken from picks, and says how many it used.
     pub(super) fn crash(&mut self, picks: &[u8]) -> usize
         ensures bytes { self.new.bytes.items ≡ part_picked self.old picks.now }
         ensures left { drop result picks.now ≡ part_left self.old picks.now }
@@ -74,13 +76,13 @@ impl MemoryPart {
     }
 }
 
-impl Parts {
+impl Parts<MemoryPart> {
     ghost use Rattle.std.specs.Prelude.{◌↔◌};
-    ghost use Rattle.sw_rules.specs.Image.{Image};
+    ghost use Rattle.sw_disk.specs.Image.{Image};
     ghost use Rattle.sw_disk.specs.Memory.{image_of, MayLeave};
     ghost use Rattle.sw_disk.specs.Picks.{image_picked};
 
-    /// Leaves the image in which the bytes in doubt are taken from picks.
+    // Leaves the image in which the bytes in doubt are taken from picks.
     pub(super) fn crash(&mut self, picks: &[u8])
         ensures image { image_of self.new ≡ image_picked self.old picks.now }
         ensures sure { (c : Image) → MayLeave self.new c ↔ (c ≡ image_of self.new) }

@@ -1,22 +1,24 @@
 //! The clock of a disk in memory, and what a crash at each moment that is past may have left.
 
-ghost use Rattle.std.specs.Prelude.{◌≡◌, ◌+◌, ◌-◌, ◌^◌, ◌≤◌, ◌++◌, ◌∷◌, [], min, OnOk, OnErr};
+ghost use Rattle.std.specs.Prelude.{◌≡◌, ◌+◌, ◌++◌, ◌≤◌, ◌∷◌, [], OnOk, OnErr};
 ghost use Rattle.std.specs.List.{All};
-ghost use Rattle.sw_rules.specs.Faults.{Rose};
+ghost use Rattle.sw_data.specs.Faults.{Rose};
+ghost use Rattle.sw_disk.specs.DiskRule.{capped};
 
-use super::parts::Parts;
+use super::part::MemoryPart;
 use crate::disk::Failed;
+use crate::part::Parts;
 use std::alloc::Global;
 
-/// What the parts were when the entry of a sync that answered `Ok` was, and the clock then. A crash since the sync
-/// before it left nothing that a crash then couldn't leave: writes and cuts only add to what may be left.
+// What the parts were when the entry of a sync that answered `Ok` was, and the clock then. A crash since the sync
+// before it left nothing that a crash then couldn't leave: writes and cuts only add to what may be left.
 #[derive(Debug, Drop)]
 pub(crate) struct Past {
     pub(crate) clock: u64,
-    pub(crate) parts: Parts,
+    pub(crate) parts: Parts<MemoryPart>,
 }
 
-/// The clock, and what is past.
+// The clock, and what is past.
 #[derive(Debug, Drop)]
 pub(crate) struct History {
     pub(crate) clock: u64,
@@ -25,7 +27,7 @@ pub(crate) struct History {
 }
 
 impl History {
-    /// The clock 0, with nothing past; it takes no memory.
+    // The clock 0, with nothing past; it takes no memory.
     pub(crate) fn new(alloc: Global) -> History
         ensures clock { result.clock ≡ 0 }
         ensures past { result.past.items ≡ [] }
@@ -36,21 +38,23 @@ impl History {
         }
     }
 
-    /// Counts a call.
+    // Counts a call.
     #[tactic(auto, using(crate::proofs::Moved::later_all))]
     pub(crate) fn tick(&mut self)
-        ensures clock { self.new.clock ≡ min (self.old.clock + 1) (2 ^ 64 - 1) }
+        ensures clock { self.new.clock ≡ capped (self.old.clock + 1) }
         ensures later { self.old.clock ≤ self.new.clock }
         ensures past { self.new.past ≡ self.old.past }
     {
         self.clock = self.clock.saturating_add(1);
     }
 
-    /// Keeps what the parts were at the entry of a sync, of which this was the clock.
-    pub(crate) fn keep(&mut self, entry: u64, parts: Parts) -> Result<(), Failed>
+    // Keeps what the parts were at the entry of a sync, of which this was the clock.
+    pub(crate) fn keep(&mut self, entry: u64, parts: Parts<MemoryPart>) -> Result<(), Failed>
         requires { Rose entry self.old.clock }
         ensures clock { self.new.clock ≡ self.old.clock }
-        ensures ok { OnOk result (self.new.past.items ≡ self.old.past.items ++ (record { clock = entry; parts = parts }) ∷ []) }
+        ensures ok { OnOk result
+            (self.new.past.items ≡ self.old.past.items ++
+            (record { clock = entry; parts = parts }) ∷ []) }
         ensures err { OnErr result (self.new.past.items ≡ self.old.past.items) }
     {
         match self.past.push(Past {

@@ -1,28 +1,30 @@
 //! One part of a disk in memory, and its bytes in doubt.
 
 ghost use Rattle.std.specs.Prelude.{◌≡◌, ◌+◌, ◌-◌, ◌≤◌, ◌<◌, ◌^◌, ◌++◌, ◌⊎◌, min, true, false, take, drop, replicate, length, vec_len, OnOk, OnErr, IfOk, IsErr, IsTrue};
-ghost use Rattle.sw_rules.specs.DiskRule.{written, Torn, PendingCut};
-ghost use Rattle.sw_disk.specs.Doubts.{Leaves, marks_of, marked, Exactly};
+ghost use Rattle.sw_disk.specs.DiskRule.{written, Torn, PendingCut};
+ghost use Rattle.sw_disk.specs.Doubts.{marked, Exactly};
 
 use crate::disk::Failed;
 use crate::span::overwrite;
 use std::alloc::{AllocError, Global};
 
-/// One part of a disk in memory.
+// One part of a disk in memory.
 #[derive(Debug, Drop)]
 pub(crate) struct MemoryPart {
-    /// What reads give.
+    // What reads give.
     pub(crate) bytes: Vec<u8>,
-    /// Whether there was a write or a cut since the last sync that answered `Ok`.
+    // Whether there was a write or a cut since the last sync that answered `Ok`.
     pub(crate) touched: bool,
-    /// Where it was touched: for each place below the least length since that sync, whether its byte is in doubt.
-    /// From there on a crash may leave any bytes.
+    // Where it was touched: for each place below the least length since that sync, whether its byte is in doubt.
+    // From there on a crash may leave any bytes.
     pub(crate) doubts: Vec<bool>,
     ghost short: { length doubts.items ≤ length bytes.items },
 }
 
 impl MemoryPart {
-    /// A part with no byte in doubt; it takes no memory.
+    ghost use Rattle.sw_disk.specs.Memory.{PartLeaves, doubts_of};
+
+    // A part with no byte in doubt; it takes no memory.
     pub(crate) fn new(bytes: Vec<u8>) -> MemoryPart
         ensures bytes { result.bytes.items ≡ bytes.items }
         ensures sure { result.touched ≡ false }
@@ -38,7 +40,8 @@ impl MemoryPart {
     // Has marks, all of them false where it wasn't touched.
     fn touch(&mut self) -> Result<(), Failed>
         ensures bytes { self.new.bytes ≡ self.old.bytes }
-        ensures ok { OnOk result ((self.new.touched ≡ true) × (self.new.doubts.items ≡ marks_of self.old.touched self.old.doubts.items self.old.bytes.items)) }
+        ensures ok { OnOk result ((self.new.touched ≡ true)
+            × (self.new.doubts.items ≡ doubts_of self.old)) }
         ensures err { OnErr result (self.new ≡ self.old) }
     {
         if !self.touched {
@@ -56,7 +59,8 @@ impl MemoryPart {
     fn doubt(&mut self, at: usize, n: usize) -> Result<(), Failed>
         requires { at + n < 2 ^ 64 }
         ensures bytes { self.new.bytes ≡ self.old.bytes }
-        ensures ok { OnOk result ((self.new.touched ≡ true) × (self.new.doubts.items ≡ marked at n (marks_of self.old.touched self.old.doubts.items self.old.bytes.items))) }
+        ensures ok { OnOk result ((self.new.touched ≡ true)
+            × (self.new.doubts.items ≡ marked at n (doubts_of self.old))) }
         ensures err { OnErr result (self.new ≡ self.old) }
     {
         self.touch()?;
@@ -64,17 +68,20 @@ impl MemoryPart {
         Ok(())
     }
 
-    /// Writes over what is there and past the end; where `fails`, it writes nothing, and leaves the range in doubt.
+    // Writes over what is there and past the end; where `fails`, it writes nothing, and leaves the range in doubt.
     pub(crate) fn write(&mut self, at: usize, bytes: &[u8], fails: bool) -> Result<(), Failed>
         requires { at ≤ vec_len self.old.bytes }
-        ensures ok { OnOk result (self.new.bytes.items ≡ written at bytes.now self.old.bytes.items) }
+        ensures ok { OnOk result
+            (self.new.bytes.items ≡ written at bytes.now self.old.bytes.items) }
         ensures err { OnErr result (self.new.bytes.items ≡ self.old.bytes.items) }
         ensures fails { IsTrue fails → IsErr result }
-        ensures exact { OnOk result (Exactly (Torn (length self.old.bytes.items) at (length bytes.now))
-            (Leaves self.old.touched self.old.doubts.items self.old.bytes.items) (Leaves self.new.touched self.new.doubts.items self.new.bytes.items)) }
+        ensures exact { OnOk result
+            (Exactly (Torn (length self.old.bytes.items) at (length bytes.now))
+            (PartLeaves self.old) (PartLeaves self.new)) }
         // It wanted memory before it began, or the range is in doubt.
-        ensures failed { OnErr result ((self.new ≡ self.old) ⊎ Exactly (Torn (length self.old.bytes.items) at (length bytes.now))
-            (Leaves self.old.touched self.old.doubts.items self.old.bytes.items) (Leaves self.new.touched self.new.doubts.items self.new.bytes.items)) }
+        ensures failed { OnErr result ((self.new ≡ self.old)
+            ⊎ Exactly (Torn (length self.old.bytes.items) at (length bytes.now))
+            (PartLeaves self.old) (PartLeaves self.new)) }
     {
         self.doubt(at, bytes.len())?;
         if fails {
@@ -83,17 +90,17 @@ impl MemoryPart {
         overwrite(&mut self.bytes, at, bytes)
     }
 
-    /// Cuts to a length; where `fails`, it cuts nothing, and leaves all from there on in doubt.
+    // Cuts to a length; where `fails`, it cuts nothing, and leaves all from there on in doubt.
     pub(crate) fn cut(&mut self, len: usize, fails: bool) -> Result<(), Failed>
         requires { len ≤ vec_len self.old.bytes }
         ensures ok { OnOk result (self.new.bytes.items ≡ take len self.old.bytes.items) }
         ensures err { OnErr result (self.new.bytes.items ≡ self.old.bytes.items) }
         ensures fails { IsTrue fails → IsErr result }
-        ensures exact { OnOk result (Exactly (PendingCut len)
-            (Leaves self.old.touched self.old.doubts.items self.old.bytes.items) (Leaves self.new.touched self.new.doubts.items self.new.bytes.items)) }
+        ensures exact { OnOk result
+            (Exactly (PendingCut len) (PartLeaves self.old) (PartLeaves self.new)) }
         // It wanted memory before it began, or the length is in doubt.
-        ensures failed { OnErr result ((self.new ≡ self.old) ⊎ Exactly (PendingCut len)
-            (Leaves self.old.touched self.old.doubts.items self.old.bytes.items) (Leaves self.new.touched self.new.doubts.items self.new.bytes.items)) }
+        ensures failed { OnErr result ((self.new ≡ self.old)
+            ⊎ Exactly (PendingCut len) (PartLeaves self.old) (PartLeaves self.new)) }
     {
         self.touch()?;
         self.doubts.truncate(len);
@@ -104,7 +111,7 @@ impl MemoryPart {
         Ok(())
     }
 
-    /// Makes sure what reads give.
+    // Makes sure what reads give.
     pub(crate) fn settle(&mut self)
         ensures bytes { self.new.bytes ≡ self.old.bytes }
         ensures sure { self.new.touched ≡ false }
@@ -113,7 +120,7 @@ impl MemoryPart {
         self.doubts.clear();
     }
 
-    /// A part of its own that equals this one.
+    // A part of its own that equals this one.
     pub(crate) fn copy(&self) -> Result<MemoryPart, Failed>
         ensures bytes { IfOk result (λ part. part.bytes.items ≡ self.now.bytes.items) }
         ensures touched { IfOk result (λ part. part.touched ≡ self.now.touched) }

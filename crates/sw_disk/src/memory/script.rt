@@ -1,7 +1,7 @@
 //! Which calls of a disk in memory fail.
 
 ghost use Rattle.std.specs.Prelude.{◌≡◌};
-ghost use Rattle.sw_disk.specs.Script.{is_listed, count_of, counted};
+ghost use Rattle.sw_disk.specs.Script.{is_listed, is_stopped, count_of, one_more};
 
 /// The kinds of call of a disk by which its clock rises.
 #[derive(Debug, Clone, Copy, PartialEq, Eq)]
@@ -22,7 +22,7 @@ pub struct Failing {
     pub to: u64,
 }
 
-/// How many calls of each kind were made.
+// How many calls of each kind were made.
 #[derive(Debug, Clone, Copy)]
 pub(crate) struct Counts {
     pub(crate) len: u64,
@@ -33,7 +33,7 @@ pub(crate) struct Counts {
 }
 
 impl Counts {
-    /// No call.
+    // No call.
     pub(crate) fn new() -> Counts
         ensures { result ≡ record { len = 0; read = 0; write = 0; cut = 0; sync = 0 } }
     {
@@ -46,10 +46,10 @@ impl Counts {
         }
     }
 
-    /// Counts a call, and says its number. At 2^64 - 1 the count stays.
+    // Counts a call, and says its number. At 2^64 - 1 the count stays.
     pub(crate) fn next(&mut self, kind: CallKind) -> u64
         ensures number { result ≡ count_of kind self.old }
-        ensures counts { self.new ≡ counted kind self.old }
+        ensures counts { self.new ≡ one_more kind self.old }
     {
         let number;
         match kind {
@@ -78,11 +78,21 @@ impl Counts {
     }
 }
 
-/// Whether the call of a kind with a number is one of those that fail.
+// Whether the call of a kind with a number is one of those that fail.
 pub(crate) fn fails(failing: &[Failing], kind: CallKind, number: u64) -> bool
     ensures { result ≡ is_listed kind number failing.now }
 {
     failing
         .iter()
         .any(|f| f.call == kind && f.from <= number && number <= f.to)
+}
+
+// Whether the call with a number over all kinds is one from which on each call fails.
+pub(crate) fn is_past(stop: Option<u64>, number: u64) -> bool
+    ensures { result ≡ is_stopped number stop }
+{
+    match stop {
+        Some(after) => after <= number,
+        None => false,
+    }
 }

@@ -3,7 +3,6 @@
 ghost use Rattle.std.specs.Prelude.{◌≡◌, ◌<◌, ◌≤◌, ◌++◌, [], length, Contains, IfOk, OnOk, OnErr, IsErr, Some};
 ghost use Rattle.std.specs.Io.{WritesAtMost};
 ghost use Rattle.std.specs.Io.KnownBytes.{WriteAppends};
-ghost use Rattle.sw_rules.specs.Faults.{Rose};
 ghost use Rattle.sw_io.specs.Memory.{counted};
 
 use crate::sink::Sink;
@@ -65,7 +64,6 @@ impl Sink for MemorySink {
         ensures some { IfOk result (λ n. 0 < length piece.now → 0 < n) }
         ensures bytes { WriteAppends (Some self.old.held) (Some self.new.held) result piece.now }
         ensures count { self.old.faults ≤ self.new.faults }
-        ensures failed { OnErr result (Rose self.old.faults self.new.faults) }
         ensures ok { OnOk result (self.new ≡ record self.old {
           held = self.old.held ++ piece.now;
           calls = counted self.old.calls;

@@ -1,15 +1,14 @@
 //! A source in memory.
 
-ghost use Rattle.std.specs.Prelude.{◌≡◌, ◌+◌, ◌≤◌, ◌↔◌, min, length, drop, Contains, IfOk, OnErr, IsErr, Some};
+ghost use Rattle.std.specs.Prelude.{◌≡◌, ◌≤◌, ◌↔◌, min, length, drop, Contains, IfOk, OnErr, IsErr, Some};
 ghost use Rattle.std.specs.Io.{ReadsAtMost};
 ghost use Rattle.std.specs.Io.KnownBytes.{ReadConsumes};
-ghost use Rattle.sw_rules.specs.Faults.{Rose};
 ghost use Rattle.sw_io.specs.Memory.{counted};
 
 use crate::remaining::Remaining;
 use crate::source::{Failed, Source};
 use std::marker::Model;
-use sw_rules::Bytes;
+use sw_data::Bytes;
 
 /// A source of these bytes, of which the reads whose numbers are listed fail.
 #[derive(Drop)]
@@ -58,8 +57,6 @@ impl Source for MemorySource {
         ensures within { ReadsAtMost result into.new }
         ensures bytes { ReadConsumes (Some self.old.left) (Some self.new.left) result into.new }
         ensures count { self.old.faults ≤ self.new.faults }
-        ensures failed { OnErr result (Rose self.old.faults self.new.faults) }
-        ensures once { self.new.calls ≤ self.old.calls + 1 }
         ensures ok { IfOk result (λ n. self.new ≡ record self.old {
           left = drop n self.old.left;
           calls = counted self.old.calls;

@@ -1,19 +1,18 @@
 -- The lane that is there is the recording's one lane.
-use Rattle.std.proofs.Common.{◌≡◌, ◌∙◌, ◌∷◌, [], List, ap, sym, subst, arith}
+use Rattle.std.proofs.Common.{◌≡◌, ◌∙◌, List, [], IfOk, sym, subst, rules}
 use Rattle.std.specs.Vec.Iter.{into_iter_items}
-use Rattle.sw_rules.specs.declared.recordings.Action.{Action}
-use Rattle.sw_rules.specs.declared.recordings.Recording.{Recording}
-use Rattle.sw_rules.specs.Grammar.{one_lane}
-use Rattle.sw_host.specs.Play.{HasPlayed}
-use Rattle.sw_host.proofs.PlayLemmas.{whole_of_played}
+use Rattle.sw_data.specs.declared.recordings.Action.{Action}
+use Rattle.sw_host.specs.Play.{HasPlayedAll}
+use Rattle.sw_host.proofs.PlayLemmas.{whole_of_begun, whole_of_lane}
 use Rattle.sw_host.proofs.play.play.Goals as goal
+
+pub returns-in-Some : goal.returns-in-Some
+returns-in-Some c =
+    whole_of_lane c.args.recording c.in-Some.actions (into_iter_items c.next.new.self) c.play_lane.result
+    (sym c.into_vec.ensures ∙ sym c.into_iter.ensures.rest ∙ c.in-Some.ensures.items) c.requires
+    (subst (λ (actions : List Action). IfOk c.play_lane.result (λ history. HasPlayedAll actions history.items)) c.into_vec-in-Some.ensures c.play_lane.ensures)
 
 pub returns : goal.returns
 returns c =
-    let lanes : c.args.recording.lanes ≡ c.requires.0 ∷ [] = ap (λ (r : Recording). r.lanes) c.requires.1 in
-    let items = c.in-Some.ensures.items in
-    let rest = c.into_iter.ensures.rest in
-    let vec = c.into_vec.ensures in
-    let same : c.requires.0 ≡ c.in-Some.actions = cc in
-    whole_of_played c.args.recording c.in-Some.actions c.in_ok-history.history.items (c.requires.1 ∙ ap one_lane same)
-    (subst (λ (actions : List Action). HasPlayed actions c.in_ok-history.history.items) c.into_vec-2.ensures c.in_ok-history.ensures)
+    let none : into_iter_items c.into_iter.result ≡ [] = search rules in
+    whole_of_begun c.args.recording c.begun.result (sym c.into_vec.ensures ∙ sym c.into_iter.ensures.rest ∙ none) c.begun.ensures

@@ -1,5 +1,5 @@
 use Rattle.std.proofs.Common.{◌≡◌, take}
-use Rattle.sw_rules.specs.Headers.{normal_lines}
+use Rattle.sw_data.specs.Headers.{normal_lines}
 use Rattle.sw_http.proofs.lines.normal_lines.Given as goal
 
 abbrev pub invariant-loop-line : goal.invariant-loop-line

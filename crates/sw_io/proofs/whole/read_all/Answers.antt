@@ -1,7 +1,7 @@
 use Rattle.std.proofs.Common.{◌<◌, List, ℕ, Option, None, Some, refl, ap, length, length-append, arith}
 use Rattle.std.specs.Io.KnownBytes.{Consumes}
 use Rattle.std.proofs.KnownBytes.{Consumes-trans}
-use Rattle.sw_rules.specs.Streams.{Tells}
+use Rattle.sw_data.specs.Streams.{Tells}
 use Rattle.sw_io.proofs.whole.read_all.Goals as goal
 
 -- a source that lost so many bytes had as many left

@@ -1,104 +1,69 @@
-use Rattle.std.proofs.Common.{◌≡◌, length, replicate, sym, ◌∙◌, subst, arith}
-use Rattle.sw_rules.specs.Image.{Image, get, put}
-use Rattle.sw_rules.specs.DiskRule.{ForTold, Tells, OnPart, Only, Follows, Torn, LeavesOnly, written}
-use Rattle.sw_rules.specs.Format.{format_2}
-use Rattle.sw_rules.specs.Content.{IsFresh}
-use Rattle.sw_rules.specs.Journal.{Stepped}
-use Rattle.sw_disk.proofs.Moments.{started, goes_on, all_since}
-use Rattle.sw_journal.specs.Init.{IsBegun, IsFormatted, SinceTwoCalls}
-use Rattle.sw_journal.proofs.Images.{told_some, told_at, tells_then, on_ok, done, two_steps}
-use Rattle.sw_journal.proofs.Fresh.{IsShut, shut_fresh, zeroed, with_header, zeros_crash, zeros_written, header_crash, begun}
+use Rattle.std.proofs.Common.{◌≡◌, ◌+◌, inl, inr, length, replicate, subst, arith}
+use Rattle.sw_disk.specs.Image.{Image, get}
+use Rattle.sw_disk.specs.DiskRule.{ForTold, OnPart, Puts, written, capped}
+use Rattle.sw_disk.specs.Meanings.{Becomes}
+use Rattle.sw_disk.proofs.Images.{told_some, ok_so}
+use Rattle.sw_disk.proofs.Stages.{put_so, put_twice, first_write, both_writes, since_first}
+use Rattle.sw_journal.specs.Format.{format_2}
+use Rattle.sw_journal.specs.Content.{IsFresh}
+use Rattle.sw_journal.specs.Init.{first_bytes, IsBegun, IsFormatted, IsFreshIn, SinceTwoCalls, FromSecondCall}
+use Rattle.sw_journal.proofs.Fresh.{torn_fresh, header_over_zeros, formatted}
 use Rattle.sw_journal.proofs.formatting.write_fresh.Goals as goal
 
-pub returns-in_err-write_at-2-clause-any_moment : goal.returns-in_err-write_at-2-clause-any_moment
-returns-in_err-write_at-2-clause-any_moment g c =
-    let clock = g.D.Disk.clock in
-    let since = g.D.Disk.left_since in
-    let leave = g.D.Disk.may_leave in
-    let seen = g.D.Disk.seen in
-    let start = c.args.disk.now in
-    let part = c.args.part in
-    told_some (seen start) (λ image. LeavesOnly clock since start c.write_at-2.new.self (Stepped part (IsBegun (length (get part image))) (leave start))) (λ image is.
-    let P = Stepped part (IsBegun (length (get part image))) (leave start) in
-    let was : leave start image = told_at (seen start) (leave start) image is (g.met.D.Disk.shows start) in
-    let zeros = zeros_crash part (seen start) (leave start) (leave c.write_at.new.self) image is c.write_at.ensures.crash in
-    let wrote = goes_on clock since start start c.write_at.new.self P (leave c.write_at.new.self) (started clock since start P) c.write_at.ensures.time zeros in
-    let synced = goes_on clock since start c.write_at.new.self c.sync.new.self P (leave c.sync.new.self) wrote c.sync.ensures.time (λ f now. zeros f (c.sync.ensures.crash f now)) in
-    let next = zeros_written part (seen start) (seen c.write_at.new.self) image is c.in_ok-write_at.ensures.ok in
-    let sure : Only next.0 (leave c.sync.new.self) = told_at (seen c.write_at.new.self) (λ i. Only i (leave c.sync.new.self)) next.0 next.1 c.in_ok-sync.ensures.durable in
-    let follows = told_at (seen c.sync.new.self) (λ old. Follows (OnPart part (Torn (length (get part old)) 0 16)) (leave c.sync.new.self) (leave c.write_at-2.new.self)) next.0
-    (c.sync.ensures.seen ∙ next.1) c.write_at-2.ensures.crash in
-    let header = header_crash part (leave c.sync.new.self) (leave c.write_at-2.new.self) image next.0 next.2 sure follows in
-    goes_on clock since start c.sync.new.self c.write_at-2.new.self P (leave c.write_at-2.new.self) synced c.write_at-2.ensures.time (λ f now. begun part (leave start) image f was (header f now)))
+pub returns-in_err-write_synced-clause-any_moment : goal.returns-in_err-write_synced-clause-any_moment
+returns-in_err-write_synced-clause-any_moment g c =
+    first_write g.D.Disk c.args.part c.args.disk.now c.write_synced.new.disk c.write_synced.new.disk (λ image. IsBegun (length (get c.args.part image))) 0 17
+    (λ image old new torn. inl torn) c.write_synced.ensures.any_moment
 
 pub returns-clause-any_moment : goal.returns-clause-any_moment
 returns-clause-any_moment g c =
-    let clock = g.D.Disk.clock in
-    let since = g.D.Disk.left_since in
-    let leave = g.D.Disk.may_leave in
-    let seen = g.D.Disk.seen in
-    let start = c.args.disk.now in
-    let part = c.args.part in
-    told_some (seen start) (λ image. LeavesOnly clock since start c.sync-2.new.self (Stepped part (IsBegun (length (get part image))) (leave start))) (λ image is.
-    let P = Stepped part (IsBegun (length (get part image))) (leave start) in
-    let was : leave start image = told_at (seen start) (leave start) image is (g.met.D.Disk.shows start) in
-    let zeros = zeros_crash part (seen start) (leave start) (leave c.write_at.new.self) image is c.write_at.ensures.crash in
-    let wrote = goes_on clock since start start c.write_at.new.self P (leave c.write_at.new.self) (started clock since start P) c.write_at.ensures.time zeros in
-    let synced = goes_on clock since start c.write_at.new.self c.sync.new.self P (leave c.sync.new.self) wrote c.sync.ensures.time (λ f now. zeros f (c.sync.ensures.crash f now)) in
-    let next = zeros_written part (seen start) (seen c.write_at.new.self) image is c.in_ok-write_at.ensures.ok in
-    let sure : Only next.0 (leave c.sync.new.self) = told_at (seen c.write_at.new.self) (λ i. Only i (leave c.sync.new.self)) next.0 next.1 c.in_ok-sync.ensures.durable in
-    let follows = told_at (seen c.sync.new.self) (λ old. Follows (OnPart part (Torn (length (get part old)) 0 16)) (leave c.sync.new.self) (leave c.write_at-2.new.self)) next.0
-    (c.sync.ensures.seen ∙ next.1) c.write_at-2.ensures.crash in
-    let header = header_crash part (leave c.sync.new.self) (leave c.write_at-2.new.self) image next.0 next.2 sure follows in
-    let headed = goes_on clock since start c.sync.new.self c.write_at-2.new.self P (leave c.write_at-2.new.self) synced c.write_at-2.ensures.time (λ f now. begun part (leave start) image f was (header f now)) in
-    goes_on clock since start c.write_at-2.new.self c.sync-2.new.self P (leave c.sync-2.new.self) headed c.sync-2.ensures.time (λ f now. begun part (leave start) image f was (header f (c.sync-2.ensures.crash f now))))
+    both_writes g.D.Disk c.args.part c.args.disk.now c.write_synced.new.disk c.write_synced-2.new.disk (λ image. IsBegun (length (get c.args.part image))) 0 17 (written 0 (replicate 17 0)) 0 16
+    (λ image old new torn. inl torn) (λ image is new torn. inr (torn_fresh (get c.args.part image) new torn))
+    (g.met.D.Disk.shows c.args.disk.now) c.write_synced.ensures.any_moment c.in_ok-write_synced.ensures.written c.in_ok-write_synced.ensures.durable c.write_synced-2.ensures.any_moment
 
-pub returns-clause-from_first_sync : goal.returns-clause-from_first_sync
-returns-clause-from_first_sync g c =
-    let clock = g.D.Disk.clock in
-    let since = g.D.Disk.left_since in
-    let leave = g.D.Disk.may_leave in
-    let seen = g.D.Disk.seen in
-    let start = c.args.disk.now in
+pub returns-clause-bytes : goal.returns-clause-bytes
+returns-clause-bytes g c =
+    let disk = g.D.Disk in
     let part = c.args.part in
-    let Q : Image → Type 0 = λ f. IsFresh (get part f) in
-    on_ok c.sync-2.result (ForTold (seen start) (λ image. SinceTwoCalls clock since c.sync-2.new.self Q))
-    (told_some (seen start) (λ image. SinceTwoCalls clock since c.sync-2.new.self Q) (λ image is.
-    let P = Stepped part (IsBegun (length (get part image))) (leave start) in
-    let was : leave start image = told_at (seen start) (leave start) image is (g.met.D.Disk.shows start) in
-    let zeros = zeros_crash part (seen start) (leave start) (leave c.write_at.new.self) image is c.write_at.ensures.crash in
-    let wrote = goes_on clock since start start c.write_at.new.self P (leave c.write_at.new.self) (started clock since start P) c.write_at.ensures.time zeros in
-    let synced = goes_on clock since start c.write_at.new.self c.sync.new.self P (leave c.sync.new.self) wrote c.sync.ensures.time (λ f now. zeros f (c.sync.ensures.crash f now)) in
-    let next = zeros_written part (seen start) (seen c.write_at.new.self) image is c.in_ok-write_at.ensures.ok in
-    let sure : Only next.0 (leave c.sync.new.self) = told_at (seen c.write_at.new.self) (λ i. Only i (leave c.sync.new.self)) next.0 next.1 c.in_ok-sync.ensures.durable in
-    let follows = told_at (seen c.sync.new.self) (λ old. Follows (OnPart part (Torn (length (get part old)) 0 16)) (leave c.sync.new.self) (leave c.write_at-2.new.self)) next.0
-    (c.sync.ensures.seen ∙ next.1) c.write_at-2.ensures.crash in
-    let header = header_crash part (leave c.sync.new.self) (leave c.write_at-2.new.self) image next.0 next.2 sure follows in
-    let middle = c.sync.new.self in
-    let fresh : (f : Image) → leave c.write_at-2.new.self f → Q f = λ f now. shut_fresh (get part f) (header f now).here in
-    let here : (f : Image) → leave middle f → Q f = λ f now. shut_fresh (get part f) (subst (λ i. IsShut (get part i)) (sym (sure f now)) next.2.here) in
-    let one = goes_on clock since middle middle c.write_at-2.new.self Q (leave c.write_at-2.new.self) (started clock since middle Q) c.write_at-2.ensures.time fresh in
-    let two = goes_on clock since middle c.write_at-2.new.self c.sync-2.new.self Q (leave c.sync-2.new.self) one c.sync-2.ensures.time (λ f now. fresh f (c.sync-2.ensures.crash f now)) in
-    record {
-      from = clock middle;
-      two_calls = omega (arith, c.write_at-2.ensures.time.ticks, c.sync-2.ensures.time.ticks);
-      each = λ ticking. all_since clock since middle c.sync-2.new.self Q (leave middle) (λ f left. g.met.D.Disk.only_now middle f ticking left) here two;
-    }))
+    ok_so c.write_synced-2.result (Becomes disk c.write_synced.new.disk c.write_synced-2.new.disk (Puts part (written 0 format_2.header))) (Becomes disk c.args.disk.now c.write_synced-2.new.disk (Puts part (written 0 first_bytes)))
+    (put_twice disk part c.args.disk.now c.write_synced.new.disk c.write_synced-2.new.disk (written 0 (replicate 17 0)) (written 0 format_2.header) (written 0 first_bytes)
+    (λ image is. header_over_zeros (get part image)) c.in_ok-write_synced.ensures.written) c.write_synced-2.ensures.written
 
 pub returns-clause-formatted : goal.returns-clause-formatted
 returns-clause-formatted g c =
-    let clock = g.D.Disk.clock in
-    let since = g.D.Disk.left_since in
-    let leave = g.D.Disk.may_leave in
-    let seen = g.D.Disk.seen in
-    let start = c.args.disk.now in
+    let disk = g.D.Disk in
+    ok_so c.write_synced-2.result (Becomes disk c.args.disk.now c.write_synced-2.new.disk (Puts c.args.part (written 0 first_bytes))) (Becomes disk c.args.disk.now c.write_synced-2.new.disk (OnPart c.args.part IsFormatted))
+    (put_so disk c.args.part c.args.disk.now c.write_synced-2.new.disk (written 0 first_bytes) IsFormatted (λ image is. formatted (get c.args.part image))) (returns-clause-bytes g c)
+
+pub returns-clause-from_first_sync : goal.returns-clause-from_first_sync
+returns-clause-from_first_sync g c =
+    let disk = g.D.Disk in
     let part = c.args.part in
-    let both = tells_then (seen start) (seen c.write_at.new.self) (seen c.write_at-2.new.self)
-    (λ a b. b ≡ put part (written 0 (replicate 17 0) (get part a)) a) (λ a b. b ≡ put part (written 0 format_2.header (get part a)) a) (OnPart part IsFormatted)
-    (λ a b d is one two.
-    let first = done part (λ x y. IsShut y) (written 0 (replicate 17 0) (get part a)) a b one (zeroed (get part a)) in
-    let second = done part (λ x y. IsFormatted x y) (written 0 format_2.header (get part b)) b d two (with_header (get part b) first.here) in
-    two_steps part (λ x y. IsShut y) IsFormatted IsFormatted a b d first second (λ shut formatted. formatted))
-    c.in_ok-write_at.ensures.ok (subst (λ s. Tells s (seen c.write_at-2.new.self) (λ a b. b ≡ put part (written 0 format_2.header (get part a)) a)) c.sync.ensures.seen c.in_ok-write_at-2.ensures.ok) in
-    on_ok c.sync-2.result (Tells (seen start) (seen c.sync-2.new.self) (OnPart part IsFormatted))
-    (subst (λ s. Tells (seen start) s (OnPart part IsFormatted)) (sym c.sync-2.ensures.seen) both)
+    let start = c.args.disk.now in
+    let middle = c.write_synced.new.disk in
+    let end = c.write_synced-2.new.disk in
+    ok_so c.write_synced-2.result (disk.clock end ≡ capped (disk.clock middle + 2)) (ForTold (disk.seen start) (λ image. SinceTwoCalls disk end (IsFreshIn part image)))
+    (λ calls. told_some (disk.seen start) (λ image. SinceTwoCalls disk end (IsFreshIn part image)) (λ image is. record {
+      from = disk.clock middle;
+      two_calls = calls;
+      each = since_first disk part start middle end (written 0 (replicate 17 0)) 0 16 c.in_ok-write_synced.ensures.written c.in_ok-write_synced.ensures.durable c.write_synced-2.ensures.any_moment
+          image is IsFresh (torn_fresh (get part image)) (λ f going left. g.met.D.Disk.only_now middle f going left);
+    })) c.write_synced-2.ensures.calls
+
+pub returns-clause-since_first_sync : goal.returns-clause-since_first_sync
+returns-clause-since_first_sync g c =
+    let disk = g.D.Disk in
+    let part = c.args.part in
+    let start = c.args.disk.now in
+    let middle = c.write_synced.new.disk in
+    let end = c.write_synced-2.new.disk in
+    told_some (disk.seen start) (λ image. FromSecondCall disk 0 start end (IsFreshIn part image)) (λ image is. record {
+      start = disk.clock start;
+      soon = omega arith;
+      most = omega (arith, c.write_synced.ensures.most, c.write_synced-2.ensures.most);
+      each = λ more.
+          let at : disk.clock middle ≡ disk.clock start + 2 = omega (arith, more, c.in_ok-write_synced.ensures.calls, c.write_synced-2.ensures.most) in
+          subst (λ t. (f : Image) → disk.left_since end t f → IsFreshIn part image f) at
+          (since_first disk part start middle end (written 0 (replicate 17 0)) 0 16 c.in_ok-write_synced.ensures.written c.in_ok-write_synced.ensures.durable c.write_synced-2.ensures.any_moment
+          image is IsFresh (torn_fresh (get part image)) (λ f going left. g.met.D.Disk.only_now middle f going left) (omega (arith, more, at, c.write_synced-2.ensures.most)));
+    })

@@ -1,8 +1,8 @@
 use Rattle.std.proofs.Common.{arith, ◌≡◌, ◌≤◌, List, ℕ, [], ◌∷◌, length, get_or, take, length-drop, sym, ◌∙◌, ap, refl}
 use Rattle.std.proofs.lemmas.List.{take_rest}
 use Rattle.std.specs.Int.{w32, from_be_bytes}
-use Rattle.sw_rules.specs.Format.{is_numbered}
-use Rattle.sw_rules.proofs.PartLemmas.{Whole, payload_length-short, payload_length-unnumbered, is_whole}
+use Rattle.sw_journal.specs.Format.{is_numbered}
+use Rattle.sw_journal.proofs.PartLemmas.{Whole, payload_length-short, payload_length-unnumbered, is_whole}
 use Rattle.sw_journal.specs.Version.{format_at}
 use Rattle.sw_journal.proofs.parse.whole_length.Goals as goal
 

@@ -1,7 +1,7 @@
-use Rattle.std.proofs.Common.{◌≡◌, ◌+◌, take, subst}
-use Rattle.sw_rules.specs.Image.{get}
-use Rattle.sw_rules.specs.DiskRule.{ForTold}
-use Rattle.sw_journal.proofs.Images.{told_both}
+use Rattle.std.proofs.Common.{◌≡◌, ◌+◌, take, subst, arith}
+use Rattle.sw_disk.specs.Image.{get}
+use Rattle.sw_disk.specs.DiskRule.{ForTold}
+use Rattle.sw_disk.proofs.Images.{told_both}
 use Rattle.sw_journal.proofs.ReadLemmas.{quiet_then}
 use Rattle.sw_journal.proofs.read.read_front.Goals as goal
 
@@ -14,7 +14,8 @@ loop-at-preserved g c =
     let next = c.loop-at.at + c.in_ok-more.more in
     record {
       within = c.in_ok-more.ensures.fits;
-      quiet = quiet_then seen g.D.Disk.may_leave g.D.Disk.clock g.D.Disk.left_since g.D.Disk.faults start c.loop-at.disk c.read_on.new.disk c.loop-at.invariant.quiet c.read_on.ensures.quiet;
+      calls = omega (arith, c.loop-at.invariant.calls, c.read_on.ensures.calls, c.if-more-eq0.false);
+      quiet = quiet_then g.D.Disk start c.loop-at.disk c.read_on.new.disk c.loop-at.invariant.quiet c.read_on.ensures.quiet;
       front = told_both (seen start) (λ image. take at c.loop-at.bytes ≡ take at (get part image))
           (λ image. take at c.loop-at.bytes ≡ take at (get part image) → take next c.read_on.new.bytes ≡ take next (get part image))
           (λ image. take next c.read_on.new.bytes ≡ take next (get part image)) c.loop-at.invariant.front

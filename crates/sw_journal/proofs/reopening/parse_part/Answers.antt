@@ -1,6 +1,6 @@
 use Rattle.std.proofs.Common.{Bool, ◌∙◌, ap}
-use Rattle.sw_rules.specs.Content.{content_of_reading}
-use Rattle.sw_rules.proofs.PartChanges.{content-unformatted, content-reads}
+use Rattle.sw_journal.specs.Content.{content_of_reading}
+use Rattle.sw_journal.proofs.PartChanges.{content-unformatted, content-reads}
 use Rattle.sw_journal.specs.Version.{format_at}
 use Rattle.sw_journal.proofs.reopening.parse_part.Goals as goal
 

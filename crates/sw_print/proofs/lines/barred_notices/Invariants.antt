@@ -1,5 +1,5 @@
 use Rattle.std.proofs.Common.{◌≡◌, string_bytes, take, flat_map}
-use Rattle.sw_rules.specs.Transcript.{barred}
+use Rattle.sw_print.specs.Transcript.{barred}
 use Rattle.sw_print.proofs.lines.barred_notices.Given as goal
 
 abbrev pub invariant-loop-notice : goal.invariant-loop-notice

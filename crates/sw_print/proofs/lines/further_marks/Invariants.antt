@@ -1,5 +1,5 @@
 use Rattle.std.proofs.Common.{◌≡◌, string_bytes, take, flat_map}
-use Rattle.sw_rules.specs.Transcript.{further}
+use Rattle.sw_print.specs.Transcript.{further}
 use Rattle.sw_print.proofs.lines.further_marks.Given as goal
 
 abbrev pub invariant-loop-event : goal.invariant-loop-event

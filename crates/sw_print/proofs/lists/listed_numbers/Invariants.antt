@@ -1,5 +1,5 @@
 use Rattle.std.proofs.Common.{◌≡◌, string_bytes, ◌++◌, length, take, flat_map, decimal}
-use Rattle.sw_rules.specs.Transcript.{numbered, spaced}
+use Rattle.sw_print.specs.Transcript.{numbered, spaced}
 use Rattle.sw_print.proofs.lists.listed_numbers.Given as goal
 
 abbrev pub invariant-loop-number : goal.invariant-loop-number

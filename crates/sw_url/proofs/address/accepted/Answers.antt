@@ -2,7 +2,7 @@ use Rattle.std.proofs.Common.{◌≡◌, ◌∙◌, sym, ap, true, arith}
 use Rattle.std.specs.Prelude.{option_map}
 use Rattle.url.specs.Origin.{is_http}
 use Rattle.url.specs.Parser.{parse_url}
-use Rattle.sw_rules.specs.Addresses.{no_fragment, when_parsed}
+use Rattle.sw_data.specs.Addresses.{no_fragment, when_parsed}
 use Rattle.sw_url.proofs.AgainLemmas.{parses_bare, parsed_some}
 use Rattle.sw_url.proofs.address.accepted.Goals as goal
 

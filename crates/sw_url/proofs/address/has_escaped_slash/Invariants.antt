@@ -1,5 +1,5 @@
 use Rattle.std.proofs.Common.{◌≡◌, length}
-use Rattle.sw_rules.specs.Addresses.{has_escaped_slash}
+use Rattle.sw_data.specs.Addresses.{has_escaped_slash}
 use Rattle.sw_url.proofs.address.has_escaped_slash.Given as goal
 
 abbrev pub invariant-loop-rest : goal.invariant-loop-rest

@@ -1,6 +1,6 @@
 use Rattle.std.proofs.Common.{◌≡◌, ◌∙◌, List, ℕ, Some, Ok, ap, subst, sym}
 use Rattle.url.specs.Parts.{IsValid, serialize}
-use Rattle.sw_rules.specs.Addresses.{resolved}
+use Rattle.sw_data.specs.Addresses.{resolved}
 use Rattle.sw_url.proofs.ResolvedLemmas.{answered, answered_again}
 use Rattle.sw_url.proofs.address.resolved.Goals as goal
 

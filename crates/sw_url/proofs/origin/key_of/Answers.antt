@@ -1,6 +1,6 @@
 use Rattle.std.proofs.Common.{◌∙◌, ap, sym, subst}
 use Rattle.url.specs.Parts.{IsValid}
-use Rattle.sw_rules.specs.Addresses.{origin_of}
+use Rattle.sw_data.specs.Addresses.{origin_of}
 use Rattle.sw_url.proofs.KeyLemmas.{key_origin_answer}
 use Rattle.sw_url.proofs.origin.key_of.Goals as goal
 

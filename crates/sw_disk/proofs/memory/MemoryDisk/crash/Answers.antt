@@ -1,5 +1,5 @@
 use Rattle.std.proofs.Common.{length, ap, sym, ◌∙◌, subst}
-use Rattle.sw_rules.specs.Image.{get}
+use Rattle.sw_disk.specs.Image.{get}
 use Rattle.sw_disk.specs.Memory.{MayLeave}
 use Rattle.sw_disk.proofs.PickSteps.{picked_allowed, lengths_picked}
 use Rattle.sw_disk.proofs.memory.MemoryDisk.crash.Goals as goal

@@ -1,5 +1,5 @@
 use Rattle.std.proofs.Common.{◌∙◌, refl, sym, ap, subst}
-use Rattle.sw_rules.specs.DiskRule.{PendingCut}
+use Rattle.sw_disk.specs.DiskRule.{PendingCut}
 use Rattle.sw_disk.specs.Memory.{MayLeave}
 use Rattle.sw_disk.proofs.Moved.{step_kept, same_kept}
 use Rattle.sw_disk.proofs.memory.MemoryDiskDisk.cut.Goals as goal

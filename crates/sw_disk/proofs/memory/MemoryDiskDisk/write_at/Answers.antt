@@ -1,6 +1,6 @@
 use Rattle.std.proofs.Common.{◌∙◌, length, refl, sym, ap, subst, arith}
-use Rattle.sw_rules.specs.Image.{get}
-use Rattle.sw_rules.specs.DiskRule.{Torn}
+use Rattle.sw_disk.specs.Image.{get}
+use Rattle.sw_disk.specs.DiskRule.{Torn}
 use Rattle.sw_disk.specs.Memory.{image_of, MayLeave}
 use Rattle.sw_disk.proofs.Moved.{step_kept, same_kept}
 use Rattle.sw_disk.proofs.memory.MemoryDiskDisk.write_at.Goals as goal

@@ -1,6 +1,6 @@
 -- Plain caches stay plain.
 use Rattle.std.proofs.Common.{◌≡◌, ◌∙◌, sym, ap, subst, List, length, arith}
-use Rattle.sw_rules.specs.declared.storage.KeptCache.{KeptCache}
+use Rattle.sw_data.specs.declared.storage.KeptCache.{KeptCache}
 use Rattle.sw_rules.specs.Storage.{with_cache}
 use Rattle.sw_host.specs.Plain.{ArePlainCaches, with_pair}
 use Rattle.std.proofs.lemmas.List.{with_items_is}

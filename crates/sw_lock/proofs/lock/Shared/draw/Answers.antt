@@ -9,6 +9,6 @@ fetch_add-requires g c =
     let alone = c.requires.idle.alone in (
       c.requires.table,
       omega arith,
-      draws g.T.Logged.base g.T.Logged.log g.T.Logged.maker g.T.Logged.passes lock.table.shared.key.opened.value lock.table.shared.key.made
+      draws g.T.Logged lock.table.shared.key.opened.value lock.table.shared.key.made
           lock.table.shared.table_id.slots c.args.seat.now.id c.args.seat.now.me c.requires.idle.ticket c.requires.idle.place (omega arith) c.requires.room,
     )

@@ -9,6 +9,6 @@ split_seat-seat-requires g c =
     let first = c.args.first.now in (
       c.requires.pass,
       omega arith,
-      splits_first g.T.Logged.base g.T.Logged.log g.T.Logged.maker g.T.Logged.passes lock.table.shared.key.opened.value lock.table.shared.key.made
+      splits_first g.T.Logged lock.table.shared.key.opened.value lock.table.shared.key.made
           first.seat.id c.args.next first.seat.me c.requires.first first.idle c.requires.few,
     )

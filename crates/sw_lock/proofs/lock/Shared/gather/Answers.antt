@@ -20,7 +20,7 @@ join_seat-requires g c =
           (first_has (λ p. p.seat.table_id ≡ lock.table.shared.table_id) (into_iter_items at.pass-iterator) (into_iter_items c.next.new.self) pass c.in-Some.ensures.steps.0 at.invariant.same),
       idle.empty,
       omega arith,
-      joins g.T.Logged.base g.T.Logged.log g.T.Logged.maker g.T.Logged.passes lock.table.shared.key.opened.value lock.table.shared.key.made at.seat.id other.id at.seat.me.0 other.me.0
+      joins g.T.Logged lock.table.shared.key.opened.value lock.table.shared.key.made at.seat.id other.id at.seat.me.0 other.me.0
           (omega arith) (omega arith) idle.ticket idle.place,
     )
 

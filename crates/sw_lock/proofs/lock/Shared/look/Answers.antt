@@ -10,6 +10,6 @@ load-requires g c =
     let alone = c.args.pass.now.idle.alone in (
       c.requires.0,
       omega arith,
-      looks g.T.Logged.base g.T.Logged.log g.T.Logged.maker g.T.Logged.passes lock.table.shared.key.opened.value lock.table.shared.key.made
+      looks g.T.Logged lock.table.shared.key.opened.value lock.table.shared.key.made
           lock.table.shared.table_id.slots seat.id seat.me (omega arith),
     )

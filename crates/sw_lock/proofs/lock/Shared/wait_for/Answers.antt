@@ -12,7 +12,7 @@ load-served-requires g c =
     let alone = c.requires.alone in (
       c.wait.invariant.table ∙ c.requires.table,
       omega arith,
-      sees g.T.Logged.base g.T.Logged.log g.T.Logged.maker g.T.Logged.passes lock.table.shared.key.opened.value lock.table.shared.key.made
+      sees g.T.Logged lock.table.shared.key.opened.value lock.table.shared.key.made
           lock.table.shared.table_id.slots c.wait.seat.id c.args.ticket c.wait.seat.me
           (ap (λ (m : Sat g.row.T.Denot g.row.T-Entry.Denot). m.0.ticket) same ∙ c.requires.drawn)
           (ap (λ (m : Sat g.row.T.Denot g.row.T-Entry.Denot). m.0.place) same ∙ c.requires.place)

@@ -1,5 +1,5 @@
 use Rattle.std.proofs.Common.{◌≡◌, ◌≤◌, inr, length, OnOk, OnErr, ap, sym, subst, arith}
-use Rattle.sw_rules.specs.DiskRule.{Torn, written}
+use Rattle.sw_disk.specs.DiskRule.{Torn, written}
 use Rattle.sw_disk.proofs.Doubts.{wrote, torn_either, same_torn_write, on_ok, on_err}
 use Rattle.sw_disk.proofs.memory.part.MemoryPart.write.Goals as goal
 

@@ -1,0 +1,13 @@
+//! The kept content as a table, on which durable changes are carried out one after the other.
+#![tactic(auto)]
+
+mod checkpoint;
+pub mod laws;
+mod registration;
+mod registrations;
+
+pub use checkpoint::changes_of;
+pub use registrations::Registrations;
+
+#[cfg(test)]
+mod tests;

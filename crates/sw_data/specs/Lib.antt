@@ -1,0 +1,9 @@
+pub mod Addresses
+pub mod Events
+pub mod Exchange
+pub mod Faults
+pub mod Headers
+pub mod Keys
+pub mod Media
+pub mod Sameness
+pub mod Streams

@@ -1,0 +1,289 @@
+-- The split over jobs: scheduling, running, the fetch of a script, its evaluation, and the end of an install handler.
+use Rattle.std.proofs.Common.{◌≡◌, ◌∙◌, ℕ, Bool, true, false, ◌&&◌, ◌||◌, ◌==◌, List, [], ◌∷◌, length, Option, Some, None, IfSome, option_map, refl, ap, arith, if◌then◌else◌}
+use Rattle.std.specs.Prelude.{option_and_then}
+use Rattle.std.specs.List.{list_any}
+use Rattle.std.proofs.lemmas.Bool.Decides.{nat_tests}
+use Rattle.std.proofs.lemmas.List.Folds.{find-append}
+use Rattle.sw_data.specs.declared.answers.Fault.{Fault}
+use Rattle.sw_data.specs.declared.answers.Settlement.{Settlement}
+use Rattle.sw_data.specs.declared.answers.Settlement.TheVariants as settlement
+use Rattle.sw_data.specs.declared.events.Who.{Who}
+use Rattle.sw_data.specs.declared.recordings.Fetched.{Fetched}
+use Rattle.sw_data.specs.declared.recordings.FetchLine.{FetchLine}
+use Rattle.sw_data.specs.declared.rows.Job.{Job}
+use Rattle.sw_data.specs.declared.rows.JobRow.{JobRow}
+use Rattle.sw_data.specs.declared.rows.JobKind.{JobKind}
+use Rattle.sw_data.specs.declared.rows.JobKind.TheVariants as job_kind
+use Rattle.sw_data.specs.declared.rows.JobPhase.{JobPhase}
+use Rattle.sw_data.specs.declared.workers.Mode.{Mode}
+use Rattle.sw_data.specs.Addresses.{same_origin}
+use Rattle.sw_rules.specs.Jobs.{finish, gets_value, promise, resolve_and_finish, schedule, settle}
+use Rattle.sw_rules.specs.Installing.{ended_handler, evaluated, evaluated_worker, fetch_ended, fetched, fetched_of, fetched_script, install, install_ended, installed, is_same_script, job_worker, keep_script, reject_and_drop, script_fault}
+use Rattle.sw_rules.specs.Registering.{has_script, is_registered, may_run, register_refusal, rejected, run, run_allowed_register, run_job, run_register, run_unregister, run_update, scheduled_by, unregister_mapped}
+use Rattle.sw_rules.specs.Registrations.{clear, drop_registration, map_registration, new_registration, set_mode, try_clear, unmap}
+use Rattle.sw_rules.specs.Rows.{changed, in_phase, is_evaluating, is_fetching, is_install, is_installing, is_job, is_mapped, is_registration, is_mapped_to, job_row, mapped_registration}
+use Rattle.sw_rules.specs.State.{State, Registration, Worker, Handler, of_job, value}
+use Rattle.sw_rules.specs.Told.{Told, Outcome, followed, quiet}
+use Rattle.sw_laws.specs.Coherent.{is_there}
+use Rattle.sw_laws.proofs.Lists.{bound_holds, bytes_eq_same, by_option, by_test, find_changed, find_passes, length_pushed, mapped_holds}
+use Rattle.sw_laws.proofs.Split.{IsLaw, IsAt, IsInstalled, may_end, may_finish, try_clear-law}
+
+-- ---- look-ups along the chains
+
+-- a job that was found is found by its own number
+found_by_own : (state : State) (number : ℕ) (row : JobRow) → job_row state number ≡ Some row → job_row state row.job.number ≡ Some row
+found_by_own state number row is =
+    let same : row.job.number ≡ number = grind (arith, nat_tests, find_passes (is_job number) state.jobs row is) in
+    ap (job_row state) same ∙ is
+
+-- a job whose promise settles may finish
+settled_may_finish : (state : State) (job : ℕ) (result : Settlement) → may_end state job ≡ true → may_finish (settle state job result).state job ≡ true
+unfolding settle
+settled_may_finish state job result is =
+    grind (arith, nat_tests, find_passes (is_job job) state.jobs, find_changed (is_job job) (is_job job) (λ row. if gets_value job row then record row { settled = Some result } else row) (λ row. grind arith) state.jobs)
+
+try_clear_jobs : (state : State) (registration : ℕ) → (try_clear state registration).state.jobs ≡ state.jobs
+unfolding try_clear clear
+try_clear_jobs state registration = grind arith
+
+drop_jobs : (state : State) (registration : ℕ) → (drop_registration state registration).state.jobs ≡ state.jobs
+unfolding drop_registration unmap
+drop_jobs state registration = grind arith
+
+never_mapped : (registration : ℕ) (rows : List Registration) → list_any (λ row. row.number == registration && row.mapped) (changed (is_registration registration) (λ row. record row { mapped = false }) rows) ≡ false
+never_mapped registration [] = refl
+never_mapped registration (row ∷ rows) = grind (arith, never_mapped registration rows)
+
+unmap_may_end : (state : State) (registration job : ℕ) → may_end state job ≡ true → may_end (unmap state registration).state job ≡ true
+unfolding unmap
+unmap_may_end state registration job may = may
+
+mode_may_end : (state : State) (registration job : ℕ) (mode : Mode) → may_end state job ≡ true → may_end (set_mode state registration mode).state job ≡ true
+unfolding set_mode
+mode_may_end state registration job mode may = may
+
+mode_at : (state : State) (registration : ℕ) (mode : Mode) (row : JobRow) (own : ℕ) → IsAt state is_evaluating row own → IsAt (set_mode state registration mode).state is_evaluating row own
+unfolding set_mode
+mode_at state registration mode row own at = record { found = at.found; phase = at.phase; registered = at.registered }
+
+mode_made : (state : State) (registration : ℕ) (mode : Mode) (row : JobRow) (worker : Worker) → job_worker state row ≡ Some worker → job_worker (set_mode state registration mode).state row ≡ Some worker
+unfolding set_mode
+mode_made state registration mode row worker made = made
+
+mapped_same : (state : State) (row : JobRow) → job_row state row.job.number ≡ Some row → job_row (map_registration state row.job).state row.job.number ≡ Some row
+unfolding map_registration
+mapped_same state row is = is
+
+mapped_may_run : (state : State) (row : JobRow) → may_run state row ≡ true → may_run (map_registration state row.job).state row ≡ true
+unfolding map_registration
+mapped_may_run state row may = may
+
+-- the registration that was mapped for a job is its mapped registration
+mapped_new : (state : State) (job : Job) → mapped_registration state job.key job.scope ≡ None → mapped_registration (map_registration state job).state job.key job.scope ≡ Some (new_registration (length state.registrations) job)
+unfolding map_registration
+mapped_new state job is =
+    find-append (is_mapped_to job.key job.scope) state.registrations (new_registration (length state.registrations) job ∷ [])
+    ∙ grind (arith, is, bytes_eq_same job.key, bytes_eq_same job.scope)
+
+-- a registration that left the map isn't mapped
+unmapped : (state : State) (registration job : ℕ) (result : Settlement) → is_mapped (settle (unmap state registration).state job result).state registration ≡ false
+unfolding unmap settle
+unmapped state registration job result = never_mapped registration state.registrations
+
+scheduled_there : (state : State) (job : Job) → job.number ≡ length state.jobs → let after = (schedule state job).state in is_there after.jobs after.tasks (of_job job.number) ≡ true
+unfolding schedule
+scheduled_there state job is = grind (arith, nat_tests, is, length_pushed)
+
+-- a job that may run may end
+run_may_end : (state : State) (row : JobRow) → job_row state row.job.number ≡ Some row → may_run state row ≡ true → may_end state row.job.number ≡ true
+run_may_end state row is may = grind (arith, is, may)
+
+fetching_may_end : (state : State) (row : JobRow) (registration : ℕ) → IsAt state is_fetching row registration → may_end state row.job.number ≡ true
+fetching_may_end state row registration at = grind (arith, at.found, at.phase)
+
+by_kind : (P : Outcome → Type 0) (what : JobKind) (one two three : Outcome) → P one → P two → P three
+    → P (elim what [ job_kind.Register ↦ one | job_kind.Update ↦ two | job_kind.Unregister ↦ three ])
+by_kind P job_kind.Register one two three is_one is_two is_three = is_one
+by_kind P job_kind.Update one two three is_one is_two is_three = is_two
+by_kind P job_kind.Unregister one two three is_one is_two is_three = is_three
+
+-- ---- the events of jobs
+
+module _ (Law : State → Told → Type 0) (controls : Bool) (law : IsLaw Law controls) where
+  nothing : (state : State) → Law state (quiet state)
+  nothing = law.rechecks.nothing
+
+  further : (state : State) (told : Told) (next : State → Told) → Law state told → Law told.state (next told.state) → Law state (followed told next)
+  further = law.rechecks.further
+
+  abbrev pub Holds : State → Outcome → Type 0
+  Holds state outcome = Law state outcome.told
+
+  abbrev pub HoldsIf : State → Option Outcome → Type 0
+  HoldsIf state outcome = IfSome outcome (Holds state)
+
+  pub rejected-law : (state : State) (who : Who) (why : Fault) → Law state (rejected state who why).told
+  unfolding rejected
+  rejected-law state who why = law.promising state who (value (settlement.Fault why)) refl
+
+  pub scheduled_by-law : (state : State) (who : Who) (job : Job) → job.number ≡ length state.jobs → Law state (scheduled_by state who job).told
+  unfolding scheduled_by
+  scheduled_by-law state who job is =
+      further state (schedule state job) (λ after. promise after who (of_job job.number))
+      (law.scheduling state job is) (law.promising (schedule state job).state who (of_job job.number) (scheduled_there state job is))
+
+  -- a job settles, something happens that leaves the jobs as they are, and the job is over
+  ended-law : (state : State) (job : ℕ) (result : Settlement) → may_end state job ≡ true → Law state (resolve_and_finish state job result)
+  unfolding resolve_and_finish
+  ended-law state job result may =
+      further state (settle state job result) (λ settled. finish settled job) (law.settling state job result may)
+      (law.finishing (settle state job result).state job (settled_may_finish state job result may))
+
+  drop_registration-law : (state : State) (registration : ℕ) → Law state (drop_registration state registration)
+  unfolding drop_registration
+  drop_registration-law state registration = grind (arith, nothing, law.unmapping)
+
+  reject_and_drop-law : (state : State) (job registration : ℕ) (why : Fault) → may_end state job ≡ true → Law state (reject_and_drop state job registration why)
+  unfolding reject_and_drop
+  reject_and_drop-law state job registration why may =
+      let settled = (settle state job (settlement.Fault why)).state in
+      let may_now = settled_may_finish state job (settlement.Fault why) may in
+      further state _ _ (law.settling state job (settlement.Fault why) may)
+      (further settled _ _ (drop_registration-law settled registration)
+      (law.finishing (drop_registration settled registration).state job (rw (drop_jobs settled registration) may_now)))
+
+  unregister_mapped-law : (state : State) (job : Job) (registration : ℕ) → may_end state job.number ≡ true → Law state (unregister_mapped state job registration)
+  unfolding unregister_mapped
+  unregister_mapped-law state job registration may =
+      let left = (unmap state registration).state in
+      let settled = (settle left job.number (settlement.Truth true)).state in
+      let may_left : may_end left job.number ≡ true = unmap_may_end state registration job.number may in
+      let may_now = settled_may_finish left job.number (settlement.Truth true) may_left in
+      further state _ _ (law.unmapping state registration)
+      (further left _ _ (law.settling left job.number (settlement.Truth true) may_left)
+      (further settled _ _ (try_clear-law Law law.rechecks settled registration (unmapped state registration job.number (settlement.Truth true)))
+      (law.finishing (try_clear settled registration).state job.number (rw (try_clear_jobs settled registration) may_now))))
+
+  run_allowed_register-law : (state : State) (row : JobRow) → job_row state row.job.number ≡ Some row → may_run state row ≡ true → Law state (run_allowed_register state row.job).told
+  unfolding run_allowed_register
+  run_allowed_register-law state row is may =
+      by_option (Holds state) (mapped_registration state row.job.key row.job.scope) _ _
+      (λ none. further state _ _ (law.mapping state row.job none)
+      (law.fetching (map_registration state row.job).state row (new_registration (length state.registrations) row.job) (mapped_same state row is) (mapped_may_run state row may) (mapped_new state row.job none)))
+      (λ found there. by_test (Holds state) (is_registered state row.job found) _ _
+      (λ same. ended-law state row.job.number (settlement.Registration found.number) (run_may_end state row is may))
+      (λ other. law.fetching state row found is may there))
+
+  run_register-law : (state : State) (row : JobRow) → job_row state row.job.number ≡ Some row → may_run state row ≡ true → Law state (run_register state row.job).told
+  unfolding run_register
+  run_register-law state row is may =
+      by_option (Holds state) (register_refusal row.job) _ _
+      (λ none. run_allowed_register-law state row is may)
+      (λ why there. ended-law state row.job.number _ (run_may_end state row is may))
+
+  run_update-law : (state : State) (row : JobRow) → job_row state row.job.number ≡ Some row → may_run state row ≡ true → Law state (run_update state row.job).told
+  unfolding run_update
+  run_update-law state row is may =
+      by_option (Holds state) (mapped_registration state row.job.key row.job.scope) _ _
+      (λ none. ended-law state row.job.number _ (run_may_end state row is may))
+      (λ found there. by_test (Holds state) (has_script state row.job found) _ _
+      (λ same. law.fetching state row found is may there)
+      (λ other. ended-law state row.job.number _ (run_may_end state row is may)))
+
+  run_unregister-law : (state : State) (row : JobRow) → job_row state row.job.number ≡ Some row → may_run state row ≡ true → Law state (run_unregister state row.job).told
+  unfolding run_unregister
+  run_unregister-law state row is may =
+      by_test (Holds state) (same_origin row.job.scope row.job.referrer) _ _
+      (λ same. by_option (Holds state) (mapped_registration state row.job.key row.job.scope) _ _
+      (λ none. ended-law state row.job.number _ (run_may_end state row is may))
+      (λ found there. unregister_mapped-law state row.job found.number (run_may_end state row is may)))
+      (λ other. ended-law state row.job.number _ (run_may_end state row is may))
+
+  run_job-law : (state : State) (row : JobRow) → job_row state row.job.number ≡ Some row → may_run state row ≡ true → Holds state (run_job state row.job)
+  run_job-law state row is may =
+      by_kind (Holds state) row.job.what _ _ _ (run_register-law state row is may) (run_update-law state row is may) (run_unregister-law state row is may)
+
+  pub run-law : (state : State) (number : ℕ) → HoldsIf state (run state number)
+  run-law state number =
+      by_option (HoldsIf state) (job_row state number) _ _ (λ none. tt)
+      (λ row found. by_test (HoldsIf state) (may_run state row) _ _
+      (λ may. run_job-law state row (found_by_own state number row found) may) (λ no_run. tt))
+
+  -- ---- the fetch of a script
+
+  keep_script-law : (state : State) (job : Job) (registration : ℕ) → may_end state job.number ≡ true → Law state (keep_script state job registration)
+  unfolding keep_script
+  keep_script-law state job registration may =
+      further state (set_mode state registration job.mode) _ (law.moding state registration job.mode)
+      (ended-law (set_mode state registration job.mode).state job.number _ (mode_may_end state registration job.number job.mode may))
+
+  fetched_script-law : (state : State) (row : JobRow) (registration : ℕ) (script : Fetched) → IsAt state is_fetching row registration → Holds state (fetched_script state row registration script)
+  unfolding fetched_script
+  fetched_script-law state row registration script at =
+      by_option (Holds state) (script_fault row.job script) _ _
+      (λ none. by_test (Holds state) (is_same_script state row.job registration script.response.body) _ _
+      (λ same. keep_script-law state row.job registration (fetching_may_end state row registration at))
+      (λ other. law.making state row registration script at))
+      (λ why there. reject_and_drop-law state row.job.number registration why (fetching_may_end state row registration at))
+
+  fetch_ended-law : (state : State) (row : JobRow) (script : Option Fetched) (registration : ℕ) → IsAt state is_fetching row registration → Holds state (fetch_ended state row script registration)
+  fetch_ended-law state row None registration at =
+      reject_and_drop-law state row.job.number registration _ (fetching_may_end state row registration at)
+  fetch_ended-law state row (Some script) registration at = fetched_script-law state row registration script at
+
+  registered-law : (state : State) (test : JobPhase → Bool) (act : JobRow → ℕ → Option Outcome) (row : JobRow) (registration : Option ℕ) → row.registration ≡ registration
+      → job_row state row.job.number ≡ Some row → in_phase test row ≡ true
+      → ((row : JobRow) (registration : ℕ) → IsAt state test row registration → HoldsIf state (act row registration))
+      → HoldsIf state (option_and_then (act row) registration)
+  registered-law state test act row None is found here acts = tt
+  registered-law state test act row (Some registration) is found here acts = acts row registration (record { found = found; phase = here; registered = is })
+
+  -- what happens to a job in a phase, with its registration
+  at_phase-law : (state : State) (number : ℕ) (test : JobPhase → Bool) (act : JobRow → ℕ → Option Outcome) (found : Option JobRow) → job_row state number ≡ found
+      → ((row : JobRow) (registration : ℕ) → IsAt state test row registration → HoldsIf state (act row registration))
+      → HoldsIf state (option_and_then (λ row. option_and_then (act row) row.registration) (option_and_then (λ row. if in_phase test row then Some row else None) found))
+  at_phase-law state number test act None is acts = tt
+  at_phase-law state number test act (Some row) is acts =
+      by_test (λ o. HoldsIf state (option_and_then (λ (row : JobRow). option_and_then (act row) row.registration) o)) (in_phase test row) _ _
+      (λ here. registered-law state test act row row.registration refl (found_by_own state number row is) here acts)
+      (λ no_phase. tt)
+
+  pub fetched-law : (state : State) (number : ℕ) (line : Option FetchLine) → HoldsIf state (fetched state number line)
+  fetched-law state number line =
+      at_phase-law state number is_fetching (λ row registration. Some (fetch_ended state row (fetched_of line) registration)) (job_row state number) refl
+      (λ row registration at. fetch_ended-law state row (fetched_of line) registration at)
+
+  -- ---- the evaluation of a script
+
+  install-law : (state : State) (row : JobRow) (registration : ℕ) (worker : Worker) → IsAt state is_evaluating row registration → job_worker state row ≡ Some worker → Law state (install state row.job registration worker.number)
+  unfolding install
+  install-law state row registration worker at made =
+      further state (set_mode state registration row.job.mode) _ (law.moding state registration row.job.mode)
+      (law.beginning (set_mode state registration row.job.mode).state row registration worker (mode_at state registration row.job.mode row registration at) (mode_made state registration row.job.mode row worker made))
+
+  evaluated_worker-law : (state : State) (row : JobRow) (registration : ℕ) (worker : Worker) → IsAt state is_evaluating row registration → job_worker state row ≡ Some worker → Holds state (evaluated_worker state row.job registration worker)
+  evaluated_worker-law state row registration worker at made =
+      by_test (Holds state) worker.handlers.throws _ _
+      (λ throws. law.throwing state row registration worker at made)
+      (λ runs. install-law state row registration worker at made)
+
+  pub evaluated-law : (state : State) (number : ℕ) → HoldsIf state (evaluated state number)
+  evaluated-law state number =
+      at_phase-law state number is_evaluating (λ row registration. option_map (evaluated_worker state row.job registration) (job_worker state row)) (job_row state number) refl
+      (λ row registration at. mapped_holds (Holds state) (evaluated_worker state row.job registration) (job_worker state row)
+      (λ worker made. evaluated_worker-law state row registration worker at made))
+
+  -- ---- the end of an install handler
+
+  install_ended-law : (state : State) (row : JobRow) (registration : ℕ) (worker : Worker) (handler : Handler) → IsInstalled state row registration worker handler → Holds state (install_ended state row registration worker handler)
+  install_ended-law state row registration worker handler is =
+      by_test (Holds state) (worker.handlers.install_fails || handler.faulted) _ _
+      (λ fails. law.failing state row registration worker handler is)
+      (λ ends. law.installing state row registration worker handler is)
+
+  pub installed-law : (state : State) (number : ℕ) → HoldsIf state (installed state number)
+  installed-law state number =
+      at_phase-law state number is_installing (λ row registration. option_and_then (λ worker. option_map (install_ended state row registration worker) (ended_handler state is_install worker)) (job_worker state row)) (job_row state number) refl
+      (λ row registration at. bound_holds (Holds state) (λ worker. option_map (install_ended state row registration worker) (ended_handler state is_install worker)) (job_worker state row)
+      (λ worker made. mapped_holds (Holds state) (install_ended state row registration worker) (ended_handler state is_install worker)
+      (λ handler ended. install_ended-law state row registration worker handler (record { at = at; made = made; ended = ended }))))

@@ -1,0 +1,104 @@
+-- Laws of every legal history, each the clause of the call of `sw_laws::laws` that has its name.
+use Rattle.std.specs.Prelude.{◌≡◌, ℕ, suc, ◌≤◌, true, List, [], ◌∷◌, ◌++◌, take, filter, find, is_none, is_some, Option, Some, option_and_then}
+use Rattle.sw_data.specs.declared.answers.Settlement.{Settlement}
+use Rattle.sw_data.specs.declared.events.Event.{Event}
+use Rattle.sw_data.specs.declared.histories.Entry.{Entry}
+use Rattle.sw_data.specs.declared.rows.JobRow.{JobRow}
+use Rattle.sw_data.specs.declared.storage.Change.{Change}
+use Rattle.sw_data.specs.declared.storage.Change.TheVariants as change
+use Rattle.sw_data.specs.declared.storage.Kept.{Kept}
+use Rattle.sw_data.specs.declared.workers.WorkerState.{WorkerState}
+use Rattle.sw_data.specs.declared.workers.WorkerState.TheVariants as worker_state
+use Rattle.sw_rules.specs.Durable as kept
+use Rattle.sw_rules.specs.History.{Legal, after, moved}
+use Rattle.sw_rules.specs.Restart.{restart}
+use Rattle.sw_rules.specs.Rows.{is_unfinished, is_worker, job_row, worker_row}
+use Rattle.sw_rules.specs.State.{State, Worker}
+use Rattle.sw_rules.specs.Step.{changes_of, state_after}
+use Rattle.sw_rules.specs.Storage.{IsMade, applied, kept_after}
+use Rattle.sw_rules.specs.Tasks.{ready_tasks}
+use Rattle.sw_laws.specs.Coherent.{Coherent, apart, share_slot}
+
+-- own: a restart leaves a coherent state, each event keeps one coherent, and so each legal history leaves one
+pub record IsAlwaysCoherent : Type 0 where
+  pub restarts : (base : Kept) → IsMade base → Coherent (restart base)
+  pub steps : (state : State) (happened : Event) → Coherent state → Coherent (state_after state happened)
+  pub histories : (base : Kept) (history : List Entry) → Legal base history → Coherent (after base history)
+
+-- own: no unfinished job, running handler, unsettled addAll or owed Try Activate is left in a state
+pub record HasNoWork (state : State) : Type 0 where
+  pub jobs : filter is_unfinished state.jobs ≡ []
+  pub handlers : filter (λ row. is_some row.handler) state.workers ≡ []
+  pub tasks : filter (λ row. is_none row.settled) state.tasks ≡ []
+  pub owed : filter (λ row. row.owed) state.registrations ≡ []
+
+-- own: where no task is ready after a legal history, no work is left
+pub record RestsWithoutWork : Type 0 where
+  pub rests : (base : Kept) (history : List Entry)
+      → Legal base history → ready_tasks (after base history) ≡ [] → HasNoWork (after base history)
+
+-- own: restarting twice is restarting once, in the content and in the state that a restart leaves; and what is kept of
+-- that state is the content of the restart
+pub record RestartsOnce : Type 0 where
+  pub content : (kept : Kept) → applied (applied kept change.Restarted) change.Restarted ≡ applied kept change.Restarted
+  pub state : (kept : Kept) → restart (applied kept change.Restarted) ≡ restart kept
+  pub durable : (base : Kept) → IsMade base → kept.durable (restart base) ≡ applied base change.Restarted
+
+-- ---- promises and slots
+
+-- the value of a job's promise, where it has settled
+abbrev pub settled_value : State → ℕ → Option Settlement
+settled_value state job = option_and_then (λ row. row.settled) (job_row state job)
+
+-- how far a worker has come; a redundant one has come to its end
+abbrev pub how_far : WorkerState → ℕ
+how_far worker_state.Parsed = 0
+how_far worker_state.Installing = 1
+how_far worker_state.Installed = 2
+how_far worker_state.Activating = 3
+how_far worker_state.Activated = 4
+how_far worker_state.Redundant = 5
+
+-- a worker is still there, of the same registration, and has gone no way back
+pub record HasGoneOn (before : Worker) (workers : List Worker) (number : ℕ) : Type 0 where
+  pub now : Worker
+  pub found : find (is_worker number) workers ≡ Some now
+  pub registration : now.registration ≡ before.registration
+  pub state : how_far before.state ≤ how_far now.state
+
+-- own: a promise settles at most once: the value that it has it keeps; and a job that joined another has that one's value
+pub record SettlesOnce : Type 0 where
+  pub stays : (base : Kept) (history : List Entry) (happened : Event) (job : ℕ) (result : Settlement)
+      → Legal base history → settled_value (after base history) job ≡ Some result
+      → settled_value (state_after (after base history) happened) job ≡ Some result
+  pub joined : (base : Kept) (history : List Entry) (row : JobRow) (job leader : ℕ)
+      → Legal base history → job_row (after base history) job ≡ Some row → row.leader ≡ Some leader
+      → settled_value (after base history) leader ≡ row.settled
+
+-- own: a registration has at most one worker in each slot, and no worker's state goes back
+pub record HasSlots : Type 0 where
+  pub slots : (base : Kept) (history : List Entry)
+      → Legal base history → apart share_slot (after base history).workers ≡ true
+  pub states : (base : Kept) (history : List Entry) (happened : Event) (number : ℕ) (row : Worker)
+      → Legal base history → worker_row (after base history) number ≡ Some row
+      → HasGoneOn row (state_after (after base history) happened).workers number
+
+-- ---- what is kept
+
+-- the durable changes of entries, each from the state before it
+abbrev pub changes_along : State → List Entry → List Change
+changes_along state [] = []
+changes_along state (entry ∷ entries) = changes_of state entry.event ++ changes_along (moved state entry) entries
+
+-- the durable changes of a history, whose first entry is the restart (own)
+abbrev pub changes_of_history : Kept → List Entry → List Change
+changes_of_history base [] = []
+changes_of_history base (opening ∷ entries) = change.Restarted ∷ changes_along (restart base) entries
+
+-- own: the caches that the changes of the first entries make of the base are those of the state after them, for each
+-- number of entries from one on
+pub record CachesAreKept : Type 0 where
+  pub prefixes : (base : Kept) (history : List Entry) (n : ℕ)
+      → Legal base history
+      → (kept_after base (changes_of_history base (take (suc n) history))).caches
+      ≡ (after base (take (suc n) history)).caches
