@@ -22,7 +22,7 @@ pub(crate) struct Entry {
     pub(crate) pair: Box<Pair>,
 }
 
-/// The place of the entry of a number.
+// The place of the entry of a number.
 fn place_of(entries: &[Entry], number: u64) -> Option<usize>
     requires { AllPairs (λ left right. left.number < right.number) entries.now }
     ensures { MatchOption result (All (λ entry. ¬ (entry.number ≡ number)) entries.now)
@@ -36,7 +36,7 @@ fn place_of(entries: &[Entry], number: u64) -> Option<usize>
     }
 }
 
-/// The entry of a number with its place, if the query matches its pair.
+// The entry of a number with its place, if the query matches its pair.
 fn hit<'a>(
     entries: &'a [Entry],
     at: u64,
@@ -63,7 +63,7 @@ fn hit<'a>(
     }
 }
 
-/// The first pair that a query matches, whatever its method, behind its place.
+// The first pair that a query matches, whatever its method, behind its place.
 fn first_matching<'a>(
     entries: &'a [Entry],
     slots: &Slots,

@@ -12,7 +12,7 @@ use crate::row::Row;
 use crate::table::Hit;
 use sw_data::{Options, Request, Response, Text};
 
-/// The cache has this name, or no name is given.
+// The cache has this name, or no name is given.
 fn is_asked(row: &Row, name: Option<&Text>) -> bool
     ensures { result ≡ option_map_or (bytes_eq row.now.name) (option_copied name.entry) true }
 {
@@ -22,7 +22,7 @@ fn is_asked(row: &Row, name: Option<&Text>) -> bool
     }
 }
 
-/// The first place that matches in a cache that is asked.
+// The first place that matches in a cache that is asked.
 fn hit_in(row: &Row, name: Option<&Text>, query: &Request, options: Options) -> Option<u32>
     ensures { result ≡ hit_in (option_copied name.entry) query.now options (kept_row row.now) }
 {

@@ -39,7 +39,7 @@ pub fn apply_ops(
     Ok(())
 }
 
-/// The pairs that operations add.
+// The pairs that operations add.
 fn scan(alloc: Global, ops: &[Op]) -> Result<Vec<Pair>, BatchFault>
     requires { length ops.now < 2 ^ 32 }
     ensures ok { IfOk result (λ added. (old : List Pair)
@@ -57,7 +57,7 @@ fn scan(alloc: Global, ops: &[Op]) -> Result<Vec<Pair>, BatchFault>
     Ok(added)
 }
 
-/// What the next operation adds.
+// What the next operation adds.
 fn scan_op(alloc: Global, added: &mut Vec<Pair>, at: u32, op: &Op) -> Result<(), BatchFault>
     ensures ok { OnOk result ((old : List Pair) (rest : List Op)
         → go old added.old.items at (op.now ∷ rest)
@@ -91,7 +91,7 @@ fn is_added(added: &[Pair], query: &Request, options: Options) -> bool
     added.iter().any(|pair| matches_pair(query, options, pair))
 }
 
-/// Takes out what the operations match; it takes no memory.
+// Takes out what the operations match; it takes no memory.
 fn drop_all(pairs: &mut Vec<Pair>, ops: &[Op])
     ensures pairs { pairs.new.items ≡ without_ops ops.now pairs.old.items }
     ensures bound { vec_len pairs.new ≤ vec_len pairs.old }

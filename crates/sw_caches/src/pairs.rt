@@ -21,7 +21,7 @@ use std::marker::Model;
 use sw_data::{Items, NoMemory, Op, Options, Request};
 use sw_match::number_of;
 
-/// The most pairs that a cache may have.
+// The most pairs that a cache may have.
 const PAIRS_LIMIT: usize = 4_294_967_295;
 
 /// The pairs of a cache in the order of their puts. An index finds those of an address in the time
@@ -189,7 +189,7 @@ impl Pairs {
         Ok(())
     }
 
-    /// Makes room for further pairs.
+    // Makes room for further pairs.
     fn make_room(&mut self, count: usize) -> Result<(), NoMemory>
         ensures same { self.new ≡ record self.old { spare = self.new.spare } }
         ensures room { OnOk result (count ≤ self.new.spare) }

@@ -50,7 +50,7 @@ impl PairsPlan {
         }
     }
 
-    /// A delete is the next operation.
+    // A delete is the next operation.
     fn delete(
         &mut self,
         slots: &Slots,
@@ -80,7 +80,7 @@ impl PairsPlan {
         Ok(())
     }
 
-    /// A put is the next operation.
+    // A put is the next operation.
     fn put(
         &mut self,
         alloc: Global,
@@ -108,7 +108,7 @@ impl PairsPlan {
         }
     }
 
-    /// A put that may be is the next operation.
+    // A put that may be is the next operation.
     fn put_allowed(
         &mut self,
         alloc: Global,
@@ -138,7 +138,7 @@ impl PairsPlan {
         Ok(())
     }
 
-    /// Adds a pair under the next number.
+    // Adds a pair under the next number.
     fn add(
         &mut self,
         alloc: Global,
@@ -166,7 +166,7 @@ impl PairsPlan {
         Ok(())
     }
 
-    /// One more operation.
+    // One more operation.
     fn operate(
         &mut self,
         alloc: Global,

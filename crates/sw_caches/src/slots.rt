@@ -17,7 +17,7 @@ fn mixed(sum: u64, byte: u8) -> u64
     (sum ^ u64::from(byte)).wrapping_mul(1_099_511_628_211)
 }
 
-/// A digest of bytes.
+// A digest of bytes.
 #[tactic(auto, unfolding(crate::specs::Slots::digest))]
 fn digest(bytes: &[u8]) -> u64
     ensures { result ≡ digest bytes.now }

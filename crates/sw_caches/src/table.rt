@@ -24,7 +24,7 @@ use std::alloc::Global;
 use std::marker::Model;
 use sw_data::{KeptCache, NoMemory, Op, Options, Request, Response, Text};
 
-/// The most caches that there may be.
+// The most caches that there may be.
 const CACHES_LIMIT: usize = 4_294_967_295;
 
 /// The caches of all keys, in order of creation (Service Workers, "name to cache map").
@@ -64,7 +64,7 @@ pub struct CachePlan {
     pub(crate) change: PairsPlan,
 }
 
-/// A batch on the cache at a place, worked out.
+// A batch on the cache at a place, worked out.
 fn plan_row(
     row: &mut Row,
     alloc: Global,

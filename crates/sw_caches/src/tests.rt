@@ -57,7 +57,7 @@ fn delete(request: Request, options: Options) -> Op {
     Op::Delete { request, options }
 }
 
-/// A cache `v` of the key `k`.
+// A cache `v` of the key `k`.
 fn one_cache(alloc: Global, key: &Text, name: &Text) -> Result<Caches, NoMemory> {
     let mut caches = Caches::new(alloc);
     caches.make(alloc, key, name)?;
@@ -135,7 +135,7 @@ fn rollback(rt: HostRuntime) -> Result<(), Fail> {
     Ok(())
 }
 
-/// A put whose spelling has 42 bytes besides its body.
+// A put whose spelling has 42 bytes besides its body.
 fn large(alloc: Global, size: usize) -> Result<Vec<Op>, NoMemory> {
     let response = Response {
         status: 200,
@@ -168,7 +168,7 @@ fn quota(rt: HostRuntime) -> Result<(), Fail> {
     Ok(())
 }
 
-/// Operations that add, replace and remove pairs of four addresses.
+// Operations that add, replace and remove pairs of four addresses.
 fn step(alloc: Global, turn: u32) -> Result<Vec<Op>, NoMemory> {
     let url = match turn % 5 {
         0 => "https://a.test/x",

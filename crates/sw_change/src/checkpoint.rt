@@ -10,7 +10,7 @@ use sw_data::{
     Change, Items, Kept, KeptCache, KeptRegistration, KeptWorker, NoMemory, Op, Request, Response,
 };
 
-/// Adds the change that gives a registration this waiting worker, where there is one.
+// Adds the change that gives a registration this waiting worker, where there is one.
 fn push_waiting(
     changes: &mut Vec<Change>,
     alloc: Global,
@@ -32,7 +32,7 @@ fn push_waiting(
     Ok(())
 }
 
-/// Adds the changes that make the waiting worker the active one, and activated, where it is.
+// Adds the changes that make the waiting worker the active one, and activated, where it is.
 fn push_active(
     changes: &mut Vec<Change>,
     alloc: Global,
@@ -56,7 +56,7 @@ fn push_active(
     Ok(())
 }
 
-/// Adds the change of the navigation preload, where it isn't off with the value `true`.
+// Adds the change of the navigation preload, where it isn't off with the value `true`.
 fn push_preload(
     changes: &mut Vec<Change>,
     alloc: Global,
@@ -76,7 +76,7 @@ fn push_preload(
     Ok(())
 }
 
-/// Adds the changes that make a registration.
+// Adds the changes that make a registration.
 fn push_registration(
     changes: &mut Vec<Change>,
     alloc: Global,
@@ -90,7 +90,7 @@ fn push_registration(
     push_preload(changes, alloc, row)
 }
 
-/// Adds the changes that make these registrations.
+// Adds the changes that make these registrations.
 fn push_registrations(
     changes: &mut Vec<Change>,
     alloc: Global,
@@ -105,7 +105,7 @@ fn push_registrations(
     Ok(())
 }
 
-/// A request of its own that equals this one.
+// A request of its own that equals this one.
 fn copy_request(alloc: Global, request: &Request) -> Result<Request, NoMemory>
     ensures { IfOk result (λ copy. copy ≡ request.now) }
 {
@@ -113,7 +113,7 @@ fn copy_request(alloc: Global, request: &Request) -> Result<Request, NoMemory>
     request.with_url(alloc, url)
 }
 
-/// The batch that puts one pair.
+// The batch that puts one pair.
 fn put_of(alloc: Global, cache: &KeptCache, pair: &(Request, Response)) -> Result<Change, NoMemory>
     ensures { IfOk result (λ change. change ≡ pair_change cache.now pair.now) }
 {
@@ -129,7 +129,7 @@ fn put_of(alloc: Global, cache: &KeptCache, pair: &(Request, Response)) -> Resul
     })
 }
 
-/// Adds a batch for each of these pairs of a cache.
+// Adds a batch for each of these pairs of a cache.
 fn push_pairs(
     changes: &mut Vec<Change>,
     alloc: Global,
@@ -145,7 +145,7 @@ fn push_pairs(
     Ok(())
 }
 
-/// Adds the changes that make a cache.
+// Adds the changes that make a cache.
 fn push_cache(changes: &mut Vec<Change>, alloc: Global, cache: &KeptCache) -> Result<(), NoMemory>
     ensures { OnOk result (changes.new.items ≡ changes.old.items ++ cache_changes cache.now) }
 {
@@ -156,7 +156,7 @@ fn push_cache(changes: &mut Vec<Change>, alloc: Global, cache: &KeptCache) -> Re
     push_pairs(changes, alloc, cache, cache.pairs.as_slice())
 }
 
-/// Adds the changes that make these caches.
+// Adds the changes that make these caches.
 fn push_caches(
     changes: &mut Vec<Change>,
     alloc: Global,

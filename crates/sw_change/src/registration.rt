@@ -92,7 +92,8 @@ impl Registration {
 
     /// Carries an edit out. It takes no memory.
     pub(crate) fn edit(&mut self, edit: Edit)
-        ensures { (place : Place) → kept_row (place, self.new) ≡ edited edit (kept_row (place, self.old)) }
+        ensures { (place : Place)
+            → kept_row (place, self.new) ≡ edited edit (kept_row (place, self.old)) }
     {
         match edit {
             Edit::Waiting { mode, worker } => {

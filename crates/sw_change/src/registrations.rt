@@ -31,7 +31,7 @@ impl Model for Registrations {
     ghost invariant = { λ table. IsDistinct is_same (keys_of table.rows.entries) };
 }
 
-/// A key and a scope of their own.
+// A key and a scope of their own.
 fn place_of(alloc: Global, key: &Text, scope: &Text) -> Result<(Text, Text), NoMemory>
     ensures { IfOk result (λ place. place ≡ (key.now, scope.now)) }
 {
@@ -95,14 +95,14 @@ impl Registrations {
         Ok(rows)
     }
 
-    /// Whether a registration is there; it takes no memory.
+    // Whether a registration is there; it takes no memory.
     fn has(&self, place: &(Text, Text)) -> bool
         ensures { result ≡ list_any (is_registration place.now.0 place.now.1) self.now }
     {
         self.rows.contains_key(place)
     }
 
-    /// Carries an edit out where the registration is there; it takes no memory.
+    // Carries an edit out where the registration is there; it takes no memory.
     fn edit(&mut self, place: &(Text, Text), edit: Edit)
         ensures { self.new ≡ with_registration place.now.0 place.now.1 (edited edit) self.old }
     {
@@ -111,7 +111,7 @@ impl Registrations {
         }
     }
 
-    /// Adds a registration, which isn't there.
+    // Adds a registration, which isn't there.
     fn add(&mut self, place: (Text, Text), row: Registration) -> Result<(), NoMemory>
         requires { list_any (is_registration place.0 place.1) self.old ≡ false }
         ensures ok { OnOk result (self.new ≡ self.old ++ kept_row (place, row) ∷ []) }
@@ -121,7 +121,7 @@ impl Registrations {
         Ok(())
     }
 
-    /// Gives a registration this mode and this waiting worker, and adds it where it isn't there.
+    // Gives a registration this mode and this waiting worker, and adds it where it isn't there.
     fn set_waiting(
         &mut self,
         alloc: Global,
@@ -144,7 +144,7 @@ impl Registrations {
         self.add(place, row)
     }
 
-    /// Carries an edit out on the registration of a key and a scope, where it is there.
+    // Carries an edit out on the registration of a key and a scope, where it is there.
     fn edit_at(
         &mut self,
         alloc: Global,
@@ -161,7 +161,7 @@ impl Registrations {
         Ok(())
     }
 
-    /// Sets flag and value of the navigation preload of a registration, where it is there.
+    // Sets flag and value of the navigation preload of a registration, where it is there.
     fn set_preload(
         &mut self,
         alloc: Global,
@@ -178,7 +178,7 @@ impl Registrations {
         self.edit_at(alloc, key, scope, Edit::Preload { on, value })
     }
 
-    /// Removes the registration of a key and a scope.
+    // Removes the registration of a key and a scope.
     fn remove_at(&mut self, alloc: Global, key: &Text, scope: &Text) -> Result<(), NoMemory>
         ensures ok { OnOk result (self.new
             ≡ filter (λ row. not (is_registration key.now scope.now row)) self.old) }
@@ -189,20 +189,22 @@ impl Registrations {
         Ok(())
     }
 
-    /// Removes a registration; it takes no memory.
+    // Removes a registration; it takes no memory.
     fn remove(&mut self, place: &(Text, Text))
-        ensures { self.new ≡ filter (λ row. not (is_registration place.now.0 place.now.1 row)) self.old }
+        ensures { self.new
+            ≡ filter (λ row. not (is_registration place.now.0 place.now.1 row)) self.old }
     {
         let _ = self.rows.shift_remove(place);
     }
 
-    /// Removes the registrations of a key; it takes no memory.
+    // Removes the registrations of a key; it takes no memory.
     fn remove_key(&mut self, key: &Text)
         ensures { self.new ≡ filter (λ row. not (bytes_eq row.key key.now)) self.old }
     {
         self.rows.retain(
             |place: &(Text, Text), row: &mut Registration| -> bool
-                ensures { (result ≡ not (bytes_eq place.now.0 key.entry.now)) × (row.new ≡ row.old) }
+                ensures { (result ≡ not (bytes_eq place.now.0 key.entry.now))
+                    × (row.new ≡ row.old) }
             { place.0 != *key },
         );
     }

@@ -7,13 +7,13 @@ use Rattle.http_header.specs.Token.{tab, space, lowercase, token_test, is_value_
 use Rattle.sw_data.specs.declared.exchange.Header.{Header}
 
 -- a space or a tab (Fetch, 2.1, "HTTP tab or space")
-abbrev pub is_blank : ℕ → Bool
-is_blank b = b == space || b == tab
+abbrev pub is_ows : ℕ → Bool
+is_ows b = b == space || b == tab
 
 -- bytes without the spaces and tabs at their front
 abbrev pub trimmed_front : List ℕ → List ℕ
 trimmed_front [] = []
-trimmed_front (b ∷ rest) = if is_blank b then trimmed_front rest else b ∷ rest
+trimmed_front (b ∷ rest) = if is_ows b then trimmed_front rest else b ∷ rest
 
 -- bytes without the spaces and tabs at their end
 abbrev pub trimmed_back : List ℕ → List ℕ
@@ -28,12 +28,12 @@ abbrev pub same_name : List ℕ → List ℕ → Bool
 same_name left right = bytes_eq (lowercase left) (lowercase right)
 
 -- the lines of a field, in order
-abbrev pub lines_of : List ℕ → List Header → List Header
-lines_of name headers = filter (λ line. same_name line.name name) headers
+abbrev pub named_lines : List ℕ → List Header → List Header
+named_lines name headers = filter (λ line. same_name line.name name) headers
 
 -- the values of a field, in order (Fetch, 2.2.2, "get")
 abbrev pub values_of : List ℕ → List Header → List (List ℕ)
-values_of name headers = map (λ line. line.value) (lines_of name headers)
+values_of name headers = map (λ line. line.value) (named_lines name headers)
 
 -- values joined by a comma and a space
 abbrev pub comma_joined : List (List ℕ) → List ℕ

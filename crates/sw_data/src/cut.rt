@@ -14,7 +14,7 @@ pub fn before(bytes: &[u8], mark: u8) -> &[u8]
     }
 }
 
-/// The place of the first `mark`.
+// The place of the first `mark`.
 fn first(bytes: &[u8], mark: u8) -> Option<usize>
     ensures { result ≡ position (λ b. b == mark) bytes.now }
 {

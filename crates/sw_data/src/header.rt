@@ -4,9 +4,9 @@ ghost use Rattle.std.specs.Prelude.{◌≡◌};
 ghost use Rattle.std.specs.List.{list_all};
 ghost use Rattle.http_header.specs.FieldName.{is_field_name};
 ghost use Rattle.http_header.specs.Token.{token_test, is_value_byte};
-ghost use Rattle.sw_data.specs.Headers.{is_blank, is_token, is_value, same_name, trimmed, trimmed_front, trimmed_back};
+ghost use Rattle.sw_data.specs.Headers.{is_ows, is_token, is_value, same_name, trimmed, trimmed_front, trimmed_back};
 
-/// The byte may stand in a token.
+// The byte may stand in a token.
 #[tactic(auto, unfolding(http_header::specs::Token::is_token_byte))]
 fn is_token_byte(byte: u8) -> bool
     ensures { result ≡ token_test byte }
@@ -57,8 +57,8 @@ pub fn trimmed(bytes: &[u8]) -> &[u8]
     trimmed_back(trimmed_front(bytes))
 }
 
-fn is_blank(byte: u8) -> bool
-    ensures { result ≡ is_blank byte }
+fn is_ows(byte: u8) -> bool
+    ensures { result ≡ is_ows byte }
 {
     byte == b' ' || byte == b'\t'
 }
@@ -67,7 +67,7 @@ fn trimmed_front(mut bytes: &[u8]) -> &[u8]
     ensures { result.now ≡ trimmed_front bytes.now }
 {
     while let [first, rest @ ..] = bytes
-        && is_blank(*first)
+        && is_ows(*first)
     {
         bytes = rest;
     }
@@ -78,7 +78,7 @@ fn trimmed_back(mut bytes: &[u8]) -> &[u8]
     ensures { result.now ≡ trimmed_back bytes.now }
 {
     while let [rest @ .., last] = bytes
-        && is_blank(*last)
+        && is_ows(*last)
     {
         bytes = rest;
     }

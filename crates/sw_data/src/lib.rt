@@ -20,6 +20,7 @@ pub mod workers;
 
 pub use answers::{Answer, Cause, Fault, Notice, SecurityCause, Settlement, StateCause};
 pub use base::bytes::Bytes;
+pub use base::failed::Failed;
 pub use base::items::Items;
 pub use base::no_memory::NoMemory;
 pub use base::text::Text;

@@ -3,7 +3,7 @@ use Rattle.std.proofs.Common.{◌≡◌, ◌≢◌, ℕ, List, sym, ◌∙◌, a
 use Rattle.std.specs.Prelude.{Option, Some, None}
 use Rattle.sw_disk.specs.declared.part.Part.{Part}
 use Rattle.sw_disk.specs.Image.{Image, get, put}
-use Rattle.sw_disk.specs.DiskRule.{ForTold, BothTold, Only, Within, Follows, OnPart}
+use Rattle.sw_disk.specs.DiskRule.{ForTold, BothTold, Only, Within, EachStepped, OnPart}
 use Rattle.sw_disk.proofs.Tears.{other_part}
 
 abbrev Sure : Part → Option Image → (Image → Type 0) → Type 0
@@ -21,7 +21,7 @@ pub sure_asked : (before now : Option Image) (old new : Image → Type 0) (part 
 sure_asked before now old new part same within = λ sure. subst (λ seen. Sure part seen new) (sym same) (narrowed before old new part within sure)
 
 pub sure_elsewhere : (before now : Option Image) (old new : Image → Type 0) (part other : Part) (crash : Image → List ℕ → List ℕ → Type 0) → part ≢ other
-    → ForTold before (λ image. Follows (OnPart part (crash image)) old new) → BothTold before now (λ a b. b ≡ put part (get part b) a) → Sure other before old → Sure other now new
+    → ForTold before (λ image. EachStepped (OnPart part (crash image)) old new) → BothTold before now (λ a b. b ≡ put part (get part b) a) → Sure other before old → Sure other now new
 sure_elsewhere None None old new part other crash differs = λ follows tells sure. tt
 sure_elsewhere None (Some now) old new part other crash differs = λ follows tells sure. absurd tells
 sure_elsewhere (Some before) None old new part other crash differs = λ follows tells sure. absurd tells

@@ -57,8 +57,8 @@ abbrev pub Stepped : (Image → Image → Type 0) → (Image → Type 0) → Ima
 Stepped step before c = (d : Image) × before d × step d c
 
 -- own: each image that a crash may leave now comes, by such a step, from one that it might have left before
-abbrev pub Follows : (Image → Image → Type 0) → (Image → Type 0) → (Image → Type 0) → Type 0
-Follows step before now = (c : Image) → now c → Stepped step before c
+abbrev pub EachStepped : (Image → Image → Type 0) → (Image → Type 0) → (Image → Type 0) → Type 0
+EachStepped step before now = (c : Image) → now c → Stepped step before c
 
 -- own: a write of n bytes of a part, torn, where reads gave this image
 abbrev pub TornWrite : Part → (at n : ℕ) → Image → Image → Image → Type 0

@@ -3,7 +3,7 @@ use Rattle.std.specs.Prelude.{◌≡◌, ◌⊎◌, ◌≤◌, ℕ}
 use Rattle.sw_disk.specs.declared.part.Part.{Part}
 use Rattle.sw_disk.specs.declared.disk.Disk.{Ghosts}
 use Rattle.sw_disk.specs.Image.{Image, get}
-use Rattle.sw_disk.specs.DiskRule.{ForTold, BothTold, OnPart, PendingCut, TornWrite, Stepped, Follows, Only}
+use Rattle.sw_disk.specs.DiskRule.{ForTold, BothTold, OnPart, PendingCut, TornWrite, Stepped, EachStepped, Only}
 
 -- own: what reads give became what is in this relation to it
 abbrev pub Becomes : {D : Type 0} → Ghosts D → (old new : D) → (Image → Image → Type 0) → Type 0
@@ -20,11 +20,11 @@ IsSure disk part now = ForTold (disk.seen now) (λ image. (c : Image) → disk.m
 
 -- own: a crash leaves what it might have left before, or that with a write of n bytes torn
 abbrev pub Tears : {D : Type 0} → Ghosts D → (old new : D) → Part → (at n : ℕ) → Type 0
-Tears disk old new part at n = ForTold (disk.seen old) (λ image. Follows (TornWrite part at n image) (disk.may_leave old) (disk.may_leave new))
+Tears disk old new part at n = ForTold (disk.seen old) (λ image. EachStepped (TornWrite part at n image) (disk.may_leave old) (disk.may_leave new))
 
 -- own: a crash leaves what it might have left before, or that with a cut pending
 abbrev pub Clips : {D : Type 0} → Ghosts D → (old new : D) → Part → (len : ℕ) → Type 0
-Clips disk old new part len = ForTold (disk.seen old) (λ image. Follows (OnPart part (PendingCut len)) (disk.may_leave old) (disk.may_leave new))
+Clips disk old new part len = ForTold (disk.seen old) (λ image. EachStepped (OnPart part (PendingCut len)) (disk.may_leave old) (disk.may_leave new))
 
 -- own: between two states of a disk, at every moment, a crash leaves nothing but what it might have left already
 -- before the first, or what has P

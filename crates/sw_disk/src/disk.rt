@@ -4,15 +4,10 @@ ghost use Rattle.std.specs.Prelude.{◌≡◌, ◌^◌, ◌<◌, ◌≤◌, ◌-
 ghost use Rattle.sw_disk.specs.Image.{Image, get};
 ghost use Rattle.sw_disk.specs.declared.part.Part.{Part};
 ghost use Rattle.sw_disk.specs.DiskRule.{ForTold, BothTold, OnPart, Puts, written, FailedWrite, FailedCut, PendingCut};
-ghost use Rattle.sw_disk.specs.DiskRule.{TornWrite, Follows, Within, Only, Elapses, HasCause, ReadsAt};
+ghost use Rattle.sw_disk.specs.DiskRule.{TornWrite, EachStepped, Within, Only, Elapses, HasCause, ReadsAt};
 
 use crate::part::Part;
-use thiserror::Error;
-
-/// A call of a disk failed, and its count of faults rose, or stands at 2^64 - 1.
-#[derive(Debug, Clone, Copy, PartialEq, Eq, Error)]
-#[error("a call of the disk failed")]
-pub struct Failed;
+use sw_data::Failed;
 
 /// A disk of three parts, each a list of bytes that can be written over, cut and grown at its end.
 ///
@@ -64,7 +59,7 @@ pub trait Disk {
             (BothTold (seen self.old) (seen self.new) (Puts part (written at bytes.now))) }
         ensures err { OnErr result (BothTold (seen self.old) (seen self.new)
             (OnPart part (FailedWrite at (length bytes.now)))) }
-        ensures crash { ForTold (seen self.old) (λ image. Follows
+        ensures crash { ForTold (seen self.old) (λ image. EachStepped
             (TornWrite part at (length bytes.now) image) (may_leave self.old)
             (may_leave self.new)) }
         ensures time { Elapses clock left_since may_leave self.old self.new }
@@ -76,7 +71,7 @@ pub trait Disk {
         ensures ok { OnOk result (BothTold (seen self.old) (seen self.new) (Puts part (take len))) }
         ensures err { OnErr result
             (BothTold (seen self.old) (seen self.new) (OnPart part (FailedCut len))) }
-        ensures crash { ForTold (seen self.old) (λ image. Follows
+        ensures crash { ForTold (seen self.old) (λ image. EachStepped
             (OnPart part (PendingCut len)) (may_leave self.old) (may_leave self.new)) }
         ensures time { Elapses clock left_since may_leave self.old self.new }
         ensures cause { HasCause (faults self.old) (faults self.new) result };

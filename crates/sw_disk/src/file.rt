@@ -2,10 +2,11 @@
 
 ghost use Rattle.std.specs.Prelude.{◌≡◌, ◌≤◌, IfSome, IsSome, IsTrue, length, option_map, is_some};
 
-use crate::disk::{Disk, Failed};
+use crate::disk::Disk;
 use crate::part::{Part, Parts};
 use std::fs::File;
 use std::os::unix::fs::FileExt;
+use sw_data::Failed;
 
 /// A disk over three files, of which any may be missing: a call on a missing part fails, and so does a sync.
 ///

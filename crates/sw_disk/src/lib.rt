@@ -12,12 +12,13 @@ mod plain;
 mod span;
 mod synced;
 
-pub use disk::{Disk, Failed};
+pub use disk::Disk;
 pub use file::FileDisk;
 pub use laws::left_alone;
 pub use memory::{CallKind, Failing, MemoryDisk};
 pub use part::Part;
 pub use plain::PlainDisk;
+pub use sw_data::Failed;
 pub use synced::write_synced;
 
 #[cfg(test)]

@@ -6,14 +6,14 @@ mod part;
 mod parts;
 mod script;
 
-use crate::disk::{Disk, Failed};
+use crate::disk::Disk;
 use crate::part::{Part, Parts};
 use crate::span::read_into;
 use history::History;
 use part::MemoryPart;
 pub use script::{CallKind, Failing};
 use script::{Counts, fails, is_past};
-use sw_data::{Bytes, NoMemory};
+use sw_data::{Bytes, Failed, NoMemory};
 
 /// A disk in memory for tests: it can fail at given calls, and it knows which images a crash at each moment since
 /// its making may have left.

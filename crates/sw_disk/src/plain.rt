@@ -1,9 +1,9 @@
 //! A disk in memory, all of whose calls are done at once.
 
-use crate::disk::{Disk, Failed};
+use crate::disk::Disk;
 use crate::part::{Part, Parts};
 use crate::span::{overwrite, read_into};
-use sw_data::Bytes;
+use sw_data::{Bytes, Failed};
 
 /// A disk in memory without failing calls: only a write can fail, and only for want of memory. Each call is done at
 /// once, so that a crash leaves what reads give. Of moments that are past it keeps nothing, so no call copies more

@@ -3,7 +3,7 @@
 ghost use Rattle.std.specs.Prelude.{◌≡◌, ◌+◌, ◌-◌, ◌≤◌, min, length, take, vec_len, OnOk, OnErr};
 ghost use Rattle.sw_disk.specs.DiskRule.{written, ReadsAt};
 
-use crate::disk::Failed;
+use sw_data::Failed;
 
 // Writes bytes over what a vector holds from a place on, and past its end.
 pub(crate) fn overwrite(file: &mut Vec<u8>, at: usize, bytes: &[u8]) -> Result<(), Failed>

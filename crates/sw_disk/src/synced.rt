@@ -5,8 +5,9 @@ ghost use Rattle.sw_disk.specs.Image.{get};
 ghost use Rattle.sw_disk.specs.DiskRule.{ForTold, Puts, written, TornWrite, HasCause, capped};
 ghost use Rattle.sw_disk.specs.Meanings.{Becomes, IsDurable, LeavesSteps};
 
-use crate::disk::{Disk, Failed};
+use crate::disk::Disk;
 use crate::part::Part;
+use sw_data::Failed;
 
 /// Writes to a part and syncs. After `Ok` the bytes are on the disk; at every moment of the call a crash leaves what it
 /// might have left before it, or that with the write torn.

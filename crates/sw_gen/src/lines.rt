@@ -5,10 +5,10 @@ ghost use Rattle.sw_gen.specs.Generated.{fetch_line, fetch_lines, action, of_cli
 
 use std::alloc::{AllocError, Global};
 
-/// How many scripts there are.
+// How many scripts there are.
 const SCRIPTS: u32 = 16;
 
-/// The line that answers a fetch of a script.
+// The line that answers a fetch of a script.
 #[tactic(auto, unfolding(crate::specs::Generated::fetch_line))]
 fn fetch_line(alloc: Global, script: u32) -> Result<String, AllocError>
     ensures { IfOk result (λ text. string_bytes text ≡ fetch_line script) }
@@ -31,7 +31,7 @@ pub fn fetch_lines(alloc: Global) -> Result<String, AllocError>
     Ok(text)
 }
 
-/// The line of a lane's action with this word and these members.
+// The line of a lane's action with this word and these members.
 #[tactic(auto, unfolding(crate::specs::Generated::action))]
 fn action(alloc: Global, lane: u32, word: &str, members: &str) -> Result<String, AllocError>
     ensures { IfOk result (λ text. string_bytes text ≡ action lane word.now members.now) }
@@ -39,7 +39,7 @@ fn action(alloc: Global, lane: u32, word: &str, members: &str) -> Result<String,
     format!(in alloc; "{{\"lane\":{lane},\"do\":\"{word}\"{members}}}\n")
 }
 
-/// The members of an action that names a client.
+// The members of an action that names a client.
 #[tactic(auto, unfolding(crate::specs::Generated::of_client))]
 fn of_client(alloc: Global, client: u32, members: &str) -> Result<String, AllocError>
     ensures { IfOk result (λ text. string_bytes text ≡ of_client client members.now) }
@@ -47,7 +47,7 @@ fn of_client(alloc: Global, client: u32, members: &str) -> Result<String, AllocE
     format!(in alloc; ",\"client\":{client}{members}")
 }
 
-/// A client opens its page.
+// A client opens its page.
 #[tactic(auto, unfolding(crate::specs::Generated::open_line))]
 fn open_line(alloc: Global, lane: u32, client: u32, script: u32) -> Result<String, AllocError>
     ensures { IfOk result (λ text. string_bytes text ≡ open_line lane client script) }
@@ -57,7 +57,7 @@ fn open_line(alloc: Global, lane: u32, client: u32, script: u32) -> Result<Strin
     action(alloc, lane, "open", members.as_str())
 }
 
-/// A client registers its script.
+// A client registers its script.
 #[tactic(auto, unfolding(crate::specs::Generated::register_line))]
 fn register_line(alloc: Global, lane: u32, client: u32) -> Result<String, AllocError>
     ensures { IfOk result (λ text. string_bytes text ≡ register_line lane client) }
@@ -66,7 +66,7 @@ fn register_line(alloc: Global, lane: u32, client: u32) -> Result<String, AllocE
     action(alloc, lane, "register", members.as_str())
 }
 
-/// A lane awaits the promise of its action at a position.
+// A lane awaits the promise of its action at a position.
 #[tactic(auto, unfolding(crate::specs::Generated::await_line))]
 fn await_line(alloc: Global, lane: u32, at: u32) -> Result<String, AllocError>
     ensures { IfOk result (λ text. string_bytes text ≡ await_line lane at) }
@@ -75,7 +75,7 @@ fn await_line(alloc: Global, lane: u32, at: u32) -> Result<String, AllocError>
     action(alloc, lane, "await", members.as_str())
 }
 
-/// A client closes.
+// A client closes.
 #[tactic(auto, unfolding(crate::specs::Generated::close_line))]
 fn close_line(alloc: Global, lane: u32, client: u32) -> Result<String, AllocError>
     ensures { IfOk result (λ text. string_bytes text ≡ close_line lane client) }
@@ -84,7 +84,7 @@ fn close_line(alloc: Global, lane: u32, client: u32) -> Result<String, AllocErro
     action(alloc, lane, "close", members.as_str())
 }
 
-/// The cache is opened.
+// The cache is opened.
 #[tactic(auto, unfolding(crate::specs::Generated::cache_line))]
 fn cache_line(alloc: Global, lane: u32) -> Result<String, AllocError>
     ensures { IfOk result (λ text. string_bytes text ≡ cache_line lane) }
@@ -97,7 +97,7 @@ fn cache_line(alloc: Global, lane: u32) -> Result<String, AllocError>
     )
 }
 
-/// A client's page is put into the cache.
+// A client's page is put into the cache.
 #[tactic(auto, unfolding(crate::specs::Generated::put_line))]
 fn put_line(alloc: Global, lane: u32, client: u32) -> Result<String, AllocError>
     ensures { IfOk result (λ text. string_bytes text ≡ put_line lane client) }
@@ -108,7 +108,7 @@ fn put_line(alloc: Global, lane: u32, client: u32) -> Result<String, AllocError>
     action(alloc, lane, "put", members.as_str())
 }
 
-/// An action on the scope of the client's page.
+// An action on the scope of the client's page.
 #[tactic(auto, unfolding(crate::specs::Generated::scope_line))]
 fn scope_line(alloc: Global, lane: u32, word: &str, client: u32) -> Result<String, AllocError>
     ensures { IfOk result (λ text. string_bytes text ≡ scope_line lane word.now client) }
@@ -117,7 +117,7 @@ fn scope_line(alloc: Global, lane: u32, word: &str, client: u32) -> Result<Strin
     action(alloc, lane, word, members.as_str())
 }
 
-/// The cache is opened and the client's page put into it.
+// The cache is opened and the client's page put into it.
 fn cached(alloc: Global, lane: u32, client: u32) -> Result<String, AllocError>
     ensures { IfOk result (λ text. string_bytes text ≡ cache_line lane ++ put_line lane client) }
 {
@@ -127,7 +127,7 @@ fn cached(alloc: Global, lane: u32, client: u32) -> Result<String, AllocError>
     Ok(text)
 }
 
-/// The last lines of a client, by their kind.
+// The last lines of a client, by their kind.
 #[tactic(auto, unfolding(crate::specs::Generated::last_lines))]
 fn last_lines(alloc: Global, kind: u32, lane: u32, client: u32) -> Result<String, AllocError>
     ensures { IfOk result (λ text. string_bytes text ≡ last_lines kind lane client) }

@@ -8,7 +8,7 @@ use std::alloc::Global;
 use std::marker::Model;
 use sw_data::NoMemory;
 
-/// How many lanes there are.
+// How many lanes there are.
 const LANES: usize = 8;
 
 /// What is made so far: the last number, how many lines each lane has, and the text.
@@ -25,17 +25,18 @@ impl Model for Made {
 
     ghost Value = { generated.Made };
 
-    ghost view = { λ made. record { x = made.x; counts = made.counts; text = string_bytes made.text } };
+    ghost view = { λ made.
+        record { x = made.x; counts = made.counts; text = string_bytes made.text } };
 }
 
-/// The number after a number.
+// The number after a number.
 fn next(x: u32) -> u32
     ensures { result ≡ next x }
 {
     ((1_103_515_245 * u64::from(x) + 12_345) % 2_147_483_648) as u32
 }
 
-/// The lines of a client that closes, caches, updates or unregisters.
+// The lines of a client that closes, caches, updates or unregisters.
 fn count_of(kind: u32) -> u32
     ensures { result ≡ count_of kind }
 {
@@ -45,7 +46,8 @@ fn count_of(kind: u32) -> u32
 impl Made {
     /// The scripts alone, whose lines are `text`.
     pub fn new(text: String, number: u32) -> Made
-        ensures { result ≡ record { x = number % 2147483648; counts = replicate 8 0; text = string_bytes text } }
+        ensures { result
+            ≡ record { x = number % 2147483648; counts = replicate 8 0; text = string_bytes text } }
     {
         Made {
             x: number % 2_147_483_648,

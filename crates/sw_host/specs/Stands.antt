@@ -12,7 +12,7 @@ use Rattle.sw_record.specs.declared.error.Limit.{Limit}
 use Rattle.sw_record.specs.declared.error.RecordingError.{RecordingError}
 use Rattle.sw_record.specs.declared.error.RecordingError.TheVariants as error
 use Rattle.sw_record.specs.Grammar.{recording_of}
-use Rattle.sw_record.specs.Limits.{recording_limit}
+use Rattle.sw_record.specs.declared.limits.TheConstants.{RECORDING_LIMIT}
 use Rattle.sw_record.specs.Refusals as refusals
 use Rattle.sw_rules.specs.Run.{IsWholeRun}
 use Rattle.sw_rules.specs.Storage.{nothing}
@@ -32,12 +32,12 @@ is_replay (word ∷ next ∷ rest) = false
 pub record IsRead (words : List (String Global)) (left : Option (List ℕ)) (bytes : List ℕ) : Type 0 where
   pub replay : is_replay words ≡ true
   pub told : Tells left bytes
-  pub within : length bytes ≤ recording_limit
+  pub within : length bytes ≤ RECORDING_LIMIT
 
 -- the words are `replay`, and the source had more bytes left than the limit
 abbrev pub IsPastLimit : List (String Global) → Option (List ℕ) → Type 0
 IsPastLimit words left =
-    (is_replay words ≡ true) × ((bytes : List ℕ) × Tells left bytes × (recording_limit < length bytes))
+    (is_replay words ≡ true) × ((bytes : List ℕ) × Tells left bytes × (RECORDING_LIMIT < length bytes))
 
 -- ---- texts
 

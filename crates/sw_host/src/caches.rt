@@ -14,7 +14,7 @@ use sw_data::{Answer, Items, KeptCache, NoMemory, Request, Response, Text};
 /// A request and the response that is kept under it.
 pub type Pair = (Request, Response);
 
-/// The row is the cache of this key and name.
+// The row is the cache of this key and name.
 fn is_cache(row: &KeptCache, key: &Text, name: &Text) -> bool
     ensures { result ≡ is_cache key.now name.now row.now }
 {
@@ -28,21 +28,21 @@ pub fn cache_of<'a>(rows: &'a [KeptCache], key: &Text, name: &Text) -> Option<&'
     rows.iter().find(|row| is_cache(row, key, name))
 }
 
-/// Two addresses are equal without their fragments.
+// Two addresses are equal without their fragments.
 fn same_address(left: &Text, right: &Text) -> bool
     ensures { result ≡ bytes_eq (without_fragment left.now) (without_fragment right.now) }
 {
     without_fragment(left.as_bytes()) == without_fragment(right.as_bytes())
 }
 
-/// The pair's request has this address, fragments aside.
+// The pair's request has this address, fragments aside.
 fn has_url(pair: &Pair, url: &Text) -> bool
     ensures { result ≡ has_url url.now pair.now }
 {
     same_address(url, &pair.0.url)
 }
 
-/// Drops the pairs of this address.
+// Drops the pairs of this address.
 fn drop_url(pairs: &mut Vec<Pair>, url: &Text)
     ensures items { pairs.new.items ≡ filter (λ old. not (has_url url.now old)) pairs.old.items }
     ensures bound { vec_len pairs.new ≤ vec_len pairs.old }
@@ -51,7 +51,7 @@ fn drop_url(pairs: &mut Vec<Pair>, url: &Text)
     pairs.retain(|old| !has_url(old, url));
 }
 
-/// Puts a pair into a cache, where it takes the place of the pairs of its address.
+// Puts a pair into a cache, where it takes the place of the pairs of its address.
 fn add_pair(alloc: Global, row: &mut KeptCache, pair: Pair) -> Result<(), NoMemory>
     ensures ok { OnOk result (row.new ≡ with_pair pair row.old) }
     ensures err { OnErr result (row.new ≡ row.old) }
@@ -93,7 +93,7 @@ pub fn put_pair(
     Ok(())
 }
 
-/// The first pair whose request has this address, behind its place.
+// The first pair whose request has this address, behind its place.
 fn first_with_url<'a>(pairs: &'a [Pair], url: &Text) -> Option<(usize, &'a Pair)>
     ensures { option_map (λ item. (item.0, item.1.now)) result ≡ first_with_url url.now pairs.now }
 {
@@ -105,9 +105,10 @@ fn first_with_url<'a>(pairs: &'a [Pair], url: &Text) -> Option<(usize, &'a Pair)
     None
 }
 
-/// The answer of a hit.
+// The answer of a hit.
 fn hit(alloc: Global, name: &Text, place: usize, pair: &Pair) -> Result<Answer, NoMemory>
-    ensures { IfOk result (λ answer. answer ≡ Answer.Hit name.now place pair.now.1.status (length pair.now.1.body)) }
+    ensures { IfOk result (λ answer. answer
+        ≡ Answer.Hit name.now place pair.now.1.status (length pair.now.1.body)) }
 {
     Ok(Answer::Hit {
         name: name.copy(alloc)?,

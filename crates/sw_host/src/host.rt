@@ -48,7 +48,7 @@ impl Model for Host {
     ghost invariant = { λ host. ArePlainCaches host.caches.items };
 }
 
-/// An answer without notices.
+// An answer without notices.
 fn answered(alloc: Global, answer: Answer) -> Reply
     ensures answer { result.answer ≡ answer }
     ensures notices { result.notices ≡ [] }
@@ -59,7 +59,7 @@ fn answered(alloc: Global, answer: Answer) -> Reply
     }
 }
 
-/// A TypeError without an index.
+// A TypeError without an index.
 fn type_error(cause: Cause) -> Answer
     ensures { result ≡ Answer.Fault (Fault.TypeError cause None) }
 {
@@ -80,7 +80,8 @@ impl Host {
     pub fn apply(&mut self, alloc: Global, event: &Event) -> Result<Reply, NoMemory>
         requires plain { IsPlain event.now }
         requires bare { IsBare self.old }
-        ensures step { IfOk result (λ reply. Step self.old event.now reply.answer reply.notices self.new) }
+        ensures step { IfOk result
+            (λ reply. Step self.old event.now reply.answer reply.notices self.new) }
         ensures bare { IsBare self.new }
     {
         match event {
@@ -91,11 +92,12 @@ impl Host {
         }
     }
 
-    /// A cache is opened, and made where it is absent.
+    // A cache is opened, and made where it is absent.
     #[tactic(auto, using(crate::proofs::PlainLemmas::plain_caches_push), unfolding(sw_rules::specs::Caching::add_cache))]
     fn open_cache(&mut self, alloc: Global, place: &Place, name: &Text) -> Result<Reply, NoMemory>
         requires { IsBare self.old }
-        ensures step { IfOk result (λ reply. Replies (with_key self.old place.now (open_cache self.old name.now)) reply self.new) }
+        ensures step { IfOk result (λ reply. Replies
+            (with_key self.old place.now (open_cache self.old name.now)) reply self.new) }
         ensures bare { IsBare self.new }
     {
         let key = match place_key(alloc, place)? {
@@ -114,11 +116,13 @@ impl Host {
         Ok(answered(alloc, Answer::Made))
     }
 
-    /// A response is put into a cache.
+    // A response is put into a cache.
     fn put(&mut self, alloc: Global, place: &Place, put: &CachePut) -> Result<Reply, NoMemory>
         requires plain { IsPlainPut put.now }
         requires bare { IsBare self.old }
-        ensures step { IfOk result (λ reply. Replies (with_key self.old place.now (put_response self.old place.now.at put.now)) reply self.new) }
+        ensures step { IfOk result (λ reply. Replies
+            (with_key self.old place.now (put_response self.old place.now.at put.now))
+            reply self.new) }
         ensures bare { IsBare self.new }
     {
         let key = match place_key(alloc, place)? {
@@ -135,7 +139,7 @@ impl Host {
         }
     }
 
-    /// A response is put into a cache that is there, under a parsed address.
+    // A response is put into a cache that is there, under a parsed address.
     #[tactic(auto, using(crate::proofs::PlainLemmas::put_parsed_plain))]
     fn put_parsed(
         &mut self,
@@ -163,7 +167,7 @@ impl Host {
         Ok(answered(alloc, Answer::Ok))
     }
 
-    /// A plain pair is kept in a cache.
+    // A plain pair is kept in a cache.
     #[tactic(auto, using(crate::proofs::PlainLemmas::with_pair_plain))]
     fn keep(&mut self, alloc: Global, key: &Text, name: &Text, pair: Pair) -> Result<(), NoMemory>
         requires { IsPlainPair pair }
@@ -177,11 +181,13 @@ impl Host {
         Ok(())
     }
 
-    /// A look-up over all caches of a key.
+    // A look-up over all caches of a key.
     #[tactic(auto, using(crate::proofs::PlainLemmas::match_request_plain))]
     fn find(&self, alloc: Global, place: &Place, asked: &CacheMatch) -> Result<Reply, NoMemory>
         requires { IsPlainMatch asked.now }
-        ensures step { IfOk result (λ reply. Replies (with_key self.now place.now (match_request self.now place.now.at asked.now)) reply self.now) }
+        ensures step { IfOk result (λ reply. Replies
+            (with_key self.now place.now (match_request self.now place.now.at asked.now))
+            reply self.now) }
     {
         let key = match place_key(alloc, place)? {
             Ok(key) => key,
@@ -195,7 +201,7 @@ impl Host {
     }
 }
 
-/// The scheme of a request's serialized address is http or https.
+// The scheme of a request's serialized address is http or https.
 fn has_http_scheme(request: &Request) -> bool
     ensures { result ≡ has_http_scheme request.now }
 {
@@ -203,7 +209,7 @@ fn has_http_scheme(request: &Request) -> bool
     scheme == b"https".as_slice() || scheme == b"http".as_slice()
 }
 
-/// What stands before the first `:` of a serialized address, and nothing where there is none.
+// What stands before the first `:` of a serialized address, and nothing where there is none.
 #[tactic(auto, unfolding(sw_data::specs::Addresses::scheme_of))]
 fn scheme_of(address: &[u8]) -> &[u8]
     ensures { result.now ≡ scheme_of address.now }
@@ -221,10 +227,10 @@ fn has_colon(address: &[u8]) -> bool
     address.iter().any(|b| *b == b':')
 }
 
-/// The most bytes that the spellings of one batch may have.
+// The most bytes that the spellings of one batch may have.
 const QUOTA: u64 = 33_554_432;
 
-/// The spelling of a put without headers is within the quota.
+// The spelling of a put without headers is within the quota.
 fn is_within_quota(request: &Request, response: &Response) -> bool
     requires request { request.now.headers ≡ [] }
     requires response { response.now.headers ≡ [] }

@@ -41,7 +41,8 @@ fn act(
 ) -> Result<(), NoMemory>
     requires built { is_built_action action ≡ true }
     requires bare { IsBare host.old }
-    ensures { OnOk result (HasActed at action history.old.items host.old history.new.items host.new) }
+    ensures { OnOk result
+        (HasActed at action history.old.items host.old history.new.items host.new) }
 {
     let who = Who::Lane { lane: 0, at };
     let event = event_of_action(who, action);

@@ -26,7 +26,7 @@ const FETCH: &str = "{\"fetch\":\"https://a.test/x\",\"error\":true}\n";
 const ELSEWHERE: &str =
     "{\"lane\":0,\"do\":\"match\",\"at\":\"https://b.test/\",\"request\":\"https://a.test/x\"}\n";
 
-fn listed(alloc: Global, call: Option<u64>) -> Result<Vec<u64>, AllocError> {
+fn failing_at(alloc: Global, call: Option<u64>) -> Result<Vec<u64>, AllocError> {
     let mut calls = Vec::new(alloc);
     if let Some(call) = call {
         calls.push(call)?;
@@ -130,9 +130,9 @@ fn recordings_are_replayed(rt: HostRuntime) -> Result<(), Fail> {
     ] {
         let mut source = MemorySource::new(
             Bytes::of(alloc, lines.as_bytes())?,
-            listed(alloc, source_fails)?,
+            failing_at(alloc, source_fails)?,
         );
-        let mut sink = MemorySink::new(alloc, listed(alloc, sink_fails)?);
+        let mut sink = MemorySink::new(alloc, failing_at(alloc, sink_fails)?);
         let ended = run(alloc, &words(alloc, word)?, &mut source, &mut sink);
         assert_eq!(rt; ended.code(), status, "{lines}");
         assert!(rt; sink.bytes() == text.as_bytes(), "{lines}");

@@ -4,7 +4,6 @@ ghost use Rattle.std.specs.Prelude.{◌≡◌, ◌+◌, ◌≤◌, ℕ, List, tr
 ghost use Rattle.std.specs.Io.KnownBytes.{Appends, IsAtEnd, Keeps};
 ghost use Rattle.sw_data.specs.Faults.{Rose};
 ghost use Rattle.sw_data.specs.Streams.{AppendsPrefix, ConsumesSome};
-ghost use Rattle.sw_record.specs.Limits.{recording_limit};
 ghost use Rattle.sw_host.specs.Stands.{IsBadLine, IsDone, IsNotYet, IsTooLarge, Replays, RunsAs, Stands, is_replay, refusal_text};
 
 use crate::built::is_built;
@@ -15,10 +14,7 @@ use std::alloc::Global;
 use sw_data::{End, NoMemory, Recording};
 use sw_io::{ReadAllError, Sink, Source, read_all, write_all};
 use sw_print::print_history;
-use sw_record::read_recording;
-
-// The most bytes of a recording.
-const RECORDING_LIMIT: u64 = 16_777_216;
+use sw_record::{RECORDING_LIMIT, read_recording};
 
 /// Does what the words say: `replay` reads a recording from the source to its end, runs it from nothing, and writes
 /// the transcript to the sink.
@@ -60,7 +56,7 @@ pub fn run<S: Source, K: Sink>(
 
     // Wrong words leave the source as it was. Other words read it no further than its end.
     ensures untouched { is_replay words.now ≡ false → source.new ≡ source.old }
-    ensures reads { S.reads source.new ≤ S.reads source.old + (recording_limit + 2) }
+    ensures reads { S.reads source.new ≤ S.reads source.old + (RECORDING_LIMIT + 2) }
     ensures consumed { is_replay words.now ≡ true
         → ConsumesSome (S.left source.old) (S.left source.new) }
     ensures end { result ≡ Status.Done → IsAtEnd (S.left source.new) }
@@ -80,7 +76,7 @@ fn report_of<S: Source>(alloc: Global, words: &[String], source: &mut S) -> Resu
         Stands words.now (S.left source.old) (S.faults source.old) (S.faults source.new)
         report.status report.text) }
     ensures untouched { is_replay words.now ≡ false → source.new ≡ source.old }
-    ensures reads { S.reads source.new ≤ S.reads source.old + (recording_limit + 2) }
+    ensures reads { S.reads source.new ≤ S.reads source.old + (RECORDING_LIMIT + 2) }
     ensures consumed { is_replay words.now ≡ true
         → ConsumesSome (S.left source.old) (S.left source.new) }
     ensures end { IfOk result (λ report.

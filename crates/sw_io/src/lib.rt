@@ -15,8 +15,9 @@ pub use memory::sink::MemorySink;
 pub use memory::source::MemorySource;
 pub use never::{NeverSink, NeverSource};
 pub use sink::Sink;
-pub use source::{Failed, Source};
+pub use source::Source;
 pub use standard::{StdSink, StdSource};
+pub use sw_data::Failed;
 pub use whole::{ReadAllError, read_all, write_all};
 
 #[cfg(test)]

@@ -7,9 +7,9 @@ ghost use Rattle.sw_io.specs.Memory.{counted};
 
 use super::remaining::Remaining;
 use super::sink::Sink;
-use super::source::{Failed, Source};
+use super::source::Source;
 use std::marker::Model;
-use sw_data::Bytes;
+use sw_data::{Bytes, Failed};
 
 /// A source of these bytes, whose count of faults is always 0.
 #[derive(Drop)]

@@ -42,7 +42,7 @@ impl Remaining {
     }
 }
 
-/// Copies the front of `from` to the front of `into`, as far as both go.
+// Copies the front of `from` to the front of `into`, as far as both go.
 fn fill(into: &mut [u8], from: &[u8]) -> usize
     ensures count { result ≡ min (length from.now) (length into.new) }
     ensures front { take result into.new ≡ take result from.now }

@@ -5,7 +5,7 @@ ghost use Rattle.std.specs.Io.{WritesAtMost};
 ghost use Rattle.std.specs.Io.KnownBytes.{WriteAppends};
 ghost use Rattle.sw_io.specs.Memory.{counted};
 
-use super::source::Failed;
+use sw_data::Failed;
 
 /// Where bytes go.
 pub trait Sink {

@@ -5,12 +5,7 @@ ghost use Rattle.std.specs.Io.{ReadsAtMost};
 ghost use Rattle.std.specs.Io.KnownBytes.{ReadConsumes};
 ghost use Rattle.sw_io.specs.Memory.{counted};
 
-use thiserror::Error;
-
-/// A call of a source or a sink failed, and its count of faults rose.
-#[derive(Debug, Clone, Copy, PartialEq, Eq, Error)]
-#[error("a read or a write failed")]
-pub struct Failed;
+use sw_data::Failed;
 
 /// Where bytes come from.
 pub trait Source {

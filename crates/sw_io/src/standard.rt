@@ -5,8 +5,9 @@
 ghost use Rattle.std.specs.Prelude.{◌≡◌};
 
 use super::sink::Sink;
-use super::source::{Failed, Source};
+use super::source::Source;
 use std::io::{Read, Write};
+use sw_data::Failed;
 
 /// A source over a reader.
 #[derive(Drop)]

@@ -6,7 +6,7 @@ use std::io::{ErrorKind, Read};
 use std::test::Fail;
 use sw_data::{Bytes, NoMemory, Text};
 
-/// A sink that takes one byte at a time.
+// A sink that takes one byte at a time.
 #[derive(Drop)]
 struct ByteByByte {
     bytes: Vec<u8>,
@@ -36,7 +36,7 @@ impl Sink for ByteByByte {
     }
 }
 
-/// A reader that fails.
+// A reader that fails.
 #[derive(Drop)]
 struct Broken;
 
@@ -46,7 +46,7 @@ impl Read for Broken {
     }
 }
 
-fn listed(alloc: Global, call: Option<u64>) -> Result<Vec<u64>, AllocError> {
+fn failing_at(alloc: Global, call: Option<u64>) -> Result<Vec<u64>, AllocError> {
     let mut calls = Vec::new(alloc);
     if let Some(call) = call {
         calls.push(call)?;
@@ -76,7 +76,7 @@ fn sources_are_read_within_a_limit(rt: HostRuntime) -> Result<(), Fail> {
             1,
         ),
     ] {
-        let mut source = MemorySource::new(Bytes::of(alloc, bytes)?, listed(alloc, failing)?);
+        let mut source = MemorySource::new(Bytes::of(alloc, bytes)?, failing_at(alloc, failing)?);
         let got = read_all(alloc, &mut source, limit);
         assert_eq!(rt; source.faults(), faults, "limit {limit}");
         match got {
@@ -106,12 +106,12 @@ fn sources_are_read_within_a_limit(rt: HostRuntime) -> Result<(), Fail> {
 fn sinks_are_given_all(rt: HostRuntime) -> Result<(), Fail> {
     let alloc = rt.alloc();
     let text = Text::of(alloc, "hello")?;
-    let mut memory = MemorySink::new(alloc, listed(alloc, Some(1))?);
+    let mut memory = MemorySink::new(alloc, failing_at(alloc, Some(1))?);
     assert!(rt; write_all(&mut memory, text.as_bytes()).is_ok());
     assert!(rt; write_all(&mut memory, b"lost").is_err());
     assert!(rt; memory.bytes() == b"hello".as_slice());
     assert_eq!(rt; memory.faults(), 1);
-    let mut broken = MemorySink::new(alloc, listed(alloc, Some(0))?);
+    let mut broken = MemorySink::new(alloc, failing_at(alloc, Some(0))?);
     assert!(rt; write_all(&mut broken, b"lost").is_err());
     assert!(rt; broken.bytes().is_empty());
     let mut slow = ByteByByte {

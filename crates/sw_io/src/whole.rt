@@ -7,9 +7,9 @@ ghost use Rattle.sw_data.specs.Faults.{Rose};
 ghost use Rattle.sw_io.specs.declared.whole.ReadAllError.TheVariants.{ReadFault, NoMemory};
 
 use super::sink::Sink;
-use super::source::{Failed, Source};
+use super::source::Source;
 use std::alloc::{AllocError, Global};
-use sw_data::Bytes;
+use sw_data::{Bytes, Failed};
 use thiserror::Error;
 
 /// Why a source was not read to its end.

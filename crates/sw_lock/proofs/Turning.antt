@@ -8,7 +8,7 @@ use Rattle.sw_lock.specs.declared.view.View.{View}
 use Rattle.sw_lock.specs.declared.view.Place.TheVariants.{Away}
 use Rattle.sw_lock.specs.Entries.{ThenOwn}
 use Rattle.sw_lock.specs.Turns.{Kept, IsEnd}
-use Rattle.sw_lock.specs.Steps.{Sat, IsIdle, IsFirst, gave, further, Found, Advanced, Took, holding, counting, with_ticket, without, counted, passed}
+use Rattle.sw_lock.specs.Steps.{Sat, IsIdle, IsFirst, gave, further, Found, Advanced, Took, holding, counting, with_ticket, without, tallied, passed}
 use Rattle.sw_lock.proofs.Turns.{adds, passes_on, splits, closes}
 use Rattle.sw_lock.proofs.Stands.{longer}
 
@@ -55,10 +55,10 @@ module _ {V E G O : Type 0} (g : Ghosts V E G O) where
   module _ (opened : V) (made : ℕ) where
     pub counts_turn : (slots id added ticket pass : ℕ) (m m3 : Sat V E) (x y : V) (given : G) (answer : O) → IsIdle m → m3 ≡ has m ticket x y
         → pass ≡ m.0.number → Advanced g x given pass y answer added
-        → Allows (Kept g opened made) slots id m3 0 (λ n. (n + added) % 2 ^ 64) (counted g (step slots 0 added 0 none) m3)
+        → Allows (Kept g opened made) slots id m3 0 (λ n. (n + added) % 2 ^ 64) (tallied g (step slots 0 added 0 none) m3)
     counts_turn slots id added ticket pass m m3 x y given answer idle e number a =
         let alone = idle.alone in
-        subst (λ (n : Sat V E). Allows (Kept g opened made) slots id n 0 (λ n. (n + added) % 2 ^ 64) (counted g (step slots 0 added 0 none) n)) (sym e)
+        subst (λ (n : Sat V E). Allows (Kept g opened made) slots id n 0 (λ n. (n + added) % 2 ^ 64) (tallied g (step slots 0 added 0 none) n)) (sym e)
         (adds g opened made slots id added (has m ticket x y) y refl (λ e. cc) (omega arith)
         (subst (λ (k : ℕ). ThenOwn g.maker k (g.log x) (g.log y)) number a.own) a.added_are a.small)
 

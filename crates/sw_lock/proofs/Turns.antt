@@ -14,7 +14,7 @@ use Rattle.sw_lock.specs.declared.view.Place.{Place}
 use Rattle.sw_lock.specs.declared.view.Place.TheVariants.{Away, Out, Counted}
 use Rattle.sw_lock.specs.Entries.{ThenOwn, ThenOthers}
 use Rattle.sw_lock.specs.Turns.{Has, Spent, Tickets, Knows, Stands, Slot, Kept, IsEnd}
-use Rattle.sw_lock.specs.Steps.{Sat, newcomer, gave, further, together, gone, drew, passed, looked, holding, saw, counted}
+use Rattle.sw_lock.specs.Steps.{Sat, newcomer, gave, further, together, gone, drew, passed, looked, holding, saw, tallied}
 use Rattle.sw_lock.proofs.Views.{at_lt, at_one, total_two, tickets_same, tickets_drawn, tickets_passed, tickets_snoc, tickets_joined, counts_set, counts_same, counts_snoc, counts_joined, next_small}
 use Rattle.sw_lock.proofs.Stands.{nothing_own, nothing_others, stands_set, stands_split, stands_joined}
 
@@ -209,7 +209,7 @@ module _ {V E G O : Type 0} (g : Ghosts V E G O) (opened : V) (made : ℕ) where
 
   pub adds : (slots id k : ℕ) (m : Sat V E) (x : V) → m.1 ≡ (0, Some x) ∷ [] → m.0.place ≢ Away → 0 < m.0.passes → ThenOwn g.maker m.0.number m.0.seen (g.log x)
       → length (g.log x) ≡ length m.0.seen + k → length (g.log x) < 2 ^ 64
-      → Allows Rule slots id m 0 (λ n. (n + k) % 2 ^ 64) (counted g (step slots 0 k 0 none) m)
+      → Allows Rule slots id m 0 (λ n. (n + k) % 2 ^ 64) (tallied g (step slots 0 k 0 none) m)
   adds slots id k m x held place live own_entries longer_by small s kept _ h _ =
       let v : View V E = m.0 in
       let w : View V E = record m.0 { place = Counted; seen = g.log x; known = length (g.log x) } in

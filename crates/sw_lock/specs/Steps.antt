@@ -103,8 +103,8 @@ module _ {V E G O : Type 0} (g : Ghosts V E G O) where
   saw st m r n = (m.0.ticket ≡ Some r → (x : V) × Found m x n) × (m.0.ticket ≢ Some r → n ≡ m)
 
   -- own: the entries that the step made are in the history
-  abbrev pub counted : At V → Sat V E → ℕ → Sat V E → Type 0
-  counted st m r n = (x : V) → m.1 ≡ (0, Some x) ∷ [] → n ≡ counting m x
+  abbrev pub tallied : At V → Sat V E → ℕ → Sat V E → Type 0
+  tallied st m r n = (x : V) → m.1 ≡ (0, Some x) ∷ [] → n ≡ counting m x
 
   -- own: a step of the pass made this value and this answer, and so many entries
   pub record Advanced (x : V) (given : G) (pass : ℕ) (y : V) (answer : O) (added : ℕ) : Type 0 where

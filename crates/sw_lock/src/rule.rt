@@ -1,7 +1,7 @@
 //! The rule of the lock's table, and what its steps tell.
 ghost use Rattle.std.specs.Prelude.{◌≡◌, ℕ, length};
 ghost use Rattle.sw_lock.specs.Turns.{Kept};
-ghost use Rattle.sw_lock.specs.Steps.{newcomer, gave, further, together, gone, drew, saw, counted, passed, looked};
+ghost use Rattle.sw_lock.specs.Steps.{newcomer, gave, further, together, gone, drew, saw, tallied, passed, looked};
 
 use crate::logged::Logged;
 use crate::view::View;
@@ -78,5 +78,5 @@ pub struct Count<T> {
 }
 
 impl<T: Logged> Play<Option<T>, View<T, T::Entry>> for Count<T> {
-    ghost then = { counted T.Logged };
+    ghost then = { tallied T.Logged };
 }

@@ -6,7 +6,7 @@ ghost use Rattle.std.specs.Io.KnownBytes.{Appends, IsAtEnd, Keeps};
 ghost use Rattle.std.specs.Process.{exit_status};
 ghost use Rattle.sw_data.specs.Faults.{Rose};
 ghost use Rattle.sw_data.specs.Streams.{AppendsPrefix, ConsumesSome};
-ghost use Rattle.sw_record.specs.Limits.{recording_limit};
+ghost use Rattle.sw_record.specs.declared.limits.TheConstants.{RECORDING_LIMIT};
 ghost use Rattle.sw_host.specs.Stands.{IsBadLine, IsDone, IsNotYet, IsTooLarge, Stands, is_replay, refusal_text};
 ghost use Rattle.sw_host.specs.declared.statuses.Status.{Status};
 
@@ -49,7 +49,7 @@ fn ended<S: Source, K: Sink>(
 
     // What it reads.
     ensures untouched { is_replay words.now ≡ false → source.new ≡ source.old }
-    ensures reads { S.reads source.new ≤ S.reads source.old + (recording_limit + 2) }
+    ensures reads { S.reads source.new ≤ S.reads source.old + (RECORDING_LIMIT + 2) }
     ensures consumed { is_replay words.now ≡ true
         → ConsumesSome (S.left source.old) (S.left source.new) }
     ensures end { exit_status result ≡ 0 → IsAtEnd (S.left source.new) }

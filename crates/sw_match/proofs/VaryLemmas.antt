@@ -12,8 +12,8 @@ use Rattle.http_header.specs.Token.{lowercase}
 use Rattle.std.specs.Char.{to_ascii_lowercase}
 use Rattle.sw_data.specs.declared.exchange.Header.{Header}
 use Rattle.sw_data.specs.declared.exchange.Response.{Response}
-use Rattle.sw_data.specs.Headers.{combined_values, comma_joined, lines_of, members_of, same_name, trimmed, values_of, vary_members}
-use Rattle.sw_rules.specs.Matching.{equal_values, same_values, vary_allows, varies_on_all}
+use Rattle.sw_data.specs.Headers.{combined_values, comma_joined, named_lines, members_of, same_name, trimmed, values_of, vary_members}
+use Rattle.sw_rules.specs.Matching.{same_values, vary_allows, varies_on_all}
 use Rattle.sw_match.specs.Left.{agrees, is_star}
 
 abbrev parts : List ℕ → List (List ℕ)
@@ -122,7 +122,7 @@ lower_twice (b ∷ name) = λ i. lower_byte b i ∷ lower_twice name i
     lower_byte : (b : ℕ) → to_ascii_lowercase (to_ascii_lowercase b) ≡ to_ascii_lowercase b
     lower_byte b = grind (arith, nat_tests)
 
-lines_any_case : (name : List ℕ) (headers : List Header) → lines_of (lowercase name) headers ≡ lines_of name headers
+lines_any_case : (name : List ℕ) (headers : List Header) → named_lines (lowercase name) headers ≡ named_lines name headers
 lines_any_case name [] = refl
 lines_any_case name (line ∷ headers) = rw (lower_twice name) (elim (cases_Bool (same_name line.name name)) [
   | inl e ↦ rw e (ap (λ rest. line ∷ rest) (lines_any_case name headers))
@@ -130,7 +130,7 @@ lines_any_case name (line ∷ headers) = rw (lower_twice name) (elim (cases_Bool
 ])
 
 same_any_case : (left right : List Header) (name : List ℕ) → same_values left right (lowercase name) ≡ same_values left right name
-same_any_case left right name = λ i. equal_values (combined_values (map (λ line. line.value) (lines_any_case name left i))) (combined_values (map (λ line. line.value) (lines_any_case name right i)))
+same_any_case left right name = λ i. option_eq bytes_eq (combined_values (map (λ line. line.value) (lines_any_case name left i))) (combined_values (map (λ line. line.value) (lines_any_case name right i)))
 
 all_parts : (query item : List Header) (list : List (List ℕ)) → list_all (same_values query item) (of_parts list) ≡ list_all (agrees query item) list
 all_parts query item [] = refl

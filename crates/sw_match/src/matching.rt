@@ -16,7 +16,7 @@ pub fn is_get(request: &Request) -> bool
     request.method.as_str() == "GET"
 }
 
-/// The addresses are equal without fragments, and with ignoreSearch also without queries.
+// The addresses are equal without fragments, and with ignoreSearch also without queries.
 fn same_address(options: Options, left: &[u8], right: &[u8]) -> bool
     ensures { result ≡ same_address options left.now right.now }
 {
@@ -42,7 +42,7 @@ pub fn request_matches(
         && (options.ignore_vary || is_allowed(query, item, response))
 }
 
-/// The Vary value of a response, if there is one, lets the query have it.
+// The Vary value of a response, if there is one, lets the query have it.
 fn is_allowed(query: &Request, item: &Request, response: Option<&Response>) -> bool
     ensures { result ≡ option_map_or (vary_allows query.now.headers item.now.headers)
         (option_copied response.entry) true }

@@ -39,7 +39,7 @@ impl<'a> Stream<'a> {
         }
     }
 
-    /// The next byte.
+    // The next byte.
     fn next(&mut self) -> Option<u8>
         ensures { MatchOption result ((self.old ≡ []) × (self.new ≡ []))
             (λ byte. self.old ≡ byte ∷ self.new) }

@@ -42,7 +42,7 @@ pub fn combined(alloc: Global, headers: &[Header], name: &Text) -> Result<Option
     }
 }
 
-/// A value, and the further values of a field behind it.
+// A value, and the further values of a field behind it.
 fn joined(alloc: Global, value: &str, headers: &[Header], name: &[u8]) -> Result<Text, NoMemory>
     ensures { IfOk result (λ text. text ≡ value.now ++ further name.now headers.now) }
 {

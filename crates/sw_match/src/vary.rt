@@ -3,7 +3,7 @@
 ghost use Rattle.std.specs.Prelude.{◌≡◌, ◌<◌, ◌∷◌, ◌&&◌, ◌||◌, ◌==◌, not, codes, length, option_copied, slice_index_or};
 ghost use Rattle.std.specs.List.{list_any, list_all, slice_split};
 ghost use Rattle.std.specs.Option.{IfSome};
-ghost use Rattle.sw_data.specs.Headers.{is_blank, same_name, trimmed};
+ghost use Rattle.sw_data.specs.Headers.{is_ows, same_name, trimmed};
 ghost use Rattle.sw_rules.specs.Matching.{vary_allows, varies_on_all};
 ghost use Rattle.sw_rules.specs.Matching as rules;
 ghost use Rattle.sw_match.specs.Left.{agrees, is_star, parts_left};
@@ -55,7 +55,8 @@ pub(crate) fn vary_allows(query: &[Header], item: &[Header], response: &Response
 
 fn all_lines_agree(query: &[Header], item: &[Header], headers: &[Header]) -> bool
     ensures { result ≡ list_all (λ line. not (same_name line.name (codes "vary"))
-        || list_all (agrees query.now item.now) (slice_split (λ b. b == 44) line.value)) headers.now }
+        || list_all (agrees query.now item.now)
+        (slice_split (λ b. b == 44) line.value)) headers.now }
 {
     headers.iter().all(|line| {
         !same_name(line.name.as_bytes(), b"vary") || all_agree(query, item, line.value.as_bytes())
@@ -77,7 +78,7 @@ fn all_agree(query: &[Header], item: &[Header], value: &[u8]) -> bool
     true
 }
 
-/// Both have the same combined value of a field, if a field is named.
+// Both have the same combined value of a field, if a field is named.
 fn agrees(query: &[Header], item: &[Header], name: &[u8]) -> bool
     ensures { result ≡ (length name.now == 0
         || rules.same_values query.now item.now name.now) }
@@ -85,7 +86,7 @@ fn agrees(query: &[Header], item: &[Header], name: &[u8]) -> bool
     name.is_empty() || same_values(query, item, name)
 }
 
-/// What stands before the first comma, and what follows it.
+// What stands before the first comma, and what follows it.
 #[tactic(auto, using(crate::proofs::VaryLemmas::parts_last, crate::proofs::VaryLemmas::parts_first))]
 fn first_part(text: &[u8]) -> (&[u8], Option<&[u8]>)
     ensures parts { slice_split (λ b. b == 44) text.now

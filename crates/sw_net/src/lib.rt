@@ -29,7 +29,7 @@ impl Gate for NoGate {
     fn pass(&self, _address: &Text, _ordinal: u32) {}
 }
 
-/// The places of each address's lines, in order.
+// The places of each address's lines, in order.
 type Places = IndexMap<Vec<u8>, Vec<usize>>;
 
 /// The fetch lines of a recording, which are found by their address.
@@ -48,15 +48,19 @@ impl Model for Net {
 
     ghost view = { λ net. net.lines };
 
-    ghost invariant = { λ net. (address : List ℕ) → noted (λ key. key.items) (λ own. own.items) net.places.entries address ≡ places_from 0 net.lines address };
+    ghost invariant = { λ net. (address : List ℕ)
+        → noted (λ key. key.items) (λ own. own.items) net.places.entries address
+        ≡ places_from 0 net.lines address };
 }
 
-/// Notes the first line of an address.
+// Notes the first line of an address.
 #[tactic(auto, using(crate::proofs::Noting::noted_new))]
 fn note_first(alloc: Global, places: &mut Places, address: &[u8], at: usize) -> Result<(), NoMemory>
     requires { get_by (λ key. bytes_eq address.now key.items) places.old ≡ None }
-    ensures { OnOk result ((asked : List ℕ) → noted (λ key. key.items) (λ own. own.items) places.new.entries asked
-        ≡ noted (λ key. key.items) (λ own. own.items) places.old.entries asked ++ (if bytes_eq address.now asked then at ∷ [] else [])) }
+    ensures { OnOk result ((asked : List ℕ)
+        → noted (λ key. key.items) (λ own. own.items) places.new.entries asked
+        ≡ noted (λ key. key.items) (λ own. own.items) places.old.entries asked
+        ++ (if bytes_eq address.now asked then at ∷ [] else [])) }
 {
     let mut key = Vec::new(alloc);
     key.extend_from_slice(address)?;
@@ -66,11 +70,13 @@ fn note_first(alloc: Global, places: &mut Places, address: &[u8], at: usize) -> 
     Ok(())
 }
 
-/// Notes one more line of an address.
+// Notes one more line of an address.
 #[tactic(auto, using(crate::proofs::Noting::noted_more))]
 fn note(alloc: Global, places: &mut Places, address: &[u8], at: usize) -> Result<(), NoMemory>
-    ensures { OnOk result ((asked : List ℕ) → noted (λ key. key.items) (λ own. own.items) places.new.entries asked
-        ≡ noted (λ key. key.items) (λ own. own.items) places.old.entries asked ++ (if bytes_eq address.now asked then at ∷ [] else [])) }
+    ensures { OnOk result ((asked : List ℕ)
+        → noted (λ key. key.items) (λ own. own.items) places.new.entries asked
+        ≡ noted (λ key. key.items) (λ own. own.items) places.old.entries asked
+        ++ (if bytes_eq address.now asked then at ∷ [] else [])) }
 {
     match places.get_mut(address) {
         Some(own) => {
@@ -81,10 +87,11 @@ fn note(alloc: Global, places: &mut Places, address: &[u8], at: usize) -> Result
     }
 }
 
-/// The places of each address among these lines.
+// The places of each address among these lines.
 #[tactic(auto, using(crate::proofs::Noting::places_more))]
 fn places_of(alloc: Global, lines: &[FetchLine]) -> Result<Places, NoMemory>
-    ensures { IfOk result (λ places. (address : List ℕ) → noted (λ key. key.items) (λ own. own.items) places.entries address
+    ensures { IfOk result (λ places. (address : List ℕ)
+        → noted (λ key. key.items) (λ own. own.items) places.entries address
         ≡ places_from 0 lines.now address) }
 {
     let mut places = IndexMap::new(alloc);
@@ -94,10 +101,11 @@ fn places_of(alloc: Global, lines: &[FetchLine]) -> Result<Places, NoMemory>
     Ok(places)
 }
 
-/// The places of the lines of an address. It takes no memory.
+// The places of the lines of an address. It takes no memory.
 #[tactic(auto, using(crate::proofs::Noting::noted_there, crate::proofs::Noting::noted_absent))]
 fn own_places<'a>(places: &'a Places, address: &[u8]) -> &'a [usize]
-    ensures { result.now ≡ noted (λ key. key.items) (λ own. own.items) places.now.entries address.now }
+    ensures { result.now
+        ≡ noted (λ key. key.items) (λ own. own.items) places.now.entries address.now }
 {
     match places.get(address) {
         Some(own) => own.as_slice(),
@@ -105,7 +113,7 @@ fn own_places<'a>(places: &'a Places, address: &[u8]) -> &'a [usize]
     }
 }
 
-/// The place of this number, past the last one the last.
+// The place of this number, past the last one the last.
 fn drawn(own: &[usize], ordinal: u32) -> Option<usize>
     ensures { result ≡ slice_get own.now (min ordinal (length own.now - 1)) }
 {
@@ -113,7 +121,7 @@ fn drawn(own: &[usize], ordinal: u32) -> Option<usize>
     own.get((ordinal as usize).min(last)).copied()
 }
 
-/// A line, unless it is a network error.
+// A line, unless it is a network error.
 fn answered(line: &FetchLine) -> Option<&FetchLine>
     ensures { option_copied result ≡ answered_line line.now }
 {
@@ -136,7 +144,7 @@ impl Net {
         })
     }
 
-    /// The place of the line that a fetch gets. It takes no memory.
+    // The place of the line that a fetch gets. It takes no memory.
     fn place(&self, address: &[u8], ordinal: u32) -> Option<usize>
         ensures { result ≡ slice_get (places_from 0 self.now address.now)
             (min ordinal (length (places_from 0 self.now address.now) - 1)) }
@@ -145,9 +153,10 @@ impl Net {
         drawn(own, ordinal)
     }
 
-    /// The line at a place, unless it is a network error. It takes no memory.
+    // The line at a place, unless it is a network error. It takes no memory.
     fn line_at(&self, place: Option<usize>) -> Option<&FetchLine>
-        ensures { option_copied result ≡ option_and_then answered_line (option_and_then (slice_get self.now) place) }
+        ensures { option_copied result
+            ≡ option_and_then answered_line (option_and_then (slice_get self.now) place) }
     {
         let line = self.lines.as_slice().get(place?)?;
         answered(line)
@@ -157,7 +166,8 @@ impl Net {
     /// the last one the last. None for an address without lines and for a network error. It takes no memory.
     pub fn fetch(&self, address: &Text, ordinal: u32) -> Option<&FetchLine>
         ensures { option_copied result
-            ≡ option_and_then answered_line (drawn_from (λ line. line.fetch) self.now address.now ordinal) }
+            ≡ option_and_then answered_line
+            (drawn_from (λ line. line.fetch) self.now address.now ordinal) }
     {
         let place = self.place(address.as_bytes(), ordinal);
         self.line_at(place)

@@ -8,7 +8,7 @@ use crate::lists::quoted;
 use std::alloc::{AllocError, Global};
 use sw_data::{Kept, KeptCache, KeptRegistration, KeptWorker, Kind, Mode};
 
-/// The word for an update-via-cache mode.
+// The word for an update-via-cache mode.
 fn mode_word(mode: Mode) -> &'static str
     ensures { result.now ≡ mode_word mode }
 {
@@ -19,7 +19,7 @@ fn mode_word(mode: Mode) -> &'static str
     }
 }
 
-/// The word for a script's type.
+// The word for a script's type.
 fn kind_word(kind: Kind) -> &'static str
     ensures { result.now ≡ kind_word kind }
 {
@@ -29,14 +29,14 @@ fn kind_word(kind: Kind) -> &'static str
     }
 }
 
-/// The word for the state of an active worker.
+// The word for the state of an active worker.
 fn active_word(activated: bool) -> &'static str
     ensures { result.now ≡ active_word activated }
 {
     if activated { "activated" } else { "activating" }
 }
 
-/// The line of a worker: its slot, its state, its script, its type and the length of its body.
+// The line of a worker: its slot, its state, its script, its type and the length of its body.
 fn worker_line(
     alloc: Global,
     slot: &str,
@@ -54,7 +54,7 @@ fn worker_line(
     Ok(line)
 }
 
-/// The line of a slot's worker, or nothing for an empty slot.
+// The line of a slot's worker, or nothing for an empty slot.
 fn slot_line(
     alloc: Global,
     slot: &str,
@@ -69,7 +69,7 @@ fn slot_line(
     }
 }
 
-/// The line of a registration's navigation preload, or nothing where it is as it was made.
+// The line of a registration's navigation preload, or nothing where it is as it was made.
 fn preload_line(alloc: Global, row: &KeptRegistration) -> Result<String, AllocError>
     ensures { IfOk result (λ text. string_bytes text ≡ preload_line row.now) }
 {
@@ -81,7 +81,7 @@ fn preload_line(alloc: Global, row: &KeptRegistration) -> Result<String, AllocEr
     format!(in alloc; " preload {word} {value}\n")
 }
 
-/// The lines behind a registration's own: its waiting worker's, its active worker's and its navigation preload's.
+// The lines behind a registration's own: its waiting worker's, its active worker's and its navigation preload's.
 fn further_lines(alloc: Global, row: &KeptRegistration) -> Result<String, AllocError>
     ensures { IfOk result (λ text. string_bytes text ≡
         slot_line (codes "waiting") (codes "installed") row.now.waiting
@@ -96,7 +96,7 @@ fn further_lines(alloc: Global, row: &KeptRegistration) -> Result<String, AllocE
     Ok(lines)
 }
 
-/// The lines of a registration: its own with its key, its scope and its mode, and those behind it.
+// The lines of a registration: its own with its key, its scope and its mode, and those behind it.
 fn registration_lines(alloc: Global, row: &KeptRegistration) -> Result<String, AllocError>
     ensures { IfOk result (λ text. string_bytes text ≡ registration_lines row.now) }
 {
@@ -110,7 +110,7 @@ fn registration_lines(alloc: Global, row: &KeptRegistration) -> Result<String, A
     Ok(lines)
 }
 
-/// The line of a cache: its key, its name and how many pairs it has.
+// The line of a cache: its key, its name and how many pairs it has.
 fn cache_line(alloc: Global, row: &KeptCache) -> Result<String, AllocError>
     ensures { IfOk result (λ text. string_bytes text ≡ cache_line row.now) }
 {
@@ -123,7 +123,7 @@ fn cache_line(alloc: Global, row: &KeptCache) -> Result<String, AllocError>
     Ok(line)
 }
 
-/// The lines of registrations, in order.
+// The lines of registrations, in order.
 fn all_registrations(alloc: Global, rows: &[KeptRegistration]) -> Result<String, AllocError>
     ensures { IfOk result (λ text. string_bytes text ≡ flat_map registration_lines rows.now) }
 {
@@ -135,7 +135,7 @@ fn all_registrations(alloc: Global, rows: &[KeptRegistration]) -> Result<String,
     Ok(text)
 }
 
-/// The lines of caches, in order.
+// The lines of caches, in order.
 fn all_caches(alloc: Global, rows: &[KeptCache]) -> Result<String, AllocError>
     ensures { IfOk result (λ text. string_bytes text ≡ flat_map cache_line rows.now) }
 {

@@ -22,7 +22,7 @@ use Rattle.sw_record.specs.declared.word.Word.{Word}
 use Rattle.sw_record.specs.declared.word.Word.TheVariants as word
 use Rattle.sw_record.specs.Exchanges.{request_of, response_of}
 use Rattle.sw_record.specs.Flaws.{both, formed, made, no_form}
-use Rattle.sw_record.specs.Limits.{calls_limit, operations_limit}
+use Rattle.sw_record.specs.declared.limits.TheConstants.{CALLS_LIMIT, OPERATIONS_LIMIT}
 use Rattle.sw_record.specs.Members.{defaulted, has_only, list_of, optional, required, short_text_of, truth_of}
 use Rattle.sw_record.specs.Words.{word_member}
 
@@ -102,7 +102,7 @@ operation_of value =
     elim (get (codes "put") value) [ Some request ↦ put_operation value | None ↦ delete_operation value ]
 
 abbrev pub operations_of : Data → Result (List Op) Flaw
-operations_of value = list_of operations_limit (flaw.Limit limit.Operations) operation_of value
+operations_of value = list_of OPERATIONS_LIMIT (flaw.Limit limit.Operations) operation_of value
 
 unfoldable pub operations_member : Data → Result (List Op) Flaw
 operations_member value = required operations_of (get (codes "operations") value)
@@ -115,7 +115,7 @@ unfoldable pub batch_parts : Data → Result CacheBatch Flaw
 batch_parts value = batch_from (name_member value) (operations_member value)
 
 abbrev pub requests_of : Data → Result (List Request) Flaw
-requests_of value = list_of operations_limit (flaw.Limit limit.Operations) request_of value
+requests_of value = list_of OPERATIONS_LIMIT (flaw.Limit limit.Operations) request_of value
 
 unfoldable pub requests_member : Data → Result (List Request) Flaw
 requests_member value = required requests_of (get (codes "requests") value)
@@ -201,4 +201,4 @@ call_of value =
 
 -- the calls of a handler
 unfoldable pub calls_of : Data → Result (List Call) Flaw
-calls_of value = list_of calls_limit (flaw.Limit limit.Calls) call_of value
+calls_of value = list_of CALLS_LIMIT (flaw.Limit limit.Calls) call_of value

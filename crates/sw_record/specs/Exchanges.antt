@@ -13,7 +13,8 @@ use Rattle.sw_record.specs.declared.error.Limit.TheVariants as limit
 use Rattle.sw_record.specs.declared.flaw.Flaw.{Flaw}
 use Rattle.sw_record.specs.declared.flaw.Flaw.TheVariants as flaw
 use Rattle.sw_record.specs.Flaws.{both, formed, made, needs, no_form}
-use Rattle.sw_record.specs.Limits.{body_limit, headers_limit}
+use Rattle.sw_record.specs.declared.limits.TheConstants.{HEADERS_LIMIT}
+use Rattle.sw_http.specs.declared.message.TheConstants.{BODY_LIMIT}
 use Rattle.sw_record.specs.Members.{as_count, as_list, defaulted, has_only, list_of, required, short, short_text_of, text_of}
 
 -- ---- headers
@@ -36,7 +37,7 @@ kept_headers lines =
 -- a list of headers
 abbrev pub headers_of : Data → Result (List Header) Flaw
 headers_of value =
-    elim (list_of headers_limit (flaw.Limit limit.Headers) header_of value) [
+    elim (list_of HEADERS_LIMIT (flaw.Limit limit.Headers) header_of value) [
       | Ok lines ↦ kept_headers lines
       | Err why ↦ Err why
     ]
@@ -95,7 +96,7 @@ status_member value = required status_of (get (codes "status") value)
 
 -- a body within its limit
 abbrev pub kept_body : List ℕ → Result (List ℕ) Flaw
-kept_body body = needs (nat_le (length body) body_limit) (flaw.Limit limit.Body) (Ok body)
+kept_body body = needs (nat_le (length body) BODY_LIMIT) (flaw.Limit limit.Body) (Ok body)
 
 -- a body as text
 abbrev pub text_body_of : Data → Result (List ℕ) Flaw

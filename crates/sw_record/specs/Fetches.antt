@@ -15,7 +15,7 @@ use Rattle.sw_record.specs.declared.flaw.Flaw.TheVariants as flaw
 use Rattle.sw_record.specs.Caches.{calls_of}
 use Rattle.sw_record.specs.Exchanges.{response_parts}
 use Rattle.sw_record.specs.Flaws.{both, formed, made, needs, no_form}
-use Rattle.sw_record.specs.Limits.{text_limit}
+use Rattle.sw_record.specs.declared.limits.TheConstants.{TEXT_LIMIT}
 use Rattle.sw_record.specs.Members.{defaulted, has_only}
 use Rattle.sw_url.specs.HttpAddress.{http_address}
 
@@ -83,7 +83,7 @@ kept_address (Err why) = Err bad_address
 
 -- the http or https address of a fetch line, without its fragment; as it is written it has at most 4,096 bytes
 abbrev pub address_text : List ℕ → Result (List ℕ) Flaw
-address_text text = needs (nat_le (length text) text_limit) (flaw.Limit limit.Text) (kept_address (http_address text))
+address_text text = needs (nat_le (length text) TEXT_LIMIT) (flaw.Limit limit.Text) (kept_address (http_address text))
 
 unfoldable pub address_part : Data → Result (List ℕ) Flaw
 address_part value = elim (as_str value) [ Some text ↦ address_text text | None ↦ Err no_form ]

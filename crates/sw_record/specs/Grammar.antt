@@ -19,7 +19,7 @@ use Rattle.sw_record.specs.declared.reading.Reading.{Reading}
 use Rattle.sw_record.specs.Fetches.{fetch_line}
 use Rattle.sw_record.specs.Flaws.{error_at, made, needs, no_json}
 use Rattle.sw_record.specs.Lanes.{lane_line}
-use Rattle.sw_record.specs.Limits.{actions_limit}
+use Rattle.sw_record.specs.declared.limits.TheConstants.{ACTIONS_LIMIT}
 
 -- ---- what was read so far
 
@@ -80,7 +80,7 @@ followed so_far lane next =
 -- what was read with a lane line
 abbrev pub with_lane_line : Reading → Data → Result Reading Flaw
 with_lane_line so_far value =
-    elim (needs (nat_lt so_far.actions actions_limit) (flaw.Limit limit.Actions) (lane_line value)) [
+    elim (needs (nat_lt so_far.actions ACTIONS_LIMIT) (flaw.Limit limit.Actions) (lane_line value)) [
       | Ok line ↦ followed so_far line.0 line.1
       | Err why ↦ Err why
     ]

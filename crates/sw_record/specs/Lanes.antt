@@ -29,7 +29,7 @@ use Rattle.sw_record.specs.declared.word.Word.{Word}
 use Rattle.sw_record.specs.declared.word.Word.TheVariants as word
 use Rattle.sw_record.specs.Caches.{add_all_parts, batch_parts, delete_parts, match_parts, name_member, put_parts, query_parts}
 use Rattle.sw_record.specs.Flaws.{both, formed, made, needs, no_form}
-use Rattle.sw_record.specs.Limits.{lanes_limit, partition_limit}
+use Rattle.sw_record.specs.declared.limits.TheConstants.{LANES_LIMIT, PARTITION_LIMIT}
 use Rattle.sw_record.specs.Members.{count_of, defaulted, has_only, number_of, optional, required, short, short_text_of}
 use Rattle.sw_record.specs.Words.{word_member}
 
@@ -141,7 +141,7 @@ is_partition_byte b = (nat_le 97 b && nat_le b 122) || (nat_le 48 b && nat_le b 
 
 -- 1 to 64 of these
 abbrev pub is_partition : List ℕ → Bool
-is_partition text = nat_lt 0 (length text) && nat_le (length text) partition_limit && list_all is_partition_byte text
+is_partition text = nat_lt 0 (length text) && nat_le (length text) PARTITION_LIMIT && list_all is_partition_byte text
 
 abbrev pub partition_word : List ℕ → Result (List ℕ) Flaw
 partition_word text = formed (is_partition text) (Ok text)
@@ -300,7 +300,7 @@ action_of_word word.PreloadState value = made action.PreloadState (scope_line va
 
 -- a lane within the limit
 abbrev pub kept_lane : ℕ → Result ℕ Flaw
-kept_lane lane = needs (nat_lt lane lanes_limit) (flaw.Limit limit.Lanes) (Ok lane)
+kept_lane lane = needs (nat_lt lane LANES_LIMIT) (flaw.Limit limit.Lanes) (Ok lane)
 
 unfoldable pub lane_member : Data → Result ℕ Flaw
 lane_member value = elim (required count_of (get (codes "lane") value)) [ Ok lane ↦ kept_lane lane | Err why ↦ Err why ]

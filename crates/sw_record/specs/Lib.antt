@@ -4,7 +4,6 @@ pub mod Fetches
 pub mod Flaws
 pub mod Grammar
 pub mod Lanes
-pub mod Limits
 pub mod Members
 pub mod Refusals
 pub mod Words

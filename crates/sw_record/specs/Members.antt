@@ -7,7 +7,7 @@ use Rattle.sw_record.specs.declared.error.Limit.TheVariants as limit
 use Rattle.sw_record.specs.declared.flaw.Flaw.{Flaw}
 use Rattle.sw_record.specs.declared.flaw.Flaw.TheVariants as flaw
 use Rattle.sw_record.specs.Flaws.{both, made, needs, no_form}
-use Rattle.sw_record.specs.Limits.{number_limit, text_limit}
+use Rattle.sw_record.specs.declared.limits.TheConstants.{TEXT_LIMIT}
 
 -- ---- members
 
@@ -48,7 +48,7 @@ text_of value = of_kind (as_str value)
 
 -- a text within the limit of texts
 abbrev pub short : List ℕ → Result (List ℕ) Flaw
-short text = needs (nat_le (length text) text_limit) (flaw.Limit limit.Text) (Ok text)
+short text = needs (nat_le (length text) TEXT_LIMIT) (flaw.Limit limit.Text) (Ok text)
 
 -- a text of at most 4,096 bytes
 abbrev pub short_text_of : Data → Result (List ℕ) Flaw
@@ -62,7 +62,7 @@ abbrev pub count_of : Data → Result ℕ Flaw
 count_of value = of_kind (as_count value)
 
 abbrev pub small : ℕ → Result ℕ Flaw
-small number = if nat_le number number_limit then Ok number else Err no_form
+small number = if nat_le number 4294967295 then Ok number else Err no_form
 
 -- a number of 32 bits
 abbrev pub number_of : Data → Result ℕ Flaw

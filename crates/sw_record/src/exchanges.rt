@@ -6,7 +6,7 @@ ghost use Rattle.sw_record.specs.Exchanges as exchanges;
 
 use crate::error::{Limit, LineCause};
 use crate::flaw::{Flaw, NO_FORM, Part, both, needs};
-use crate::limits::{BODY_LIMIT, HEADERS_LIMIT};
+use crate::limits::HEADERS_LIMIT;
 use crate::lists::{FromValue, list_of};
 use crate::members::{as_list, has_only, short, short_text_member};
 use base64::DecodeAllocError;
@@ -15,7 +15,7 @@ use serde_json::Value;
 use std::alloc::Global;
 use sw_data::header::is_token;
 use sw_data::{Bytes, Header, Items, NoMemory, Request, Response, Text};
-use sw_http::{good_names, good_values, normal_lines, normal_method};
+use sw_http::{BODY_LIMIT, good_names, good_values, normal_lines, normal_method};
 
 // A header: its name and its value.
 #[tactic(auto, unfolding(crate::specs::Exchanges::pair_of, crate::specs::Flaws::both))]

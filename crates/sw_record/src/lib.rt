@@ -20,6 +20,7 @@ mod recording;
 mod word;
 
 pub use error::{Limit, LineCause, RecordingError};
+pub use limits::RECORDING_LIMIT;
 pub use recording::read_recording;
 
 #[cfg(test)]

@@ -1,5 +1,8 @@
 //! The limits of a recording.
 
+/// The most bytes of a recording.
+pub const RECORDING_LIMIT: u64 = 16_777_216;
+
 /// The most actions of all lanes.
 pub const ACTIONS_LIMIT: usize = 65_536;
 
@@ -17,9 +20,6 @@ pub const OPERATIONS_LIMIT: usize = 256;
 
 /// The most calls of one handler.
 pub const CALLS_LIMIT: usize = 64;
-
-/// The most bytes of a body.
-pub const BODY_LIMIT: usize = 1_048_576;
 
 /// The most bytes of a partition.
 pub const PARTITION_LIMIT: usize = 64;

@@ -4,7 +4,7 @@ use std::process::Abort;
 use std::test::Fail;
 use sw_data::Action;
 
-/// What is read, in counts, or why nothing was.
+// What is read, in counts, or why nothing was.
 fn outcome(alloc: Global, bytes: &[u8]) -> Result<String, AllocError> {
     let recording = match read_recording(alloc, bytes) {
         Ok(recording) => recording,
@@ -223,7 +223,7 @@ fn lines_are_counted_and_lanes_kept_apart(rt: HostRuntime) -> Result<(), Fail> {
     Ok(())
 }
 
-/// A list of so many copies of a text, with commas between them.
+// A list of so many copies of a text, with commas between them.
 fn list(alloc: Global, member: &str, count: usize) -> Result<String, AllocError> {
     let front = format!(in alloc; "{member},")?;
     let mut all = front.repeat(alloc, count.saturating_sub(1))?;
@@ -231,7 +231,7 @@ fn list(alloc: Global, member: &str, count: usize) -> Result<String, AllocError>
     Ok(all)
 }
 
-/// A line of each kind of limit with so much of it.
+// A line of each kind of limit with so much of it.
 fn limited(alloc: Global, limit: &str, amount: usize) -> Result<String, AllocError> {
     match limit {
         "Lanes" => format!(in alloc; r#"{{"lane":{amount},"do":"close","client":1}}"#),
@@ -262,7 +262,7 @@ fn limited(alloc: Global, limit: &str, amount: usize) -> Result<String, AllocErr
     }
 }
 
-/// The most of a limit is read, and one more is refused.
+// The most of a limit is read, and one more is refused.
 fn ends_at(rt: &impl Abort, alloc: Global, limit: &str, most: usize) -> Result<(), Fail> {
     let kept = limited(alloc, limit, most)?;
     assert_eq!(rt;

@@ -11,8 +11,8 @@ use Rattle.sw_rules.specs.History.{mapped_registrations}
 use Rattle.sw_rows.specs.Replays.{Played, played, opened}
 
 -- the counts of a replay
-abbrev counted : Recording → Played → List ℕ
-counted recording whole =
+abbrev line_counts : Recording → Played → List ℕ
+line_counts recording whole =
     fold (λ so_far actions. so_far + length actions) 0 recording.lanes ∷ length whole.history
     ∷ mapped_registrations whole.state ∷ length whole.state.caches ∷ []
 
@@ -20,7 +20,7 @@ counted recording whole =
 abbrev counts_of : List ℕ → List ℕ
 counts_of bytes =
     elim (recording_of bytes) [
-      | Ok recording ↦ counted recording (played recording 100 (opened []))
+      | Ok recording ↦ line_counts recording (played recording 100 (opened []))
       | Err why ↦ []
     ]
 

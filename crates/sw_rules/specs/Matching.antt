@@ -1,7 +1,7 @@
 -- Matching: which registration an address has, and which items of a cache a query finds.
 use Rattle.std.specs.Prelude.{ℕ, Bool, true, false, not, ◌&&◌, ◌||◌, nat_eq, nat_lt, List, [], codes, map, filter, fold, length, bytes_eq, Option, Some, None, find, if◌then◌else◌}
 use Rattle.std.specs.List.{list_any, list_all, enumerate_from, starts_with}
-use Rattle.std.specs.Option.{option_map_or}
+use Rattle.std.specs.Option.{option_eq, option_map_or}
 use Rattle.sw_data.specs.declared.exchange.Header.{Header}
 use Rattle.sw_data.specs.declared.exchange.Options.{Options}
 use Rattle.sw_data.specs.declared.exchange.Request.{Request}
@@ -48,16 +48,9 @@ same_address options left right =
     if options.ignore_search then bytes_eq (without_query left) (without_query right)
     else bytes_eq (without_fragment left) (without_fragment right)
 
--- two combined values are equal, an absent one being equal to an absent one only
-abbrev pub equal_values : Option (List ℕ) → Option (List ℕ) → Bool
-equal_values None None = true
-equal_values None (Some right) = false
-equal_values (Some left) None = false
-equal_values (Some left) (Some right) = bytes_eq left right
-
--- two lists of headers have the same combined value of a field
+-- two lists of headers have the same combined value of a field, an absent one being equal to an absent one only
 abbrev pub same_values : List Header → List Header → List ℕ → Bool
-same_values left right name = equal_values (combined name left) (combined name right)
+same_values left right name = option_eq bytes_eq (combined name left) (combined name right)
 
 -- a member of the Vary value is `*`
 abbrev pub varies_on_all : List Header → Bool

@@ -10,7 +10,7 @@ use crate::error::{Fault, ReadError};
 use std::alloc::Global;
 use sw_data::{Change, KeptWorker, Text};
 
-/// Two texts: a key, and a scope or a name.
+// Two texts: a key, and a scope or a name.
 fn names_of(alloc: Global, bytes: &[u8]) -> Result<((Text, Text), &[u8]), Fault>
     ensures { Gives (λ x. (x.0, x.1.now)) result (names_at bytes.now) }
 {
@@ -125,7 +125,7 @@ fn preload_of(alloc: Global, bytes: &[u8]) -> Result<(Change, &[u8]), Fault>
     Ok((preload, rest))
 }
 
-/// A change: its tag, and the fields that the tag says.
+// A change: its tag, and the fields that the tag says.
 #[tactic(auto, unfolding(crate::specs::Reading::change_at))]
 fn change_of(alloc: Global, bytes: &[u8]) -> Result<(Change, &[u8]), Fault>
     ensures { Gives (λ x. (x.0, x.1.now)) result (change_at bytes.now) }

@@ -9,7 +9,7 @@ use crate::error::Fault;
 use std::alloc::Global;
 use sw_data::{Header, Items, Op, Request, Response};
 
-/// One line of a list of headers.
+// One line of a list of headers.
 #[tactic(auto, unfolding(crate::specs::Reading::header_at))]
 fn header_of(alloc: Global, bytes: &[u8]) -> Result<(Header, &[u8]), Fault>
     ensures { Gives (λ x. (x.0, x.1.now)) result (header_at bytes.now) }
@@ -19,8 +19,8 @@ fn header_of(alloc: Global, bytes: &[u8]) -> Result<(Header, &[u8]), Fault>
     Ok((Header { name, value }, rest))
 }
 
-/// So many lines. The list grows as they are read, whatever the count says.
-fn lines_of(alloc: Global, count: u32, bytes: &[u8]) -> Result<(Items<Header>, &[u8]), Fault>
+// So many lines. The list grows as they are read, whatever the count says.
+fn header_lines(alloc: Global, count: u32, bytes: &[u8]) -> Result<(Items<Header>, &[u8]), Fault>
     ensures { Gives (λ x. (x.0, x.1.now)) result (items_at header_at count bytes.now) }
 {
     let mut lines = Items::new(alloc);
@@ -33,16 +33,16 @@ fn lines_of(alloc: Global, count: u32, bytes: &[u8]) -> Result<(Items<Header>, &
     Ok((lines, rest))
 }
 
-/// A list of headers.
+// A list of headers.
 #[tactic(auto, unfolding(crate::specs::Reading::counted_at))]
 fn headers_of(alloc: Global, bytes: &[u8]) -> Result<(Items<Header>, &[u8]), Fault>
     ensures { Gives (λ x. (x.0, x.1.now)) result (counted_at header_at bytes.now) }
 {
     let (count, rest) = u32_of(bytes)?;
-    lines_of(alloc, count, rest)
+    header_lines(alloc, count, rest)
 }
 
-/// A request.
+// A request.
 #[tactic(auto, unfolding(crate::specs::Reading::request_at))]
 fn request_of(alloc: Global, bytes: &[u8]) -> Result<(Request, &[u8]), Fault>
     ensures { Gives (λ x. (x.0, x.1.now)) result (request_at bytes.now) }
@@ -58,7 +58,7 @@ fn request_of(alloc: Global, bytes: &[u8]) -> Result<(Request, &[u8]), Fault>
     Ok((request, rest))
 }
 
-/// A response.
+// A response.
 #[tactic(auto, unfolding(crate::specs::Reading::response_at))]
 fn response_of(alloc: Global, bytes: &[u8]) -> Result<(Response, &[u8]), Fault>
     ensures { Gives (λ x. (x.0, x.1.now)) result (response_at bytes.now) }
@@ -74,7 +74,7 @@ fn response_of(alloc: Global, bytes: &[u8]) -> Result<(Response, &[u8]), Fault>
     Ok((response, rest))
 }
 
-/// A delete, behind its byte.
+// A delete, behind its byte.
 fn delete_of(alloc: Global, bytes: &[u8]) -> Result<(Op, &[u8]), Fault>
     ensures { Gives (λ x. (x.0, x.1.now)) result (delete_at bytes.now) }
 {
@@ -83,7 +83,7 @@ fn delete_of(alloc: Global, bytes: &[u8]) -> Result<(Op, &[u8]), Fault>
     Ok((Op::Delete { request, options }, rest))
 }
 
-/// A put, behind its byte.
+// A put, behind its byte.
 fn put_of(alloc: Global, bytes: &[u8]) -> Result<(Op, &[u8]), Fault>
     ensures { Gives (λ x. (x.0, x.1.now)) result (put_at bytes.now) }
 {
@@ -92,7 +92,7 @@ fn put_of(alloc: Global, bytes: &[u8]) -> Result<(Op, &[u8]), Fault>
     Ok((Op::Put { request, response }, rest))
 }
 
-/// An operation.
+// An operation.
 #[tactic(auto, unfolding(crate::specs::Reading::op_at))]
 fn op_of(alloc: Global, bytes: &[u8]) -> Result<(Op, &[u8]), Fault>
     ensures { Gives (λ x. (x.0, x.1.now)) result (op_at bytes.now) }
@@ -105,7 +105,7 @@ fn op_of(alloc: Global, bytes: &[u8]) -> Result<(Op, &[u8]), Fault>
     }
 }
 
-/// So many operations. The list grows as they are read, whatever the count says.
+// So many operations. The list grows as they are read, whatever the count says.
 fn steps_of(alloc: Global, count: u32, bytes: &[u8]) -> Result<(Items<Op>, &[u8]), Fault>
     ensures { Gives (λ x. (x.0, x.1.now)) result (items_at op_at count bytes.now) }
 {

@@ -45,7 +45,7 @@ pub(crate) fn u32_of(bytes: &[u8]) -> Result<(u32, &[u8]), Fault>
     ))
 }
 
-/// The bytes behind their length. They are only named here, not copied.
+// The bytes behind their length. They are only named here, not copied.
 #[tactic(auto, unfolding(crate::specs::Reading::bytes_at))]
 fn span_of(bytes: &[u8]) -> Result<(&[u8], &[u8]), Fault>
     ensures { Gives (λ x. (x.0.now, x.1.now)) result (bytes_at bytes.now) }

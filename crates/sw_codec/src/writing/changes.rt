@@ -9,7 +9,7 @@ use super::fields::{bit, kind_byte, mode_byte, put_bytes, put_text};
 use std::alloc::Global;
 use sw_data::{Bytes, Change, KeptWorker, Mode, NoMemory, Op, Text};
 
-/// Writes a tag and two texts: a key, and a scope or a name.
+// Writes a tag and two texts: a key, and a scope or a name.
 fn put_names(out: &mut Vec<u8>, tag: u8, key: &Text, name: &Text) -> Result<(), NoMemory>
     ensures bytes { OnOk result (out.new.items ≡ out.old.items
         ++ tag ∷ (bytes_spelling key.now ++ bytes_spelling name.now)) }
@@ -20,7 +20,7 @@ fn put_names(out: &mut Vec<u8>, tag: u8, key: &Text, name: &Text) -> Result<(), 
     put_text(out, name)
 }
 
-/// Writes a worker behind a mode.
+// Writes a worker behind a mode.
 fn put_worker(out: &mut Vec<u8>, mode: Mode, worker: &KeptWorker) -> Result<(), NoMemory>
     ensures bytes { OnOk result (out.new.items ≡ out.old.items
         ++ (mode_byte mode ∷ [] ++ bytes_spelling worker.now.script
@@ -34,7 +34,7 @@ fn put_worker(out: &mut Vec<u8>, mode: Mode, worker: &KeptWorker) -> Result<(), 
     put_bytes(out, &worker.body)
 }
 
-/// Writes a flag and a text.
+// Writes a flag and a text.
 fn put_flagged(out: &mut Vec<u8>, on: bool, text: &Text) -> Result<(), NoMemory>
     ensures bytes { OnOk result (out.new.items ≡ out.old.items
         ++ (bit 1 on ∷ [] ++ bytes_spelling text.now)) }
@@ -44,7 +44,7 @@ fn put_flagged(out: &mut Vec<u8>, on: bool, text: &Text) -> Result<(), NoMemory>
     put_text(out, text)
 }
 
-/// Writes operations, at least one.
+// Writes operations, at least one.
 fn put_some_ops(out: &mut Vec<u8>, ops: &[Op]) -> Result<(), NoMemory>
     ensures bytes { OnOk result (out.new.items ≡ out.old.items
         ++ counted_spelling op_spelling ops.now) }
@@ -57,7 +57,7 @@ fn put_some_ops(out: &mut Vec<u8>, ops: &[Op]) -> Result<(), NoMemory>
     put_ops(out, ops)
 }
 
-/// Writes a change.
+// Writes a change.
 #[tactic(auto, unfolding(crate::specs::Spelling::change_spelling, crate::specs::Spelling::has_spelling))]
 fn put_change(out: &mut Vec<u8>, change: &Change) -> Result<(), NoMemory>
     ensures bytes { OnOk result (out.new.items ≡ out.old.items ++ change_spelling change.now) }

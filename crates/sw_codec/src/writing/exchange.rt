@@ -7,7 +7,7 @@ ghost use Rattle.sw_codec.specs.Spelling.{counted_spelling, are_counted, header_
 use super::fields::{options_byte, put_bytes, put_length, put_text};
 use sw_data::{Header, Items, NoMemory, Op, Request, Response};
 
-/// Writes one line of a list of headers.
+// Writes one line of a list of headers.
 fn put_header(out: &mut Vec<u8>, line: &Header) -> Result<(), NoMemory>
     ensures bytes { OnOk result (out.new.items ≡ out.old.items ++ header_spelling line.now) }
     ensures fits { IfOk result (λ _. is_header line.now ≡ true) }
@@ -16,7 +16,7 @@ fn put_header(out: &mut Vec<u8>, line: &Header) -> Result<(), NoMemory>
     put_text(out, &line.value)
 }
 
-/// Writes these lines, without their count.
+// Writes these lines, without their count.
 fn put_lines(out: &mut Vec<u8>, lines: &[Header]) -> Result<(), NoMemory>
     ensures bytes { OnOk result (out.new.items ≡ out.old.items
         ++ flat_map header_spelling lines.now) }
@@ -28,7 +28,7 @@ fn put_lines(out: &mut Vec<u8>, lines: &[Header]) -> Result<(), NoMemory>
     Ok(())
 }
 
-/// Writes a list of headers.
+// Writes a list of headers.
 fn put_headers(out: &mut Vec<u8>, headers: &Items<Header>) -> Result<(), NoMemory>
     ensures bytes { OnOk result (out.new.items ≡ out.old.items
         ++ counted_spelling header_spelling headers.now) }
@@ -39,7 +39,7 @@ fn put_headers(out: &mut Vec<u8>, headers: &Items<Header>) -> Result<(), NoMemor
     put_lines(out, lines)
 }
 
-/// Writes a request.
+// Writes a request.
 #[tactic(auto, unfolding(crate::specs::Spelling::request_spelling, crate::specs::Spelling::is_request))]
 fn put_request(out: &mut Vec<u8>, request: &Request) -> Result<(), NoMemory>
     ensures bytes { OnOk result (out.new.items ≡ out.old.items ++ request_spelling request.now) }
@@ -50,7 +50,7 @@ fn put_request(out: &mut Vec<u8>, request: &Request) -> Result<(), NoMemory>
     put_headers(out, &request.headers)
 }
 
-/// Writes a response.
+// Writes a response.
 #[tactic(auto, unfolding(crate::specs::Spelling::response_spelling, crate::specs::Spelling::is_response))]
 fn put_response(out: &mut Vec<u8>, response: &Response) -> Result<(), NoMemory>
     ensures bytes { OnOk result (out.new.items ≡ out.old.items ++ response_spelling response.now) }
@@ -61,7 +61,7 @@ fn put_response(out: &mut Vec<u8>, response: &Response) -> Result<(), NoMemory>
     put_bytes(out, &response.body)
 }
 
-/// Writes an operation.
+// Writes an operation.
 #[tactic(auto, unfolding(crate::specs::Spelling::op_spelling, crate::specs::Spelling::is_op))]
 fn put_op(out: &mut Vec<u8>, op: &Op) -> Result<(), NoMemory>
     ensures bytes { OnOk result (out.new.items ≡ out.old.items ++ op_spelling op.now) }
@@ -82,7 +82,7 @@ fn put_op(out: &mut Vec<u8>, op: &Op) -> Result<(), NoMemory>
     Ok(())
 }
 
-/// Writes these operations, without their count.
+// Writes these operations, without their count.
 fn put_steps(out: &mut Vec<u8>, ops: &[Op]) -> Result<(), NoMemory>
     ensures bytes { OnOk result (out.new.items ≡ out.old.items ++ flat_map op_spelling ops.now) }
     ensures fits { IfOk result (λ _. list_all is_op ops.now ≡ true) }

@@ -18,7 +18,7 @@ pub(crate) fn put_length(out: &mut Vec<u8>, size: usize) -> Result<(), NoMemory>
     Ok(())
 }
 
-/// Writes bytes behind their length.
+// Writes bytes behind their length.
 #[tactic(auto, unfolding(crate::specs::Spelling::bytes_spelling))]
 fn put_span(out: &mut Vec<u8>, bytes: &[u8]) -> Result<(), NoMemory>
     ensures bytes { OnOk result (out.new.items ≡ out.old.items ++ bytes_spelling bytes.now) }

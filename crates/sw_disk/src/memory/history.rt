@@ -6,9 +6,9 @@ ghost use Rattle.sw_data.specs.Faults.{Rose};
 ghost use Rattle.sw_disk.specs.DiskRule.{capped};
 
 use super::part::MemoryPart;
-use crate::disk::Failed;
 use crate::part::Parts;
 use std::alloc::Global;
+use sw_data::Failed;
 
 // What the parts were when the entry of a sync that answered `Ok` was, and the clock then. A crash since the sync
 // before it left nothing that a crash then couldn't leave: writes and cuts only add to what may be left.

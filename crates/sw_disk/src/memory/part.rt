@@ -4,9 +4,9 @@ ghost use Rattle.std.specs.Prelude.{◌≡◌, ◌+◌, ◌-◌, ◌≤◌, ◌<
 ghost use Rattle.sw_disk.specs.DiskRule.{written, Torn, PendingCut};
 ghost use Rattle.sw_disk.specs.Doubts.{marked, Exactly};
 
-use crate::disk::Failed;
 use crate::span::overwrite;
 use std::alloc::{AllocError, Global};
+use sw_data::Failed;
 
 // One part of a disk in memory.
 #[derive(Debug, Drop)]

@@ -5,8 +5,8 @@ ghost use Rattle.sw_disk.specs.Image.{Image, get};
 ghost use Rattle.sw_disk.specs.DiskRule.{Puts, written, TornWrite, PendingCut, OnPart};
 
 use super::part::MemoryPart;
-use crate::disk::Failed;
 use crate::part::{Part, Parts};
+use sw_data::Failed;
 
 impl Parts<MemoryPart> {
     ghost use Rattle.sw_disk.specs.Doubts.{Exactly};

@@ -6,9 +6,9 @@ ghost use Rattle.std.specs.Io.KnownBytes.{WriteAppends};
 ghost use Rattle.sw_io.specs.Memory.{counted};
 
 use crate::sink::Sink;
-use crate::source::Failed;
 use std::alloc::Global;
 use std::marker::Model;
+use sw_data::Failed;
 
 /// A sink that keeps what it takes, and of which the writes whose numbers are listed fail.
 #[derive(Drop)]

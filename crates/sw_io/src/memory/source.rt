@@ -6,9 +6,9 @@ ghost use Rattle.std.specs.Io.KnownBytes.{ReadConsumes};
 ghost use Rattle.sw_io.specs.Memory.{counted};
 
 use crate::remaining::Remaining;
-use crate::source::{Failed, Source};
+use crate::source::Source;
 use std::marker::Model;
-use sw_data::Bytes;
+use sw_data::{Bytes, Failed};
 
 /// A source of these bytes, of which the reads whose numbers are listed fail.
 #[derive(Drop)]

@@ -44,10 +44,10 @@ fetch_add-requires g c =
     )
 
 -- the entries of the step are counted
-counted : (g : Over) (c : After-fetch_add g) (y : g.row.T.Denot)
+tallies : (g : Over) (c : After-fetch_add g) (y : g.row.T.Denot)
     → c.wait_for.new.seat.me ≡ has g.T.Logged c.args.seat.now.me c.draw-ticket.result c.wait_for.ensures.found.0 c.wait_for.ensures.found.0 → c.advance-answer.new.slot ≡ Some y
     → c.fetch_add.new.seat.me ≡ counting g.T.Logged (has g.T.Logged c.args.seat.now.me c.draw-ticket.result c.wait_for.ensures.found.0 y) y
-counted g c y seat slot =
+tallies g c y seat slot =
     let m = c.args.seat.now.me in let value = c.wait_for.ensures.found.0 in
     counted_seat g.T.Logged m _ c.fetch_add.new.seat.me c.draw-ticket.result value y
     (worked_seat g.T.Logged m c.wait_for.new.seat.me c.draw-ticket.result value y c.advance-answer.new.slot seat slot) c.fetch_add.ensures.2
@@ -61,7 +61,7 @@ fetch_add-served-requires g c =
       c.fetch_add.ensures.0 ∙ (c.wait_for.ensures.table ∙ (c.draw-ticket.ensures.table ∙ c.requires.table)),
       omega arith,
       passes_turn g.T.Logged (opened_of lock) (made_of lock) lock.table.shared.table_id.slots c.fetch_add.new.seat.id c.advance-answer.result.1 c.draw-ticket.result c.args.pass c.args.seat.now.me c.wait_for.new.seat.me
-          c.fetch_add.new.seat.me value step.0 c.args.given c.advance-answer.result.0 c.requires.idle c.requires.opened f.0 step.2 (counted g at.After-fetch_add step.0 f.1 step.1),
+          c.fetch_add.new.seat.me value step.0 c.args.given c.advance-answer.result.0 c.requires.idle c.requires.opened f.0 step.2 (tallies g at.After-fetch_add step.0 f.1 step.1),
     )
 
 pub returns : goal.returns
@@ -73,5 +73,5 @@ returns g c =
     record {
       table = c.fetch_add-served.ensures.0 ∙ (c.fetch_add.ensures.0 ∙ (c.wait_for.ensures.table ∙ c.draw-ticket.ensures.table));
       took = took g.T.Logged (opened_of lock) (made_of lock) c.advance-answer.result.1 c.draw-ticket.result c.args.pass c.args.seat.now.me c.wait_for.new.seat.me c.fetch_add.new.seat.me c.fetch_add-served.new.seat.me
-          value step.0 c.args.given c.advance-answer.result.0 c.requires.opened c.requires.pass f.0 step.2 (counted g at.After-fetch_add step.0 f.1 step.1) c.fetch_add-served.ensures.2;
+          value step.0 c.args.given c.advance-answer.result.0 c.requires.opened c.requires.pass f.0 step.2 (tallies g at.After-fetch_add step.0 f.1 step.1) c.fetch_add-served.ensures.2;
     }

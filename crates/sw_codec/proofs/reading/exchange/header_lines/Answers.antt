@@ -1,7 +1,7 @@
 use Rattle.std.proofs.lemmas.Result.{err_from_is_err_and}
 use Rattle.sw_codec.specs.Reading.{items_at, header_at}
 use Rattle.sw_codec.proofs.Loops.{goes_on, fails, is_done}
-use Rattle.sw_codec.proofs.reading.exchange.lines_of.Goals as goal
+use Rattle.sw_codec.proofs.reading.exchange.header_lines.Goals as goal
 
 pub returns-in_err-line : goal.returns-in_err-line
 returns-in_err-line c =
