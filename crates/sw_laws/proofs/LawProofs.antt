@@ -10,9 +10,8 @@ use Rattle.sw_rules.specs.Rows.{job_row}
 use Rattle.sw_rules.specs.State.{State}
 use Rattle.sw_rules.specs.Storage.{IsMade}
 use Rattle.sw_laws.specs.Coherent.{Coherent, HasLeadersValue, HasValueOf}
-use Rattle.sw_laws.specs.Laws.{HasSlots, IsAlwaysCoherent, RestsWithoutWork, SettlesOnce, settled_value}
+use Rattle.sw_laws.specs.Laws.{HasSlots, IsAlwaysCoherent, IsAlwaysControlled, RestsWithoutWork, settled_value, SettlesOnce}
 use Rattle.sw_laws.proofs.CoherentLaw.{entries-coherent, step-coherent}
-use Rattle.sw_rules.specs.Laws.{IsAlwaysControlled}
 use Rattle.sw_laws.proofs.ControlledLaw.{legal_controlled}
 use Rattle.sw_laws.proofs.ForwardLaw.{step_goes}
 use Rattle.sw_laws.proofs.Rest.{rests}

@@ -10,7 +10,7 @@ use Rattle.sw_data.specs.declared.storage.Kept.{Kept}
 use Rattle.sw_data.specs.declared.workers.WorkerState.{WorkerState}
 use Rattle.sw_data.specs.declared.workers.WorkerState.TheVariants as worker_state
 use Rattle.sw_rules.specs.Durable as kept
-use Rattle.sw_rules.specs.History.{Legal, after, moved}
+use Rattle.sw_rules.specs.History.{Controlled, Legal, after, moved}
 use Rattle.sw_rules.specs.Restart.{restart}
 use Rattle.sw_rules.specs.Rows.{is_unfinished, is_worker, job_row, worker_row}
 use Rattle.sw_rules.specs.State.{State, Worker}
@@ -24,6 +24,10 @@ pub record IsAlwaysCoherent : Type 0 where
   pub restarts : (base : Kept) → IsMade base → Coherent (restart base)
   pub steps : (state : State) (happened : Event) → Coherent state → Coherent (state_after state happened)
   pub histories : (base : Kept) (history : List Entry) → Legal base history → Coherent (after base history)
+
+-- in every legal history each controller is null or the active worker that matching or claiming gave
+abbrev pub IsAlwaysControlled : Type 0
+IsAlwaysControlled = (base : Kept) (history : List Entry) → Legal base history → Controlled base history
 
 -- own: no unfinished job, running handler, unsettled addAll or owed Try Activate is left in a state
 pub record HasNoWork (state : State) : Type 0 where

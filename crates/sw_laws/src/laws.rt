@@ -1,7 +1,6 @@
 //! The laws. A call does nothing; its clause is the law.
 
-ghost use Rattle.sw_laws.specs.Laws.{CachesAreKept, HasSlots, IsAlwaysCoherent, RestartsOnce, RestsWithoutWork, SettlesOnce};
-ghost use Rattle.sw_rules.specs.Laws.{IsAlwaysControlled};
+ghost use Rattle.sw_laws.specs.Laws.{CachesAreKept, HasSlots, IsAlwaysCoherent, IsAlwaysControlled, RestartsOnce, RestsWithoutWork, SettlesOnce};
 
 /// A restart leaves a coherent state, and each event keeps it so: the rows of every state after a legal history fit
 /// together.

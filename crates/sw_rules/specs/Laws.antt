@@ -1,11 +1,8 @@
--- Laws of the definitions, each proved by the public call of `sw_rules::laws` that has its name.
+-- The law of the steps: what happens determines the answer, the notices and the new state.
 use Rattle.std.specs.Prelude.{◌≡◌, List}
 use Rattle.sw_data.specs.declared.answers.Answer.{Answer}
 use Rattle.sw_data.specs.declared.answers.Notice.{Notice}
 use Rattle.sw_data.specs.declared.events.Event.{Event}
-use Rattle.sw_data.specs.declared.histories.Entry.{Entry}
-use Rattle.sw_data.specs.declared.storage.Kept.{Kept}
-use Rattle.sw_rules.specs.History.{Controlled, Legal}
 use Rattle.sw_rules.specs.State.{State}
 use Rattle.sw_rules.specs.Step.{Step}
 
@@ -15,7 +12,3 @@ IsDetermined =
     (old : State) (happened : Event) (reply other_reply : Answer) (notices other_notices : List Notice) (new other_new : State)
     → Step old happened reply notices new → Step old happened other_reply other_notices other_new
     → (reply ≡ other_reply) × (notices ≡ other_notices) × (new ≡ other_new)
-
--- in every legal history each controller is null or the active worker that matching or claiming gave
-abbrev pub IsAlwaysControlled : Type 0
-IsAlwaysControlled = (base : Kept) (history : List Entry) → Legal base history → Controlled base history
