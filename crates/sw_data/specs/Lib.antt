@@ -5,5 +5,6 @@ pub mod Faults
 pub mod Headers
 pub mod Keys
 pub mod Media
+pub mod Parts
 pub mod Sameness
 pub mod Streams

@@ -1,5 +1,5 @@
 -- When two pieces of plain data are the same.
-use Rattle.std.specs.Prelude.{ℕ, Bool, true, false, not, ◌&&◌, ◌==◌, List, [], ◌∷◌, bytes_eq}
+use Rattle.std.specs.Prelude.{Bool, true, false, not, ◌&&◌, ◌==◌, List, [], ◌∷◌, bytes_eq}
 use Rattle.sw_data.specs.declared.exchange.Header.{Header}
 use Rattle.sw_data.specs.declared.exchange.Op.{Op}
 use Rattle.sw_data.specs.declared.exchange.Op.TheVariants as op

@@ -1,15 +1,15 @@
 -- The members of Vary, line by line and part by part.
-use Rattle.std.proofs.Common.{◌≡◌, ℕ, ◌-◌, ◌<◌, ◌≤◌, Bool, false, List, [], ◌∷◌, ◌++◌, map, length, drop, take, filter, refl, inl, inr, ap, ◌∙◌, sym, arith}
+use Rattle.std.proofs.Common.{◌≡◌, ℕ, ◌<◌, Bool, false, List, [], ◌∷◌, ◌++◌, map, length, filter, refl, inl, inr, ap, ◌∙◌, sym, arith}
 use Rattle.std.specs.Prelude.{codes, not, ◌&&◌, ◌||◌, ◌==◌, bytes_eq, option_to_list}
-use Rattle.std.specs.List.{flat_map, list_any, list_all, slice_split, onto_first, before_first, after_first, position_or_len}
-use Rattle.std.proofs.lemmas.Bool.{cases_Bool, cases_lt}
+use Rattle.std.specs.List.{flat_map, list_any, list_all, slice_split, onto_first}
+use Rattle.std.proofs.lemmas.Bool.{cases_Bool}
 use Rattle.std.proofs.lemmas.Bool.Decides.{nat_tests}
-use Rattle.std.proofs.lemmas.List.{append_assoc, append-nil, drop-drop, length-take, length-drop, take_all, take_rest}
-use Rattle.std.proofs.lemmas.List.Splits.{length-slice_split, slice_split_first, slice_split_none}
-use Rattle.std.proofs.lemmas.List.Sums.{fails_before_first}
+use Rattle.std.proofs.lemmas.List.{append_assoc, append-nil}
+use Rattle.std.proofs.lemmas.List.Splits.{length-slice_split}
 use Rattle.std.proofs.lemmas.List.Folds.{list_all-append}
 use Rattle.http_header.specs.Token.{lowercase}
 use Rattle.std.specs.Char.{to_ascii_lowercase}
+use Rattle.std.specs.Option.{option_eq}
 use Rattle.sw_data.specs.declared.exchange.Header.{Header}
 use Rattle.sw_data.specs.declared.exchange.Response.{Response}
 use Rattle.sw_data.specs.Headers.{combined_values, comma_joined, named_lines, members_of, same_name, trimmed, values_of, vary_members}
@@ -59,29 +59,6 @@ members_values (value ∷ rest) = append-nil (members_of (comma_joined (value �
 -- the members of Vary are those of its lines
 members_lines : (headers : List Header) → vary_members headers ≡ flat_map members_of (values_of (codes "vary") headers)
 members_lines headers = members_values (values_of (codes "vary") headers)
-
-module _ (text front back : List ℕ) (is_front : front ≡ before_first (λ b. b == 44) text) (is_back : back ≡ drop (length front) text) where
-  -- a text with no comma is the one part
-  pub parts_last : length back ≡ 0 → parts text ≡ front ∷ []
-  parts_last none = elim (cases_lt (position_or_len (λ b. b == 44) text) (length text)) [
-    | inl found ↦ absurd (omega (arith, ap length is_front, length-take (position_or_len (λ b. b == 44) text) text, ap length is_back, length-drop (length front) text))
-    | inr past ↦
-        slice_split_none (λ b. b == 44) text (λ k d l. fails_before_first (λ b. b == 44) text k d (omega arith))
-        ∙ ap (λ part. part ∷ []) (sym (is_front ∙ take_all (position_or_len (λ b. b == 44) text) text past))
-  ]
-
-  -- the first part ends at the first comma
-  pub parts_first : 1 ≤ length back → parts text ≡ front ∷ parts (take (length back - 1) (drop 1 back))
-  parts_first some = elim (cases_lt (position_or_len (λ b. b == 44) text) (length text)) [
-    | inl found ↦
-        let size : length front ≡ position_or_len (λ b. b == 44) text = omega (arith, ap length is_front, length-take (position_or_len (λ b. b == 44) text) text) in
-        let rest : take (length back - 1) (drop 1 back) ≡ after_first (λ b. b == 44) text =
-        take_rest back 1 ∙ (ap (drop 1) (is_back ∙ ap (λ n. drop n text) size) ∙ drop-drop 1 (position_or_len (λ b. b == 44) text) text) in
-        slice_split_first (λ b. b == 44) text 0 found ∙ (λ i. sym is_front i ∷ parts (sym rest i))
-    | inr past ↦
-        let all = is_front ∙ take_all (position_or_len (λ b. b == 44) text) text past in
-        absurd (omega (arith, ap length all, ap length is_back, length-drop (length front) text))
-  ]
 
 list_any-append : {X : Type 0} (test : X → Bool) (xs ys : List X) → list_any test (xs ++ ys) ≡ (list_any test xs || list_any test ys)
 list_any-append test [] ys = refl

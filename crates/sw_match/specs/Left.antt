@@ -1,7 +1,5 @@
--- What is left of a combined value, and of the members of Vary, while they are read.
-use Rattle.std.specs.Prelude.{ℕ, Bool, ◌==◌, ◌||◌, List, [], ◌++◌, codes, length, flat_map, Option, if◌then◌else◌}
-use Rattle.std.specs.Option.{option_map_or}
-use Rattle.std.specs.List.{slice_split}
+-- What is left of a combined value while it is read, and the parts of Vary.
+use Rattle.std.specs.Prelude.{ℕ, Bool, ◌==◌, ◌||◌, List, ◌++◌, codes, length, flat_map, if◌then◌else◌}
 use Rattle.sw_data.specs.declared.exchange.Header.{Header}
 use Rattle.sw_data.specs.Headers.{same_name, trimmed, values_of}
 use Rattle.sw_rules.specs.Matching.{same_values}
@@ -17,10 +15,6 @@ further name headers = flat_map marked (values_of name headers)
 -- a value, behind a space or not
 abbrev pub spaced : Bool → List ℕ → List ℕ
 spaced space value = if space then codes " " ++ value else value
-
--- the parts between commas of what is left of a text
-abbrev pub parts_left : Option (List ℕ) → List (List ℕ)
-parts_left text = option_map_or (slice_split (λ b. b == 44)) text []
 
 -- a part of Vary names all
 abbrev pub is_star : List ℕ → Bool

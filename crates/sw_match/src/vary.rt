@@ -1,15 +1,14 @@
 //! The members of Vary (HTTP Semantics, RFC 9110, 12.5.5). No call takes memory.
 
-ghost use Rattle.std.specs.Prelude.{◌≡◌, ◌<◌, ◌∷◌, ◌&&◌, ◌||◌, ◌==◌, not, codes, length, option_copied, slice_index_or};
+ghost use Rattle.std.specs.Prelude.{◌≡◌, ◌&&◌, ◌||◌, ◌==◌, not, codes, length};
 ghost use Rattle.std.specs.List.{list_any, list_all, slice_split};
-ghost use Rattle.std.specs.Option.{IfSome};
 ghost use Rattle.sw_data.specs.Headers.{is_ows, same_name, trimmed};
 ghost use Rattle.sw_rules.specs.Matching.{vary_allows, varies_on_all};
 ghost use Rattle.sw_rules.specs.Matching as rules;
-ghost use Rattle.sw_match.specs.Left.{agrees, is_star, parts_left};
+ghost use Rattle.sw_match.specs.Left.{agrees, is_star};
 
 use crate::values::same_values;
-use sw_data::cut::before;
+use sw_data::cut::first_part;
 use sw_data::header::{same_name, trimmed};
 use sw_data::{Header, Response};
 
@@ -35,7 +34,7 @@ fn has_star(value: &[u8]) -> bool
 {
     let mut left = Some(value);
     while let Some(text) = left {
-        let (part, rest) = first_part(text);
+        let (part, rest) = first_part(text, b',');
         if same_name(b"*", trimmed(part)) {
             return true;
         }
@@ -69,7 +68,7 @@ fn all_agree(query: &[Header], item: &[Header], value: &[u8]) -> bool
 {
     let mut left = Some(value);
     while let Some(text) = left {
-        let (part, rest) = first_part(text);
+        let (part, rest) = first_part(text, b',');
         if !agrees(query, item, trimmed(part)) {
             return false;
         }
@@ -84,18 +83,4 @@ fn agrees(query: &[Header], item: &[Header], name: &[u8]) -> bool
         || rules.same_values query.now item.now name.now) }
 {
     name.is_empty() || same_values(query, item, name)
-}
-
-// What stands before the first comma, and what follows it.
-#[tactic(auto, using(crate::proofs::VaryLemmas::parts_last, crate::proofs::VaryLemmas::parts_first))]
-fn first_part(text: &[u8]) -> (&[u8], Option<&[u8]>)
-    ensures parts { slice_split (λ b. b == 44) text.now
-        ≡ result.0.now ∷ parts_left (option_copied result.1) }
-    ensures shorter { IfSome result.1 (λ rest. length rest.now < length text.now) }
-{
-    let part = before(text, b',');
-    match text.split_at(part.len()).1 {
-        [_, rest @ ..] => (part, Some(rest)),
-        [] => (part, None),
-    }
 }

@@ -1,39 +1,35 @@
 //! Reading a recording whole.
 
-ghost use Rattle.std.specs.Prelude.{◌≡◌, map, IfOk};
+ghost use Rattle.std.specs.Prelude.{◌≡◌};
 ghost use Rattle.sw_record.specs.Grammar as grammar;
 ghost use Rattle.sw_record.specs.Grammar.{recording_of, Reads};
 
 use crate::error::RecordingError;
 use crate::flaw::error_at;
 use crate::reading::{nothing_read, with_line};
-use std::alloc::{AllocError, Global};
+use std::alloc::Global;
 use sw_data::Recording;
+use sw_data::cut::first_part;
 
-// The lines of a source, those between line feeds.
-fn lines_of(alloc: Global, bytes: &[u8]) -> Result<Vec<&[u8]>, AllocError>
-    ensures { IfOk result (λ lines. map (λ line. line.now) lines.items
-        ≡ grammar.lines_of bytes.now) }
-{
-    bytes.split(|byte| *byte == b'\n').collect(alloc)
-}
-
-// What the lines come to, or the refusal of the first bad one.
-fn with_lines(alloc: Global, lines: &[&[u8]]) -> Result<Recording, RecordingError>
+// What the lines of these bytes come to, or the refusal of the first bad one.
+fn with_lines(alloc: Global, bytes: &[u8]) -> Result<Recording, RecordingError>
     ensures { Reads result
-        (grammar.with_lines grammar.nothing_read 1 (map (λ line. line.now) lines.now)) }
+        (grammar.with_lines grammar.nothing_read 1 (grammar.lines_of bytes.now)) }
 {
     let mut so_far = nothing_read(alloc);
     let mut number: u32 = 0;
-    for line in lines {
+    let mut left = Some(bytes);
+    while let Some(text) = left {
+        let (line, rest) = first_part(text, b'\n');
         let Some(next) = number.checked_add(1) else {
             return Err(RecordingError::NoMemory);
         };
         number = next;
-        match with_line(alloc, so_far, *line)? {
+        match with_line(alloc, so_far, line)? {
             Ok(reading) => so_far = reading,
             Err(why) => return Err(error_at(number, why)),
         }
+        left = rest;
     }
     Ok(so_far.recording)
 }
@@ -47,6 +43,5 @@ fn with_lines(alloc: Global, lines: &[&[u8]]) -> Result<Recording, RecordingErro
 pub fn read_recording(alloc: Global, bytes: &[u8]) -> Result<Recording, RecordingError>
     ensures { Reads result (recording_of bytes.now) }
 {
-    let lines = lines_of(alloc, bytes)?;
-    with_lines(alloc, &lines)
+    with_lines(alloc, bytes)
 }
