@@ -13,27 +13,27 @@ row_049 :
     ++ codes "{\"lane\":0,\"do\":\"register\",\"client\":27,\"script\":\"/f76/page.js\",\"scope\":\"/f76/p\"}\n")
     ≡ record {
       transcript =
-    codes "- restarted -> 0 registrations 0 caches\n"
-    ++ codes "L0.0 open -> none\n"
-    ++ codes "L0.1 register -> j0\n"
-    ++ codes "- run j0 -> fetch 0 | mapped r0\n"
-    ++ codes "- fetched j0 -> changed | w0 parsed\n"
-    ++ codes "- evaluated j0 -> installing | w0 installing | settled j0 r0 | updatefound r0\n"
-    ++ codes "- installed j0 -> ok | w0 installed\n"
-    ++ codes "- tryactivate r0 -> w0 | w0 activating\n"
-    ++ codes "w0.activate.0 claim -> ok\n"
-    ++ codes "- activated w0 -> ok | w0 activated\n"
-    ++ codes "end done\n";
+          codes "- restarted -> 0 registrations 0 caches\n"
+          ++ codes "L0.0 open -> none\n"
+          ++ codes "L0.1 register -> j0\n"
+          ++ codes "- run j0 -> fetch 0 | mapped r0\n"
+          ++ codes "- fetched j0 -> changed | w0 parsed\n"
+          ++ codes "- evaluated j0 -> installing | w0 installing | settled j0 r0 | updatefound r0\n"
+          ++ codes "- installed j0 -> ok | w0 installed\n"
+          ++ codes "- tryactivate r0 -> w0 | w0 activating\n"
+          ++ codes "w0.activate.0 claim -> ok\n"
+          ++ codes "- activated w0 -> ok | w0 activated\n"
+          ++ codes "end done\n";
       shown =
-    codes "registrations 1\n"
-    ++ codes "registration \"https://a.test\" \"https://a.test/f76/p\" imports\n"
-    ++ codes " active activated \"https://a.test/f76/page.js\" classic 9\n"
-    ++ codes "caches 0\n";
+          codes "registrations 1\n"
+          ++ codes "registration \"https://a.test\" \"https://a.test/f76/p\" imports\n"
+          ++ codes " active activated \"https://a.test/f76/page.js\" classic 9\n"
+          ++ codes "caches 0\n";
       durable =
-    codes "registrations 1\n"
-    ++ codes "registration \"https://a.test\" \"https://a.test/f76/p\" imports\n"
-    ++ codes " active activated \"https://a.test/f76/page.js\" classic 9\n"
-    ++ codes "caches 0\n";
+          codes "registrations 1\n"
+          ++ codes "registration \"https://a.test\" \"https://a.test/f76/p\" imports\n"
+          ++ codes " active activated \"https://a.test/f76/page.js\" classic 9\n"
+          ++ codes "caches 0\n";
     }
 unfolding digits escape_byte grammar_on_literals steps_on_literals
 row_049 = refl
@@ -45,29 +45,29 @@ row_067 :
     ++ codes "{\"lane\":0,\"do\":\"register\",\"client\":0,\"script\":\"/late2/sw.js\",\"scope\":\"\",\"type\":\"classic\",\"cache\":\"none\"}\n")
     ≡ record {
       transcript =
-    codes "- restarted -> 0 registrations 0 caches\n"
-    ++ codes "L0.0 open -> none\n"
-    ++ codes "L0.1 register -> j0\n"
-    ++ codes "- run j0 -> fetch 0 | mapped r0\n"
-    ++ codes "- fetched j0 -> changed | w0 parsed\n"
-    ++ codes "- evaluated j0 -> installing | w0 installing | settled j0 r0 | updatefound r0\n"
-    ++ codes "- installed j0 -> ok | w0 installed\n"
-    ++ codes "- tryactivate r0 -> w0 | w0 activating\n"
-    ++ codes "w0.activate.0 cacheOpen -> made\n"
-    ++ codes "- activated w0 -> ok | w0 activated\n"
-    ++ codes "end done\n";
+          codes "- restarted -> 0 registrations 0 caches\n"
+          ++ codes "L0.0 open -> none\n"
+          ++ codes "L0.1 register -> j0\n"
+          ++ codes "- run j0 -> fetch 0 | mapped r0\n"
+          ++ codes "- fetched j0 -> changed | w0 parsed\n"
+          ++ codes "- evaluated j0 -> installing | w0 installing | settled j0 r0 | updatefound r0\n"
+          ++ codes "- installed j0 -> ok | w0 installed\n"
+          ++ codes "- tryactivate r0 -> w0 | w0 activating\n"
+          ++ codes "w0.activate.0 cacheOpen -> made\n"
+          ++ codes "- activated w0 -> ok | w0 activated\n"
+          ++ codes "end done\n";
       shown =
-    codes "registrations 1\n"
-    ++ codes "registration \"https://xn--nxa.test\" \"https://xn--nxa.test/late2/\" none\n"
-    ++ codes " active activated \"https://xn--nxa.test/late2/sw.js\" classic 7\n"
-    ++ codes "caches 1\n"
-    ++ codes "cache \"https://xn--nxa.test\" \"v\" 0\n";
+          codes "registrations 1\n"
+          ++ codes "registration \"https://xn--nxa.test\" \"https://xn--nxa.test/late2/\" none\n"
+          ++ codes " active activated \"https://xn--nxa.test/late2/sw.js\" classic 7\n"
+          ++ codes "caches 1\n"
+          ++ codes "cache \"https://xn--nxa.test\" \"v\" 0\n";
       durable =
-    codes "registrations 1\n"
-    ++ codes "registration \"https://xn--nxa.test\" \"https://xn--nxa.test/late2/\" none\n"
-    ++ codes " active activated \"https://xn--nxa.test/late2/sw.js\" classic 7\n"
-    ++ codes "caches 1\n"
-    ++ codes "cache \"https://xn--nxa.test\" \"v\" 0\n";
+          codes "registrations 1\n"
+          ++ codes "registration \"https://xn--nxa.test\" \"https://xn--nxa.test/late2/\" none\n"
+          ++ codes " active activated \"https://xn--nxa.test/late2/sw.js\" classic 7\n"
+          ++ codes "caches 1\n"
+          ++ codes "cache \"https://xn--nxa.test\" \"v\" 0\n";
     }
 unfolding digits escape_byte grammar_on_literals steps_on_literals
 row_067 = refl
@@ -81,29 +81,29 @@ row_073 :
     ++ codes "{\"lane\":0,\"do\":\"register\",\"client\":23,\"script\":\"/f20/sw93.js\",\"scope\":\"/f20/\"}\n")
     ≡ record {
       transcript =
-    codes "- restarted -> 0 registrations 0 caches\n"
-    ++ codes "L0.0 open -> none\n"
-    ++ codes "L0.1 register -> j0\n"
-    ++ codes "- run j0 -> fetch 0 | mapped r0\n"
-    ++ codes "- fetched j0 -> changed | w0 parsed\n"
-    ++ codes "- evaluated j0 -> installing | w0 installing | settled j0 r0 | updatefound r0\n"
-    ++ codes "L0.2 await -> r0\n"
-    ++ codes "L0.3 register -> j1\n"
-    ++ codes "- installed j0 -> ok | w0 installed\n"
-    ++ codes "- run j1 -> finished | settled j1 r0\n"
-    ++ codes "- tryactivate r0 -> w0 | w0 activating\n"
-    ++ codes "- activated w0 -> ok | w0 activated\n"
-    ++ codes "end done\n";
+          codes "- restarted -> 0 registrations 0 caches\n"
+          ++ codes "L0.0 open -> none\n"
+          ++ codes "L0.1 register -> j0\n"
+          ++ codes "- run j0 -> fetch 0 | mapped r0\n"
+          ++ codes "- fetched j0 -> changed | w0 parsed\n"
+          ++ codes "- evaluated j0 -> installing | w0 installing | settled j0 r0 | updatefound r0\n"
+          ++ codes "L0.2 await -> r0\n"
+          ++ codes "L0.3 register -> j1\n"
+          ++ codes "- installed j0 -> ok | w0 installed\n"
+          ++ codes "- run j1 -> finished | settled j1 r0\n"
+          ++ codes "- tryactivate r0 -> w0 | w0 activating\n"
+          ++ codes "- activated w0 -> ok | w0 activated\n"
+          ++ codes "end done\n";
       shown =
-    codes "registrations 1\n"
-    ++ codes "registration \"http://localhost:8080\" \"http://localhost:8080/f20/\" imports\n"
-    ++ codes " active activated \"http://localhost:8080/f20/sw93.js\" classic 9\n"
-    ++ codes "caches 0\n";
+          codes "registrations 1\n"
+          ++ codes "registration \"http://localhost:8080\" \"http://localhost:8080/f20/\" imports\n"
+          ++ codes " active activated \"http://localhost:8080/f20/sw93.js\" classic 9\n"
+          ++ codes "caches 0\n";
       durable =
-    codes "registrations 1\n"
-    ++ codes "registration \"http://localhost:8080\" \"http://localhost:8080/f20/\" imports\n"
-    ++ codes " active activated \"http://localhost:8080/f20/sw93.js\" classic 9\n"
-    ++ codes "caches 0\n";
+          codes "registrations 1\n"
+          ++ codes "registration \"http://localhost:8080\" \"http://localhost:8080/f20/\" imports\n"
+          ++ codes " active activated \"http://localhost:8080/f20/sw93.js\" classic 9\n"
+          ++ codes "caches 0\n";
     }
 unfolding digits escape_byte grammar_on_literals steps_on_literals
 row_073 = refl
@@ -115,27 +115,27 @@ row_093 :
     ++ codes "{\"lane\":0,\"do\":\"register\",\"client\":1,\"script\":\"/app/sw.js\"}\n")
     ≡ record {
       transcript =
-    codes "- restarted -> 0 registrations 0 caches\n"
-    ++ codes "L0.0 open -> none\n"
-    ++ codes "L0.1 register -> j0\n"
-    ++ codes "- run j0 -> fetch 0 | mapped r0\n"
-    ++ codes "- fetched j0 -> changed | w0 parsed\n"
-    ++ codes "- evaluated j0 -> installing | w0 installing | settled j0 r0 | updatefound r0\n"
-    ++ codes "- installed j0 -> ok | w0 installed\n"
-    ++ codes "- tryactivate r0 -> w0 | w0 activating\n"
-    ++ codes "w0.activate.0 skipWaiting -> ok\n"
-    ++ codes "- activated w0 -> ok | w0 activated\n"
-    ++ codes "end done\n";
+          codes "- restarted -> 0 registrations 0 caches\n"
+          ++ codes "L0.0 open -> none\n"
+          ++ codes "L0.1 register -> j0\n"
+          ++ codes "- run j0 -> fetch 0 | mapped r0\n"
+          ++ codes "- fetched j0 -> changed | w0 parsed\n"
+          ++ codes "- evaluated j0 -> installing | w0 installing | settled j0 r0 | updatefound r0\n"
+          ++ codes "- installed j0 -> ok | w0 installed\n"
+          ++ codes "- tryactivate r0 -> w0 | w0 activating\n"
+          ++ codes "w0.activate.0 skipWaiting -> ok\n"
+          ++ codes "- activated w0 -> ok | w0 activated\n"
+          ++ codes "end done\n";
       shown =
-    codes "registrations 1\n"
-    ++ codes "registration \"https://xn--nxa.test\" \"https://xn--nxa.test/app/\" imports\n"
-    ++ codes " active activated \"https://xn--nxa.test/app/sw.js\" classic 5\n"
-    ++ codes "caches 0\n";
+          codes "registrations 1\n"
+          ++ codes "registration \"https://xn--nxa.test\" \"https://xn--nxa.test/app/\" imports\n"
+          ++ codes " active activated \"https://xn--nxa.test/app/sw.js\" classic 5\n"
+          ++ codes "caches 0\n";
       durable =
-    codes "registrations 1\n"
-    ++ codes "registration \"https://xn--nxa.test\" \"https://xn--nxa.test/app/\" imports\n"
-    ++ codes " active activated \"https://xn--nxa.test/app/sw.js\" classic 5\n"
-    ++ codes "caches 0\n";
+          codes "registrations 1\n"
+          ++ codes "registration \"https://xn--nxa.test\" \"https://xn--nxa.test/app/\" imports\n"
+          ++ codes " active activated \"https://xn--nxa.test/app/sw.js\" classic 5\n"
+          ++ codes "caches 0\n";
     }
 unfolding digits escape_byte grammar_on_literals steps_on_literals
 row_093 = refl
@@ -147,31 +147,31 @@ row_099 :
     ++ codes "{\"lane\":0,\"do\":\"register\",\"client\":1,\"script\":\"/app/sw.js\"}\n")
     ≡ record {
       transcript =
-    codes "- restarted -> 0 registrations 0 caches\n"
-    ++ codes "L0.0 open -> none\n"
-    ++ codes "L0.1 register -> j0\n"
-    ++ codes "- run j0 -> fetch 0 | mapped r0\n"
-    ++ codes "- fetched j0 -> changed | w0 parsed\n"
-    ++ codes "- evaluated j0 -> installing | w0 installing | settled j0 r0 | updatefound r0\n"
-    ++ codes "- installed j0 -> ok | w0 installed\n"
-    ++ codes "- tryactivate r0 -> w0 | w0 activating\n"
-    ++ codes "w0.activate.0 cacheOpen -> made\n"
-    ++ codes "w0.activate.1 addAll -> a0\n"
-    ++ codes "- added a0 -> TypeError network 0\n"
-    ++ codes "- activated w0 -> ok | w0 activated\n"
-    ++ codes "end done\n";
+          codes "- restarted -> 0 registrations 0 caches\n"
+          ++ codes "L0.0 open -> none\n"
+          ++ codes "L0.1 register -> j0\n"
+          ++ codes "- run j0 -> fetch 0 | mapped r0\n"
+          ++ codes "- fetched j0 -> changed | w0 parsed\n"
+          ++ codes "- evaluated j0 -> installing | w0 installing | settled j0 r0 | updatefound r0\n"
+          ++ codes "- installed j0 -> ok | w0 installed\n"
+          ++ codes "- tryactivate r0 -> w0 | w0 activating\n"
+          ++ codes "w0.activate.0 cacheOpen -> made\n"
+          ++ codes "w0.activate.1 addAll -> a0\n"
+          ++ codes "- added a0 -> TypeError network 0\n"
+          ++ codes "- activated w0 -> ok | w0 activated\n"
+          ++ codes "end done\n";
       shown =
-    codes "registrations 1\n"
-    ++ codes "registration \"https://xn--nxa.test\" \"https://xn--nxa.test/app/\" imports\n"
-    ++ codes " active activated \"https://xn--nxa.test/app/sw.js\" classic 5\n"
-    ++ codes "caches 1\n"
-    ++ codes "cache \"https://xn--nxa.test\" \"v\" 0\n";
+          codes "registrations 1\n"
+          ++ codes "registration \"https://xn--nxa.test\" \"https://xn--nxa.test/app/\" imports\n"
+          ++ codes " active activated \"https://xn--nxa.test/app/sw.js\" classic 5\n"
+          ++ codes "caches 1\n"
+          ++ codes "cache \"https://xn--nxa.test\" \"v\" 0\n";
       durable =
-    codes "registrations 1\n"
-    ++ codes "registration \"https://xn--nxa.test\" \"https://xn--nxa.test/app/\" imports\n"
-    ++ codes " active activated \"https://xn--nxa.test/app/sw.js\" classic 5\n"
-    ++ codes "caches 1\n"
-    ++ codes "cache \"https://xn--nxa.test\" \"v\" 0\n";
+          codes "registrations 1\n"
+          ++ codes "registration \"https://xn--nxa.test\" \"https://xn--nxa.test/app/\" imports\n"
+          ++ codes " active activated \"https://xn--nxa.test/app/sw.js\" classic 5\n"
+          ++ codes "caches 1\n"
+          ++ codes "cache \"https://xn--nxa.test\" \"v\" 0\n";
     }
 unfolding digits escape_byte grammar_on_literals steps_on_literals
 row_099 = refl
@@ -183,27 +183,27 @@ row_149 :
     ++ codes "{\"lane\":1,\"do\":\"register\",\"client\":6,\"script\":\"/sw.js?v=1\",\"type\":\"classic\"}\n")
     ≡ record {
       transcript =
-    codes "- restarted -> 0 registrations 0 caches\n"
-    ++ codes "L1.0 open -> none\n"
-    ++ codes "L1.1 register -> j0\n"
-    ++ codes "- run j0 -> fetch 0 | mapped r0\n"
-    ++ codes "- fetched j0 -> changed | w0 parsed\n"
-    ++ codes "- evaluated j0 -> installing | w0 installing | settled j0 r0 | updatefound r0\n"
-    ++ codes "- installed j0 -> ok | w0 installed\n"
-    ++ codes "- tryactivate r0 -> w0 | w0 activating\n"
-    ++ codes "w0.activate.0 put -> CacheGone\n"
-    ++ codes "- activated w0 -> ok | w0 activated\n"
-    ++ codes "end done\n";
+          codes "- restarted -> 0 registrations 0 caches\n"
+          ++ codes "L1.0 open -> none\n"
+          ++ codes "L1.1 register -> j0\n"
+          ++ codes "- run j0 -> fetch 0 | mapped r0\n"
+          ++ codes "- fetched j0 -> changed | w0 parsed\n"
+          ++ codes "- evaluated j0 -> installing | w0 installing | settled j0 r0 | updatefound r0\n"
+          ++ codes "- installed j0 -> ok | w0 installed\n"
+          ++ codes "- tryactivate r0 -> w0 | w0 activating\n"
+          ++ codes "w0.activate.0 put -> CacheGone\n"
+          ++ codes "- activated w0 -> ok | w0 activated\n"
+          ++ codes "end done\n";
       shown =
-    codes "registrations 1\n"
-    ++ codes "registration \"http://127.9.0.1:99\" \"http://127.9.0.1:99/\" imports\n"
-    ++ codes " active activated \"http://127.9.0.1:99/sw.js?v=1\" classic 5\n"
-    ++ codes "caches 0\n";
+          codes "registrations 1\n"
+          ++ codes "registration \"http://127.9.0.1:99\" \"http://127.9.0.1:99/\" imports\n"
+          ++ codes " active activated \"http://127.9.0.1:99/sw.js?v=1\" classic 5\n"
+          ++ codes "caches 0\n";
       durable =
-    codes "registrations 1\n"
-    ++ codes "registration \"http://127.9.0.1:99\" \"http://127.9.0.1:99/\" imports\n"
-    ++ codes " active activated \"http://127.9.0.1:99/sw.js?v=1\" classic 5\n"
-    ++ codes "caches 0\n";
+          codes "registrations 1\n"
+          ++ codes "registration \"http://127.9.0.1:99\" \"http://127.9.0.1:99/\" imports\n"
+          ++ codes " active activated \"http://127.9.0.1:99/sw.js?v=1\" classic 5\n"
+          ++ codes "caches 0\n";
     }
 unfolding digits escape_byte grammar_on_literals steps_on_literals
 row_149 = refl
@@ -215,27 +215,27 @@ row_174 :
     ++ codes "{\"lane\":0,\"do\":\"register\",\"client\":2,\"script\":\"/d/e/sw.js\"}\n")
     ≡ record {
       transcript =
-    codes "- restarted -> 0 registrations 0 caches\n"
-    ++ codes "L0.0 open -> none\n"
-    ++ codes "L0.1 register -> j0\n"
-    ++ codes "- run j0 -> fetch 0 | mapped r0\n"
-    ++ codes "- fetched j0 -> changed | w0 parsed\n"
-    ++ codes "- evaluated j0 -> installing | w0 installing | settled j0 r0 | updatefound r0\n"
-    ++ codes "- installed j0 -> ok | w0 installed\n"
-    ++ codes "- tryactivate r0 -> w0 | w0 activating\n"
-    ++ codes "w0.activate.0 batch -> CacheGone\n"
-    ++ codes "- activated w0 -> ok | w0 activated\n"
-    ++ codes "end done\n";
+          codes "- restarted -> 0 registrations 0 caches\n"
+          ++ codes "L0.0 open -> none\n"
+          ++ codes "L0.1 register -> j0\n"
+          ++ codes "- run j0 -> fetch 0 | mapped r0\n"
+          ++ codes "- fetched j0 -> changed | w0 parsed\n"
+          ++ codes "- evaluated j0 -> installing | w0 installing | settled j0 r0 | updatefound r0\n"
+          ++ codes "- installed j0 -> ok | w0 installed\n"
+          ++ codes "- tryactivate r0 -> w0 | w0 activating\n"
+          ++ codes "w0.activate.0 batch -> CacheGone\n"
+          ++ codes "- activated w0 -> ok | w0 activated\n"
+          ++ codes "end done\n";
       shown =
-    codes "registrations 1\n"
-    ++ codes "registration \"https://a.test:8443\" \"https://a.test:8443/d/e/\" imports\n"
-    ++ codes " active activated \"https://a.test:8443/d/e/sw.js\" classic 5\n"
-    ++ codes "caches 0\n";
+          codes "registrations 1\n"
+          ++ codes "registration \"https://a.test:8443\" \"https://a.test:8443/d/e/\" imports\n"
+          ++ codes " active activated \"https://a.test:8443/d/e/sw.js\" classic 5\n"
+          ++ codes "caches 0\n";
       durable =
-    codes "registrations 1\n"
-    ++ codes "registration \"https://a.test:8443\" \"https://a.test:8443/d/e/\" imports\n"
-    ++ codes " active activated \"https://a.test:8443/d/e/sw.js\" classic 5\n"
-    ++ codes "caches 0\n";
+          codes "registrations 1\n"
+          ++ codes "registration \"https://a.test:8443\" \"https://a.test:8443/d/e/\" imports\n"
+          ++ codes " active activated \"https://a.test:8443/d/e/sw.js\" classic 5\n"
+          ++ codes "caches 0\n";
     }
 unfolding digits escape_byte grammar_on_literals steps_on_literals
 row_174 = refl
@@ -247,27 +247,27 @@ row_197 :
     ++ codes "{\"lane\":0,\"do\":\"register\",\"client\":9,\"script\":\"/d/e/sw.js\",\"scope\":\"/app/\"}\n")
     ≡ record {
       transcript =
-    codes "- restarted -> 0 registrations 0 caches\n"
-    ++ codes "L0.0 open -> none\n"
-    ++ codes "L0.1 register -> j0\n"
-    ++ codes "- run j0 -> fetch 0 | mapped r0\n"
-    ++ codes "- fetched j0 -> changed | w0 parsed\n"
-    ++ codes "- evaluated j0 -> installing | w0 installing | settled j0 r0 | updatefound r0\n"
-    ++ codes "- installed j0 -> ok | w0 installed\n"
-    ++ codes "- tryactivate r0 -> w0 | w0 activating\n"
-    ++ codes "w0.activate.0 cacheDelete -> false\n"
-    ++ codes "- activated w0 -> ok | w0 activated\n"
-    ++ codes "end done\n";
+          codes "- restarted -> 0 registrations 0 caches\n"
+          ++ codes "L0.0 open -> none\n"
+          ++ codes "L0.1 register -> j0\n"
+          ++ codes "- run j0 -> fetch 0 | mapped r0\n"
+          ++ codes "- fetched j0 -> changed | w0 parsed\n"
+          ++ codes "- evaluated j0 -> installing | w0 installing | settled j0 r0 | updatefound r0\n"
+          ++ codes "- installed j0 -> ok | w0 installed\n"
+          ++ codes "- tryactivate r0 -> w0 | w0 activating\n"
+          ++ codes "w0.activate.0 cacheDelete -> false\n"
+          ++ codes "- activated w0 -> ok | w0 activated\n"
+          ++ codes "end done\n";
       shown =
-    codes "registrations 1\n"
-    ++ codes "registration \"http://127.9.0.1:99\" \"http://127.9.0.1:99/app/\" imports\n"
-    ++ codes " active activated \"http://127.9.0.1:99/d/e/sw.js\" classic 5\n"
-    ++ codes "caches 0\n";
+          codes "registrations 1\n"
+          ++ codes "registration \"http://127.9.0.1:99\" \"http://127.9.0.1:99/app/\" imports\n"
+          ++ codes " active activated \"http://127.9.0.1:99/d/e/sw.js\" classic 5\n"
+          ++ codes "caches 0\n";
       durable =
-    codes "registrations 1\n"
-    ++ codes "registration \"http://127.9.0.1:99\" \"http://127.9.0.1:99/app/\" imports\n"
-    ++ codes " active activated \"http://127.9.0.1:99/d/e/sw.js\" classic 5\n"
-    ++ codes "caches 0\n";
+          codes "registrations 1\n"
+          ++ codes "registration \"http://127.9.0.1:99\" \"http://127.9.0.1:99/app/\" imports\n"
+          ++ codes " active activated \"http://127.9.0.1:99/d/e/sw.js\" classic 5\n"
+          ++ codes "caches 0\n";
     }
 unfolding digits escape_byte grammar_on_literals steps_on_literals
 row_197 = refl
@@ -279,30 +279,30 @@ row_203 :
     ++ codes "{\"lane\":0,\"do\":\"register\",\"client\":3,\"script\":\"/sw.js\",\"scope\":\"/app\"}\n")
     ≡ record {
       transcript =
-    codes "- restarted -> 0 registrations 0 caches\n"
-    ++ codes "L0.0 open -> none\n"
-    ++ codes "L0.1 register -> j0\n"
-    ++ codes "- run j0 -> fetch 0 | mapped r0\n"
-    ++ codes "- fetched j0 -> changed | w0 parsed\n"
-    ++ codes "- evaluated j0 -> installing | w0 installing | settled j0 r0 | updatefound r0\n"
-    ++ codes "- installed j0 -> ok | w0 installed\n"
-    ++ codes "- tryactivate r0 -> w0 | w0 activating\n"
-    ++ codes "w0.activate.0 cacheOpen -> made\n"
-    ++ codes "w0.activate.1 batch -> TypeError unparsed 0\n"
-    ++ codes "- activated w0 -> ok | w0 activated\n"
-    ++ codes "end done\n";
+          codes "- restarted -> 0 registrations 0 caches\n"
+          ++ codes "L0.0 open -> none\n"
+          ++ codes "L0.1 register -> j0\n"
+          ++ codes "- run j0 -> fetch 0 | mapped r0\n"
+          ++ codes "- fetched j0 -> changed | w0 parsed\n"
+          ++ codes "- evaluated j0 -> installing | w0 installing | settled j0 r0 | updatefound r0\n"
+          ++ codes "- installed j0 -> ok | w0 installed\n"
+          ++ codes "- tryactivate r0 -> w0 | w0 activating\n"
+          ++ codes "w0.activate.0 cacheOpen -> made\n"
+          ++ codes "w0.activate.1 batch -> TypeError unparsed 0\n"
+          ++ codes "- activated w0 -> ok | w0 activated\n"
+          ++ codes "end done\n";
       shown =
-    codes "registrations 1\n"
-    ++ codes "registration \"http://x.localhost\" \"http://x.localhost/app\" imports\n"
-    ++ codes " active activated \"http://x.localhost/sw.js\" classic 5\n"
-    ++ codes "caches 1\n"
-    ++ codes "cache \"http://x.localhost\" \"v\" 0\n";
+          codes "registrations 1\n"
+          ++ codes "registration \"http://x.localhost\" \"http://x.localhost/app\" imports\n"
+          ++ codes " active activated \"http://x.localhost/sw.js\" classic 5\n"
+          ++ codes "caches 1\n"
+          ++ codes "cache \"http://x.localhost\" \"v\" 0\n";
       durable =
-    codes "registrations 1\n"
-    ++ codes "registration \"http://x.localhost\" \"http://x.localhost/app\" imports\n"
-    ++ codes " active activated \"http://x.localhost/sw.js\" classic 5\n"
-    ++ codes "caches 1\n"
-    ++ codes "cache \"http://x.localhost\" \"v\" 0\n";
+          codes "registrations 1\n"
+          ++ codes "registration \"http://x.localhost\" \"http://x.localhost/app\" imports\n"
+          ++ codes " active activated \"http://x.localhost/sw.js\" classic 5\n"
+          ++ codes "caches 1\n"
+          ++ codes "cache \"http://x.localhost\" \"v\" 0\n";
     }
 unfolding digits escape_byte grammar_on_literals steps_on_literals
 row_203 = refl
@@ -314,30 +314,30 @@ row_209 :
     ++ codes "{\"lane\":0,\"do\":\"register\",\"client\":8,\"script\":\"/sw.js\",\"scope\":\"/nowhere\"}\n")
     ≡ record {
       transcript =
-    codes "- restarted -> 0 registrations 0 caches\n"
-    ++ codes "L0.0 open -> none\n"
-    ++ codes "L0.1 register -> j0\n"
-    ++ codes "- run j0 -> fetch 0 | mapped r0\n"
-    ++ codes "- fetched j0 -> changed | w0 parsed\n"
-    ++ codes "- evaluated j0 -> installing | w0 installing | settled j0 r0 | updatefound r0\n"
-    ++ codes "- installed j0 -> ok | w0 installed\n"
-    ++ codes "- tryactivate r0 -> w0 | w0 activating\n"
-    ++ codes "w0.activate.0 cacheOpen -> made\n"
-    ++ codes "w0.activate.1 put -> TypeError partial\n"
-    ++ codes "- activated w0 -> ok | w0 activated\n"
-    ++ codes "end done\n";
+          codes "- restarted -> 0 registrations 0 caches\n"
+          ++ codes "L0.0 open -> none\n"
+          ++ codes "L0.1 register -> j0\n"
+          ++ codes "- run j0 -> fetch 0 | mapped r0\n"
+          ++ codes "- fetched j0 -> changed | w0 parsed\n"
+          ++ codes "- evaluated j0 -> installing | w0 installing | settled j0 r0 | updatefound r0\n"
+          ++ codes "- installed j0 -> ok | w0 installed\n"
+          ++ codes "- tryactivate r0 -> w0 | w0 activating\n"
+          ++ codes "w0.activate.0 cacheOpen -> made\n"
+          ++ codes "w0.activate.1 put -> TypeError partial\n"
+          ++ codes "- activated w0 -> ok | w0 activated\n"
+          ++ codes "end done\n";
       shown =
-    codes "registrations 1\n"
-    ++ codes "registration \"https://b.test\" \"https://b.test/nowhere\" imports\n"
-    ++ codes " active activated \"https://b.test/sw.js\" classic 5\n"
-    ++ codes "caches 1\n"
-    ++ codes "cache \"https://b.test\" \"v\" 0\n";
+          codes "registrations 1\n"
+          ++ codes "registration \"https://b.test\" \"https://b.test/nowhere\" imports\n"
+          ++ codes " active activated \"https://b.test/sw.js\" classic 5\n"
+          ++ codes "caches 1\n"
+          ++ codes "cache \"https://b.test\" \"v\" 0\n";
       durable =
-    codes "registrations 1\n"
-    ++ codes "registration \"https://b.test\" \"https://b.test/nowhere\" imports\n"
-    ++ codes " active activated \"https://b.test/sw.js\" classic 5\n"
-    ++ codes "caches 1\n"
-    ++ codes "cache \"https://b.test\" \"v\" 0\n";
+          codes "registrations 1\n"
+          ++ codes "registration \"https://b.test\" \"https://b.test/nowhere\" imports\n"
+          ++ codes " active activated \"https://b.test/sw.js\" classic 5\n"
+          ++ codes "caches 1\n"
+          ++ codes "cache \"https://b.test\" \"v\" 0\n";
     }
 unfolding digits escape_byte grammar_on_literals steps_on_literals
 row_209 = refl
@@ -349,30 +349,30 @@ row_236 :
     ++ codes "{\"lane\":1,\"do\":\"register\",\"client\":6,\"script\":\"/sw.js\",\"scope\":\"/\",\"cache\":\"imports\"}\n")
     ≡ record {
       transcript =
-    codes "- restarted -> 0 registrations 0 caches\n"
-    ++ codes "L1.0 open -> none\n"
-    ++ codes "L1.1 register -> j0\n"
-    ++ codes "- run j0 -> fetch 0 | mapped r0\n"
-    ++ codes "- fetched j0 -> changed | w0 parsed\n"
-    ++ codes "- evaluated j0 -> installing | w0 installing | settled j0 r0 | updatefound r0\n"
-    ++ codes "- installed j0 -> ok | w0 installed\n"
-    ++ codes "- tryactivate r0 -> w0 | w0 activating\n"
-    ++ codes "w0.activate.0 cacheOpen -> made\n"
-    ++ codes "w0.activate.1 addAll -> TypeError scheme\n"
-    ++ codes "- activated w0 -> ok | w0 activated\n"
-    ++ codes "end done\n";
+          codes "- restarted -> 0 registrations 0 caches\n"
+          ++ codes "L1.0 open -> none\n"
+          ++ codes "L1.1 register -> j0\n"
+          ++ codes "- run j0 -> fetch 0 | mapped r0\n"
+          ++ codes "- fetched j0 -> changed | w0 parsed\n"
+          ++ codes "- evaluated j0 -> installing | w0 installing | settled j0 r0 | updatefound r0\n"
+          ++ codes "- installed j0 -> ok | w0 installed\n"
+          ++ codes "- tryactivate r0 -> w0 | w0 activating\n"
+          ++ codes "w0.activate.0 cacheOpen -> made\n"
+          ++ codes "w0.activate.1 addAll -> TypeError scheme\n"
+          ++ codes "- activated w0 -> ok | w0 activated\n"
+          ++ codes "end done\n";
       shown =
-    codes "registrations 1\n"
-    ++ codes "registration \"https://b.test^p\" \"https://b.test/\" imports\n"
-    ++ codes " active activated \"https://b.test/sw.js\" classic 5\n"
-    ++ codes "caches 1\n"
-    ++ codes "cache \"https://b.test^p\" \"v\" 0\n";
+          codes "registrations 1\n"
+          ++ codes "registration \"https://b.test^p\" \"https://b.test/\" imports\n"
+          ++ codes " active activated \"https://b.test/sw.js\" classic 5\n"
+          ++ codes "caches 1\n"
+          ++ codes "cache \"https://b.test^p\" \"v\" 0\n";
       durable =
-    codes "registrations 1\n"
-    ++ codes "registration \"https://b.test^p\" \"https://b.test/\" imports\n"
-    ++ codes " active activated \"https://b.test/sw.js\" classic 5\n"
-    ++ codes "caches 1\n"
-    ++ codes "cache \"https://b.test^p\" \"v\" 0\n";
+          codes "registrations 1\n"
+          ++ codes "registration \"https://b.test^p\" \"https://b.test/\" imports\n"
+          ++ codes " active activated \"https://b.test/sw.js\" classic 5\n"
+          ++ codes "caches 1\n"
+          ++ codes "cache \"https://b.test^p\" \"v\" 0\n";
     }
 unfolding digits escape_byte grammar_on_literals steps_on_literals
 row_236 = refl
@@ -384,31 +384,31 @@ row_237 :
     ++ codes "{\"lane\":1,\"do\":\"register\",\"client\":7,\"script\":\"/sw.js?v=1\",\"scope\":\"/app?q\",\"type\":\"module\"}\n")
     ≡ record {
       transcript =
-    codes "- restarted -> 0 registrations 0 caches\n"
-    ++ codes "L0.0 open -> none\n"
-    ++ codes "L1.0 register -> j0\n"
-    ++ codes "- run j0 -> fetch 0 | mapped r0\n"
-    ++ codes "- fetched j0 -> changed | w0 parsed\n"
-    ++ codes "- evaluated j0 -> installing | w0 installing | settled j0 r0 | updatefound r0\n"
-    ++ codes "- installed j0 -> ok | w0 installed\n"
-    ++ codes "- tryactivate r0 -> w0 | w0 activating\n"
-    ++ codes "w0.activate.0 cacheOpen -> made\n"
-    ++ codes "w0.activate.1 put -> TypeError method\n"
-    ++ codes "w0.activate.2 cacheOpen -> found\n"
-    ++ codes "- activated w0 -> ok | w0 activated\n"
-    ++ codes "end done\n";
+          codes "- restarted -> 0 registrations 0 caches\n"
+          ++ codes "L0.0 open -> none\n"
+          ++ codes "L1.0 register -> j0\n"
+          ++ codes "- run j0 -> fetch 0 | mapped r0\n"
+          ++ codes "- fetched j0 -> changed | w0 parsed\n"
+          ++ codes "- evaluated j0 -> installing | w0 installing | settled j0 r0 | updatefound r0\n"
+          ++ codes "- installed j0 -> ok | w0 installed\n"
+          ++ codes "- tryactivate r0 -> w0 | w0 activating\n"
+          ++ codes "w0.activate.0 cacheOpen -> made\n"
+          ++ codes "w0.activate.1 put -> TypeError method\n"
+          ++ codes "w0.activate.2 cacheOpen -> found\n"
+          ++ codes "- activated w0 -> ok | w0 activated\n"
+          ++ codes "end done\n";
       shown =
-    codes "registrations 1\n"
-    ++ codes "registration \"https://a.test:8443\" \"https://a.test:8443/app?q\" imports\n"
-    ++ codes " active activated \"https://a.test:8443/sw.js?v=1\" module 5\n"
-    ++ codes "caches 1\n"
-    ++ codes "cache \"https://a.test:8443\" \"v\" 0\n";
+          codes "registrations 1\n"
+          ++ codes "registration \"https://a.test:8443\" \"https://a.test:8443/app?q\" imports\n"
+          ++ codes " active activated \"https://a.test:8443/sw.js?v=1\" module 5\n"
+          ++ codes "caches 1\n"
+          ++ codes "cache \"https://a.test:8443\" \"v\" 0\n";
       durable =
-    codes "registrations 1\n"
-    ++ codes "registration \"https://a.test:8443\" \"https://a.test:8443/app?q\" imports\n"
-    ++ codes " active activated \"https://a.test:8443/sw.js?v=1\" module 5\n"
-    ++ codes "caches 1\n"
-    ++ codes "cache \"https://a.test:8443\" \"v\" 0\n";
+          codes "registrations 1\n"
+          ++ codes "registration \"https://a.test:8443\" \"https://a.test:8443/app?q\" imports\n"
+          ++ codes " active activated \"https://a.test:8443/sw.js?v=1\" module 5\n"
+          ++ codes "caches 1\n"
+          ++ codes "cache \"https://a.test:8443\" \"v\" 0\n";
     }
 unfolding digits escape_byte grammar_on_literals steps_on_literals
 row_237 = refl
@@ -420,30 +420,30 @@ row_255 :
     ++ codes "{\"lane\":2,\"do\":\"register\",\"client\":6,\"script\":\"/sw.js\",\"scope\":\"/app/x/\"}\n")
     ≡ record {
       transcript =
-    codes "- restarted -> 0 registrations 0 caches\n"
-    ++ codes "L2.0 open -> none\n"
-    ++ codes "L2.1 register -> j0\n"
-    ++ codes "- run j0 -> fetch 0 | mapped r0\n"
-    ++ codes "- fetched j0 -> changed | w0 parsed\n"
-    ++ codes "- evaluated j0 -> installing | w0 installing | settled j0 r0 | updatefound r0\n"
-    ++ codes "- installed j0 -> ok | w0 installed\n"
-    ++ codes "- tryactivate r0 -> w0 | w0 activating\n"
-    ++ codes "w0.activate.0 cacheOpen -> made\n"
-    ++ codes "w0.activate.1 batch -> TypeError vary 1\n"
-    ++ codes "- activated w0 -> ok | w0 activated\n"
-    ++ codes "end done\n";
+          codes "- restarted -> 0 registrations 0 caches\n"
+          ++ codes "L2.0 open -> none\n"
+          ++ codes "L2.1 register -> j0\n"
+          ++ codes "- run j0 -> fetch 0 | mapped r0\n"
+          ++ codes "- fetched j0 -> changed | w0 parsed\n"
+          ++ codes "- evaluated j0 -> installing | w0 installing | settled j0 r0 | updatefound r0\n"
+          ++ codes "- installed j0 -> ok | w0 installed\n"
+          ++ codes "- tryactivate r0 -> w0 | w0 activating\n"
+          ++ codes "w0.activate.0 cacheOpen -> made\n"
+          ++ codes "w0.activate.1 batch -> TypeError vary 1\n"
+          ++ codes "- activated w0 -> ok | w0 activated\n"
+          ++ codes "end done\n";
       shown =
-    codes "registrations 1\n"
-    ++ codes "registration \"https://xn--nxa.test\" \"https://xn--nxa.test/app/x/\" imports\n"
-    ++ codes " active activated \"https://xn--nxa.test/sw.js\" classic 5\n"
-    ++ codes "caches 1\n"
-    ++ codes "cache \"https://xn--nxa.test\" \"v\" 0\n";
+          codes "registrations 1\n"
+          ++ codes "registration \"https://xn--nxa.test\" \"https://xn--nxa.test/app/x/\" imports\n"
+          ++ codes " active activated \"https://xn--nxa.test/sw.js\" classic 5\n"
+          ++ codes "caches 1\n"
+          ++ codes "cache \"https://xn--nxa.test\" \"v\" 0\n";
       durable =
-    codes "registrations 1\n"
-    ++ codes "registration \"https://xn--nxa.test\" \"https://xn--nxa.test/app/x/\" imports\n"
-    ++ codes " active activated \"https://xn--nxa.test/sw.js\" classic 5\n"
-    ++ codes "caches 1\n"
-    ++ codes "cache \"https://xn--nxa.test\" \"v\" 0\n";
+          codes "registrations 1\n"
+          ++ codes "registration \"https://xn--nxa.test\" \"https://xn--nxa.test/app/x/\" imports\n"
+          ++ codes " active activated \"https://xn--nxa.test/sw.js\" classic 5\n"
+          ++ codes "caches 1\n"
+          ++ codes "cache \"https://xn--nxa.test\" \"v\" 0\n";
     }
 unfolding digits escape_byte grammar_on_literals steps_on_literals
 row_255 = refl
@@ -456,30 +456,30 @@ row_256 :
     ++ codes "{\"lane\":0,\"do\":\"register\",\"client\":4,\"script\":\"/sw.js\",\"scope\":\"/\"}\n")
     ≡ record {
       transcript =
-    codes "- restarted -> 0 registrations 0 caches\n"
-    ++ codes "L0.0 cacheOpen -> made\n"
-    ++ codes "L0.1 open -> none\n"
-    ++ codes "L0.2 register -> j0\n"
-    ++ codes "- run j0 -> fetch 0 | mapped r0\n"
-    ++ codes "- fetched j0 -> changed | w0 parsed\n"
-    ++ codes "- evaluated j0 -> installing | w0 installing | settled j0 r0 | updatefound r0\n"
-    ++ codes "- installed j0 -> ok | w0 installed\n"
-    ++ codes "- tryactivate r0 -> w0 | w0 activating\n"
-    ++ codes "w0.activate.0 put -> TypeError vary\n"
-    ++ codes "- activated w0 -> ok | w0 activated\n"
-    ++ codes "end done\n";
+          codes "- restarted -> 0 registrations 0 caches\n"
+          ++ codes "L0.0 cacheOpen -> made\n"
+          ++ codes "L0.1 open -> none\n"
+          ++ codes "L0.2 register -> j0\n"
+          ++ codes "- run j0 -> fetch 0 | mapped r0\n"
+          ++ codes "- fetched j0 -> changed | w0 parsed\n"
+          ++ codes "- evaluated j0 -> installing | w0 installing | settled j0 r0 | updatefound r0\n"
+          ++ codes "- installed j0 -> ok | w0 installed\n"
+          ++ codes "- tryactivate r0 -> w0 | w0 activating\n"
+          ++ codes "w0.activate.0 put -> TypeError vary\n"
+          ++ codes "- activated w0 -> ok | w0 activated\n"
+          ++ codes "end done\n";
       shown =
-    codes "registrations 1\n"
-    ++ codes "registration \"https://b.test\" \"https://b.test/\" imports\n"
-    ++ codes " active activated \"https://b.test/sw.js\" classic 5\n"
-    ++ codes "caches 1\n"
-    ++ codes "cache \"https://b.test\" \"v\" 0\n";
+          codes "registrations 1\n"
+          ++ codes "registration \"https://b.test\" \"https://b.test/\" imports\n"
+          ++ codes " active activated \"https://b.test/sw.js\" classic 5\n"
+          ++ codes "caches 1\n"
+          ++ codes "cache \"https://b.test\" \"v\" 0\n";
       durable =
-    codes "registrations 1\n"
-    ++ codes "registration \"https://b.test\" \"https://b.test/\" imports\n"
-    ++ codes " active activated \"https://b.test/sw.js\" classic 5\n"
-    ++ codes "caches 1\n"
-    ++ codes "cache \"https://b.test\" \"v\" 0\n";
+          codes "registrations 1\n"
+          ++ codes "registration \"https://b.test\" \"https://b.test/\" imports\n"
+          ++ codes " active activated \"https://b.test/sw.js\" classic 5\n"
+          ++ codes "caches 1\n"
+          ++ codes "cache \"https://b.test\" \"v\" 0\n";
     }
 unfolding digits escape_byte grammar_on_literals steps_on_literals
 row_256 = refl
@@ -491,30 +491,30 @@ row_257 :
     ++ codes "{\"lane\":0,\"do\":\"register\",\"client\":4,\"script\":\"/sw.js\",\"scope\":\"/app/x/\"}\n")
     ≡ record {
       transcript =
-    codes "- restarted -> 0 registrations 0 caches\n"
-    ++ codes "L0.0 open -> none\n"
-    ++ codes "L0.1 register -> j0\n"
-    ++ codes "- run j0 -> fetch 0 | mapped r0\n"
-    ++ codes "- fetched j0 -> changed | w0 parsed\n"
-    ++ codes "- evaluated j0 -> installing | w0 installing | settled j0 r0 | updatefound r0\n"
-    ++ codes "- installed j0 -> ok | w0 installed\n"
-    ++ codes "- tryactivate r0 -> w0 | w0 activating\n"
-    ++ codes "w0.activate.0 cacheOpen -> made\n"
-    ++ codes "w0.activate.1 addAll -> TypeError unparsed\n"
-    ++ codes "- activated w0 -> ok | w0 activated\n"
-    ++ codes "end done\n";
+          codes "- restarted -> 0 registrations 0 caches\n"
+          ++ codes "L0.0 open -> none\n"
+          ++ codes "L0.1 register -> j0\n"
+          ++ codes "- run j0 -> fetch 0 | mapped r0\n"
+          ++ codes "- fetched j0 -> changed | w0 parsed\n"
+          ++ codes "- evaluated j0 -> installing | w0 installing | settled j0 r0 | updatefound r0\n"
+          ++ codes "- installed j0 -> ok | w0 installed\n"
+          ++ codes "- tryactivate r0 -> w0 | w0 activating\n"
+          ++ codes "w0.activate.0 cacheOpen -> made\n"
+          ++ codes "w0.activate.1 addAll -> TypeError unparsed\n"
+          ++ codes "- activated w0 -> ok | w0 activated\n"
+          ++ codes "end done\n";
       shown =
-    codes "registrations 1\n"
-    ++ codes "registration \"http://x.localhost\" \"http://x.localhost/app/x/\" imports\n"
-    ++ codes " active activated \"http://x.localhost/sw.js\" classic 5\n"
-    ++ codes "caches 1\n"
-    ++ codes "cache \"http://x.localhost\" \"v\" 0\n";
+          codes "registrations 1\n"
+          ++ codes "registration \"http://x.localhost\" \"http://x.localhost/app/x/\" imports\n"
+          ++ codes " active activated \"http://x.localhost/sw.js\" classic 5\n"
+          ++ codes "caches 1\n"
+          ++ codes "cache \"http://x.localhost\" \"v\" 0\n";
       durable =
-    codes "registrations 1\n"
-    ++ codes "registration \"http://x.localhost\" \"http://x.localhost/app/x/\" imports\n"
-    ++ codes " active activated \"http://x.localhost/sw.js\" classic 5\n"
-    ++ codes "caches 1\n"
-    ++ codes "cache \"http://x.localhost\" \"v\" 0\n";
+          codes "registrations 1\n"
+          ++ codes "registration \"http://x.localhost\" \"http://x.localhost/app/x/\" imports\n"
+          ++ codes " active activated \"http://x.localhost/sw.js\" classic 5\n"
+          ++ codes "caches 1\n"
+          ++ codes "cache \"http://x.localhost\" \"v\" 0\n";
     }
 unfolding digits escape_byte grammar_on_literals steps_on_literals
 row_257 = refl
@@ -526,27 +526,27 @@ row_260 :
     ++ codes "{\"lane\":0,\"do\":\"register\",\"client\":4,\"script\":\"/app/sw.js\"}\n")
     ≡ record {
       transcript =
-    codes "- restarted -> 0 registrations 0 caches\n"
-    ++ codes "L0.0 open -> none\n"
-    ++ codes "L0.1 register -> j0\n"
-    ++ codes "- run j0 -> fetch 0 | mapped r0\n"
-    ++ codes "- fetched j0 -> changed | w0 parsed\n"
-    ++ codes "- evaluated j0 -> installing | w0 installing | settled j0 r0 | updatefound r0\n"
-    ++ codes "- installed j0 -> ok | w0 installed\n"
-    ++ codes "- tryactivate r0 -> w0 | w0 activating\n"
-    ++ codes "w0.activate.0 delete -> CacheGone\n"
-    ++ codes "- activated w0 -> ok | w0 activated\n"
-    ++ codes "end done\n";
+          codes "- restarted -> 0 registrations 0 caches\n"
+          ++ codes "L0.0 open -> none\n"
+          ++ codes "L0.1 register -> j0\n"
+          ++ codes "- run j0 -> fetch 0 | mapped r0\n"
+          ++ codes "- fetched j0 -> changed | w0 parsed\n"
+          ++ codes "- evaluated j0 -> installing | w0 installing | settled j0 r0 | updatefound r0\n"
+          ++ codes "- installed j0 -> ok | w0 installed\n"
+          ++ codes "- tryactivate r0 -> w0 | w0 activating\n"
+          ++ codes "w0.activate.0 delete -> CacheGone\n"
+          ++ codes "- activated w0 -> ok | w0 activated\n"
+          ++ codes "end done\n";
       shown =
-    codes "registrations 1\n"
-    ++ codes "registration \"https://b.test\" \"https://b.test/app/\" imports\n"
-    ++ codes " active activated \"https://b.test/app/sw.js\" classic 5\n"
-    ++ codes "caches 0\n";
+          codes "registrations 1\n"
+          ++ codes "registration \"https://b.test\" \"https://b.test/app/\" imports\n"
+          ++ codes " active activated \"https://b.test/app/sw.js\" classic 5\n"
+          ++ codes "caches 0\n";
       durable =
-    codes "registrations 1\n"
-    ++ codes "registration \"https://b.test\" \"https://b.test/app/\" imports\n"
-    ++ codes " active activated \"https://b.test/app/sw.js\" classic 5\n"
-    ++ codes "caches 0\n";
+          codes "registrations 1\n"
+          ++ codes "registration \"https://b.test\" \"https://b.test/app/\" imports\n"
+          ++ codes " active activated \"https://b.test/app/sw.js\" classic 5\n"
+          ++ codes "caches 0\n";
     }
 unfolding digits escape_byte grammar_on_literals steps_on_literals
 row_260 = refl
@@ -558,30 +558,30 @@ row_277 :
     ++ codes "{\"lane\":1,\"do\":\"register\",\"client\":4,\"script\":\"/sw.js\",\"cache\":\"all\"}\n")
     ≡ record {
       transcript =
-    codes "- restarted -> 0 registrations 0 caches\n"
-    ++ codes "L1.0 open -> none\n"
-    ++ codes "L1.1 register -> j0\n"
-    ++ codes "- run j0 -> fetch 0 | mapped r0\n"
-    ++ codes "- fetched j0 -> changed | w0 parsed\n"
-    ++ codes "- evaluated j0 -> installing | w0 installing | settled j0 r0 | updatefound r0\n"
-    ++ codes "- installed j0 -> ok | w0 installed\n"
-    ++ codes "- tryactivate r0 -> w0 | w0 activating\n"
-    ++ codes "w0.activate.0 cacheOpen -> made\n"
-    ++ codes "w0.activate.1 batch -> TypeError method 1\n"
-    ++ codes "- activated w0 -> ok | w0 activated\n"
-    ++ codes "end done\n";
+          codes "- restarted -> 0 registrations 0 caches\n"
+          ++ codes "L1.0 open -> none\n"
+          ++ codes "L1.1 register -> j0\n"
+          ++ codes "- run j0 -> fetch 0 | mapped r0\n"
+          ++ codes "- fetched j0 -> changed | w0 parsed\n"
+          ++ codes "- evaluated j0 -> installing | w0 installing | settled j0 r0 | updatefound r0\n"
+          ++ codes "- installed j0 -> ok | w0 installed\n"
+          ++ codes "- tryactivate r0 -> w0 | w0 activating\n"
+          ++ codes "w0.activate.0 cacheOpen -> made\n"
+          ++ codes "w0.activate.1 batch -> TypeError method 1\n"
+          ++ codes "- activated w0 -> ok | w0 activated\n"
+          ++ codes "end done\n";
       shown =
-    codes "registrations 1\n"
-    ++ codes "registration \"http://127.0.0.1\" \"http://127.0.0.1/\" all\n"
-    ++ codes " active activated \"http://127.0.0.1/sw.js\" classic 5\n"
-    ++ codes "caches 1\n"
-    ++ codes "cache \"http://127.0.0.1\" \"v\" 0\n";
+          codes "registrations 1\n"
+          ++ codes "registration \"http://127.0.0.1\" \"http://127.0.0.1/\" all\n"
+          ++ codes " active activated \"http://127.0.0.1/sw.js\" classic 5\n"
+          ++ codes "caches 1\n"
+          ++ codes "cache \"http://127.0.0.1\" \"v\" 0\n";
       durable =
-    codes "registrations 1\n"
-    ++ codes "registration \"http://127.0.0.1\" \"http://127.0.0.1/\" all\n"
-    ++ codes " active activated \"http://127.0.0.1/sw.js\" classic 5\n"
-    ++ codes "caches 1\n"
-    ++ codes "cache \"http://127.0.0.1\" \"v\" 0\n";
+          codes "registrations 1\n"
+          ++ codes "registration \"http://127.0.0.1\" \"http://127.0.0.1/\" all\n"
+          ++ codes " active activated \"http://127.0.0.1/sw.js\" classic 5\n"
+          ++ codes "caches 1\n"
+          ++ codes "cache \"http://127.0.0.1\" \"v\" 0\n";
     }
 unfolding digits escape_byte grammar_on_literals steps_on_literals
 row_277 = refl
@@ -593,31 +593,31 @@ row_286 :
     ++ codes "{\"lane\":1,\"do\":\"register\",\"client\":8,\"script\":\"/sw.js\",\"scope\":\"./\",\"cache\":\"imports\"}\n")
     ≡ record {
       transcript =
-    codes "- restarted -> 0 registrations 0 caches\n"
-    ++ codes "L1.0 open -> none\n"
-    ++ codes "L1.1 register -> j0\n"
-    ++ codes "- run j0 -> fetch 0 | mapped r0\n"
-    ++ codes "- fetched j0 -> changed | w0 parsed\n"
-    ++ codes "- evaluated j0 -> installing | w0 installing | settled j0 r0 | updatefound r0\n"
-    ++ codes "- installed j0 -> ok | w0 installed\n"
-    ++ codes "- tryactivate r0 -> w0 | w0 activating\n"
-    ++ codes "w0.activate.0 cacheOpen -> made\n"
-    ++ codes "w0.activate.1 put -> TypeError unparsed\n"
-    ++ codes "w0.activate.2 cacheOpen -> found\n"
-    ++ codes "- activated w0 -> ok | w0 activated\n"
-    ++ codes "end done\n";
+          codes "- restarted -> 0 registrations 0 caches\n"
+          ++ codes "L1.0 open -> none\n"
+          ++ codes "L1.1 register -> j0\n"
+          ++ codes "- run j0 -> fetch 0 | mapped r0\n"
+          ++ codes "- fetched j0 -> changed | w0 parsed\n"
+          ++ codes "- evaluated j0 -> installing | w0 installing | settled j0 r0 | updatefound r0\n"
+          ++ codes "- installed j0 -> ok | w0 installed\n"
+          ++ codes "- tryactivate r0 -> w0 | w0 activating\n"
+          ++ codes "w0.activate.0 cacheOpen -> made\n"
+          ++ codes "w0.activate.1 put -> TypeError unparsed\n"
+          ++ codes "w0.activate.2 cacheOpen -> found\n"
+          ++ codes "- activated w0 -> ok | w0 activated\n"
+          ++ codes "end done\n";
       shown =
-    codes "registrations 1\n"
-    ++ codes "registration \"http://127.0.0.1\" \"http://127.0.0.1/\" imports\n"
-    ++ codes " active activated \"http://127.0.0.1/sw.js\" classic 5\n"
-    ++ codes "caches 1\n"
-    ++ codes "cache \"http://127.0.0.1\" \"v\" 0\n";
+          codes "registrations 1\n"
+          ++ codes "registration \"http://127.0.0.1\" \"http://127.0.0.1/\" imports\n"
+          ++ codes " active activated \"http://127.0.0.1/sw.js\" classic 5\n"
+          ++ codes "caches 1\n"
+          ++ codes "cache \"http://127.0.0.1\" \"v\" 0\n";
       durable =
-    codes "registrations 1\n"
-    ++ codes "registration \"http://127.0.0.1\" \"http://127.0.0.1/\" imports\n"
-    ++ codes " active activated \"http://127.0.0.1/sw.js\" classic 5\n"
-    ++ codes "caches 1\n"
-    ++ codes "cache \"http://127.0.0.1\" \"v\" 0\n";
+          codes "registrations 1\n"
+          ++ codes "registration \"http://127.0.0.1\" \"http://127.0.0.1/\" imports\n"
+          ++ codes " active activated \"http://127.0.0.1/sw.js\" classic 5\n"
+          ++ codes "caches 1\n"
+          ++ codes "cache \"http://127.0.0.1\" \"v\" 0\n";
     }
 unfolding digits escape_byte grammar_on_literals steps_on_literals
 row_286 = refl
@@ -634,32 +634,32 @@ row_298 :
     ++ codes "{\"lane\":0,\"do\":\"register\",\"client\":8,\"script\":\"/sw.js\",\"scope\":\"/\"}\n")
     ≡ record {
       transcript =
-    codes "- restarted -> 0 registrations 0 caches\n"
-    ++ codes "L0.0 open -> none\n"
-    ++ codes "L0.1 register -> j0\n"
-    ++ codes "- run j0 -> fetch 0 | mapped r0\n"
-    ++ codes "- fetched j0 -> changed | w0 parsed\n"
-    ++ codes "- evaluated j0 -> installing | w0 installing | settled j0 r0 | updatefound r0\n"
-    ++ codes "L0.2 await -> r0\n"
-    ++ codes "L0.3 open -> none\n"
-    ++ codes "L0.4 register -> j1\n"
-    ++ codes "L0.5 register -> j2 joined j1\n"
-    ++ codes "L0.6 register -> j3 joined j1\n"
-    ++ codes "- installed j0 -> ok | w0 installed\n"
-    ++ codes "- run j1 -> finished | settled j1 r0 | settled j2 r0 | settled j3 r0\n"
-    ++ codes "- tryactivate r0 -> w0 | w0 activating\n"
-    ++ codes "- activated w0 -> ok | w0 activated\n"
-    ++ codes "end done\n";
+          codes "- restarted -> 0 registrations 0 caches\n"
+          ++ codes "L0.0 open -> none\n"
+          ++ codes "L0.1 register -> j0\n"
+          ++ codes "- run j0 -> fetch 0 | mapped r0\n"
+          ++ codes "- fetched j0 -> changed | w0 parsed\n"
+          ++ codes "- evaluated j0 -> installing | w0 installing | settled j0 r0 | updatefound r0\n"
+          ++ codes "L0.2 await -> r0\n"
+          ++ codes "L0.3 open -> none\n"
+          ++ codes "L0.4 register -> j1\n"
+          ++ codes "L0.5 register -> j2 joined j1\n"
+          ++ codes "L0.6 register -> j3 joined j1\n"
+          ++ codes "- installed j0 -> ok | w0 installed\n"
+          ++ codes "- run j1 -> finished | settled j1 r0 | settled j2 r0 | settled j3 r0\n"
+          ++ codes "- tryactivate r0 -> w0 | w0 activating\n"
+          ++ codes "- activated w0 -> ok | w0 activated\n"
+          ++ codes "end done\n";
       shown =
-    codes "registrations 1\n"
-    ++ codes "registration \"https://xn--nxa.test\" \"https://xn--nxa.test/\" imports\n"
-    ++ codes " active activated \"https://xn--nxa.test/sw.js\" classic 5\n"
-    ++ codes "caches 0\n";
+          codes "registrations 1\n"
+          ++ codes "registration \"https://xn--nxa.test\" \"https://xn--nxa.test/\" imports\n"
+          ++ codes " active activated \"https://xn--nxa.test/sw.js\" classic 5\n"
+          ++ codes "caches 0\n";
       durable =
-    codes "registrations 1\n"
-    ++ codes "registration \"https://xn--nxa.test\" \"https://xn--nxa.test/\" imports\n"
-    ++ codes " active activated \"https://xn--nxa.test/sw.js\" classic 5\n"
-    ++ codes "caches 0\n";
+          codes "registrations 1\n"
+          ++ codes "registration \"https://xn--nxa.test\" \"https://xn--nxa.test/\" imports\n"
+          ++ codes " active activated \"https://xn--nxa.test/sw.js\" classic 5\n"
+          ++ codes "caches 0\n";
     }
 unfolding digits escape_byte grammar_on_literals steps_on_literals
 row_298 = refl
@@ -675,30 +675,30 @@ row_309 :
     ++ codes "{\"lane\":0,\"do\":\"register\",\"client\":3,\"script\":\"/sw.js\",\"scope\":\"/\"}\n")
     ≡ record {
       transcript =
-    codes "- restarted -> 0 registrations 0 caches\n"
-    ++ codes "L0.0 open -> none\n"
-    ++ codes "L0.1 register -> j0\n"
-    ++ codes "L0.2 open -> none\n"
-    ++ codes "L0.3 register -> j1 joined j0\n"
-    ++ codes "L0.4 register -> j2 joined j0\n"
-    ++ codes "L0.5 register -> j3 joined j0\n"
-    ++ codes "- run j0 -> fetch 0 | mapped r0\n"
-    ++ codes "- fetched j0 -> changed | w0 parsed\n"
-    ++ codes "- evaluated j0 -> installing | w0 installing | settled j0 r0 | settled j1 r0 | settled j2 r0 | settled j3 r0 | updatefound r0\n"
-    ++ codes "- installed j0 -> ok | w0 installed\n"
-    ++ codes "- tryactivate r0 -> w0 | w0 activating\n"
-    ++ codes "- activated w0 -> ok | w0 activated\n"
-    ++ codes "end done\n";
+          codes "- restarted -> 0 registrations 0 caches\n"
+          ++ codes "L0.0 open -> none\n"
+          ++ codes "L0.1 register -> j0\n"
+          ++ codes "L0.2 open -> none\n"
+          ++ codes "L0.3 register -> j1 joined j0\n"
+          ++ codes "L0.4 register -> j2 joined j0\n"
+          ++ codes "L0.5 register -> j3 joined j0\n"
+          ++ codes "- run j0 -> fetch 0 | mapped r0\n"
+          ++ codes "- fetched j0 -> changed | w0 parsed\n"
+          ++ codes "- evaluated j0 -> installing | w0 installing | settled j0 r0 | settled j1 r0 | settled j2 r0 | settled j3 r0 | updatefound r0\n"
+          ++ codes "- installed j0 -> ok | w0 installed\n"
+          ++ codes "- tryactivate r0 -> w0 | w0 activating\n"
+          ++ codes "- activated w0 -> ok | w0 activated\n"
+          ++ codes "end done\n";
       shown =
-    codes "registrations 1\n"
-    ++ codes "registration \"http://localhost:8080\" \"http://localhost:8080/\" imports\n"
-    ++ codes " active activated \"http://localhost:8080/sw.js\" classic 5\n"
-    ++ codes "caches 0\n";
+          codes "registrations 1\n"
+          ++ codes "registration \"http://localhost:8080\" \"http://localhost:8080/\" imports\n"
+          ++ codes " active activated \"http://localhost:8080/sw.js\" classic 5\n"
+          ++ codes "caches 0\n";
       durable =
-    codes "registrations 1\n"
-    ++ codes "registration \"http://localhost:8080\" \"http://localhost:8080/\" imports\n"
-    ++ codes " active activated \"http://localhost:8080/sw.js\" classic 5\n"
-    ++ codes "caches 0\n";
+          codes "registrations 1\n"
+          ++ codes "registration \"http://localhost:8080\" \"http://localhost:8080/\" imports\n"
+          ++ codes " active activated \"http://localhost:8080/sw.js\" classic 5\n"
+          ++ codes "caches 0\n";
     }
 unfolding digits escape_byte grammar_on_literals steps_on_literals
 row_309 = refl

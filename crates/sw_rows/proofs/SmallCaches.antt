@@ -11,17 +11,17 @@ row_006 :
     (codes "{\"lane\":1,\"do\":\"cacheOpen\",\"at\":\"https://a.test/d/\",\"name\":\"v1\"}\n")
     ≡ record {
       transcript =
-    codes "- restarted -> 0 registrations 0 caches\n"
-    ++ codes "L1.0 cacheOpen -> made\n"
-    ++ codes "end done\n";
+          codes "- restarted -> 0 registrations 0 caches\n"
+          ++ codes "L1.0 cacheOpen -> made\n"
+          ++ codes "end done\n";
       shown =
-    codes "registrations 0\n"
-    ++ codes "caches 1\n"
-    ++ codes "cache \"https://a.test\" \"v1\" 0\n";
+          codes "registrations 0\n"
+          ++ codes "caches 1\n"
+          ++ codes "cache \"https://a.test\" \"v1\" 0\n";
       durable =
-    codes "registrations 0\n"
-    ++ codes "caches 1\n"
-    ++ codes "cache \"https://a.test\" \"v1\" 0\n";
+          codes "registrations 0\n"
+          ++ codes "caches 1\n"
+          ++ codes "cache \"https://a.test\" \"v1\" 0\n";
     }
 unfolding digits escape_byte grammar_on_literals steps_on_literals
 row_006 = refl
@@ -32,19 +32,19 @@ row_007 :
     ++ codes "{\"lane\":0,\"do\":\"addAll\",\"at\":\"https://a.test/\",\"name\":\"w\",\"requests\":[\"/z\"]}\n")
     ≡ record {
       transcript =
-    codes "- restarted -> 0 registrations 0 caches\n"
-    ++ codes "L0.0 cacheOpen -> made\n"
-    ++ codes "L0.1 addAll -> a0\n"
-    ++ codes "- added a0 -> TypeError network 0\n"
-    ++ codes "end done\n";
+          codes "- restarted -> 0 registrations 0 caches\n"
+          ++ codes "L0.0 cacheOpen -> made\n"
+          ++ codes "L0.1 addAll -> a0\n"
+          ++ codes "- added a0 -> TypeError network 0\n"
+          ++ codes "end done\n";
       shown =
-    codes "registrations 0\n"
-    ++ codes "caches 1\n"
-    ++ codes "cache \"https://a.test\" \"w\" 0\n";
+          codes "registrations 0\n"
+          ++ codes "caches 1\n"
+          ++ codes "cache \"https://a.test\" \"w\" 0\n";
       durable =
-    codes "registrations 0\n"
-    ++ codes "caches 1\n"
-    ++ codes "cache \"https://a.test\" \"w\" 0\n";
+          codes "registrations 0\n"
+          ++ codes "caches 1\n"
+          ++ codes "cache \"https://a.test\" \"w\" 0\n";
     }
 unfolding digits escape_byte grammar_on_literals steps_on_literals
 row_007 = refl
@@ -55,16 +55,16 @@ row_008 :
     ++ codes "{\"lane\":0,\"do\":\"cacheDelete\",\"at\":\"https://a.test/\",\"name\":\"w\"}\n")
     ≡ record {
       transcript =
-    codes "- restarted -> 0 registrations 0 caches\n"
-    ++ codes "L0.0 cacheOpen -> made\n"
-    ++ codes "L0.1 cacheDelete -> true\n"
-    ++ codes "end done\n";
+          codes "- restarted -> 0 registrations 0 caches\n"
+          ++ codes "L0.0 cacheOpen -> made\n"
+          ++ codes "L0.1 cacheDelete -> true\n"
+          ++ codes "end done\n";
       shown =
-    codes "registrations 0\n"
-    ++ codes "caches 0\n";
+          codes "registrations 0\n"
+          ++ codes "caches 0\n";
       durable =
-    codes "registrations 0\n"
-    ++ codes "caches 0\n";
+          codes "registrations 0\n"
+          ++ codes "caches 0\n";
     }
 unfolding digits escape_byte grammar_on_literals steps_on_literals
 row_008 = refl
@@ -74,15 +74,15 @@ row_009 :
     (codes "{\"lane\":1,\"do\":\"cacheKeys\",\"at\":\"http://c.test/\"}\n")
     ≡ record {
       transcript =
-    codes "- restarted -> 0 registrations 0 caches\n"
-    ++ codes "L1.0 cacheKeys -> SecurityError untrusted\n"
-    ++ codes "end done\n";
+          codes "- restarted -> 0 registrations 0 caches\n"
+          ++ codes "L1.0 cacheKeys -> SecurityError untrusted\n"
+          ++ codes "end done\n";
       shown =
-    codes "registrations 0\n"
-    ++ codes "caches 0\n";
+          codes "registrations 0\n"
+          ++ codes "caches 0\n";
       durable =
-    codes "registrations 0\n"
-    ++ codes "caches 0\n";
+          codes "registrations 0\n"
+          ++ codes "caches 0\n";
     }
 unfolding digits escape_byte grammar_on_literals steps_on_literals
 row_009 = refl
@@ -95,18 +95,18 @@ row_019 :
     ++ codes "{\"lane\":0,\"do\":\"cacheDelete\",\"at\":\"https://a.test/\",\"name\":\"w\"}\n")
     ≡ record {
       transcript =
-    codes "- restarted -> 0 registrations 0 caches\n"
-    ++ codes "L0.0 cacheOpen -> made\n"
-    ++ codes "L0.1 addAll -> a0\n"
-    ++ codes "L0.2 cacheDelete -> true\n"
-    ++ codes "- added a0 -> CacheGone\n"
-    ++ codes "end done\n";
+          codes "- restarted -> 0 registrations 0 caches\n"
+          ++ codes "L0.0 cacheOpen -> made\n"
+          ++ codes "L0.1 addAll -> a0\n"
+          ++ codes "L0.2 cacheDelete -> true\n"
+          ++ codes "- added a0 -> CacheGone\n"
+          ++ codes "end done\n";
       shown =
-    codes "registrations 0\n"
-    ++ codes "caches 0\n";
+          codes "registrations 0\n"
+          ++ codes "caches 0\n";
       durable =
-    codes "registrations 0\n"
-    ++ codes "caches 0\n";
+          codes "registrations 0\n"
+          ++ codes "caches 0\n";
     }
 unfolding digits escape_byte grammar_on_literals steps_on_literals
 row_019 = refl
@@ -117,18 +117,18 @@ row_041 :
     ++ codes "{\"lane\":0,\"do\":\"cacheKeys\",\"at\":\"https://a.test/\"}\n")
     ≡ record {
       transcript =
-    codes "- restarted -> 0 registrations 0 caches\n"
-    ++ codes "L0.0 cacheOpen -> made\n"
-    ++ codes "L0.1 cacheKeys -> 1 \"v1\"\n"
-    ++ codes "end done\n";
+          codes "- restarted -> 0 registrations 0 caches\n"
+          ++ codes "L0.0 cacheOpen -> made\n"
+          ++ codes "L0.1 cacheKeys -> 1 \"v1\"\n"
+          ++ codes "end done\n";
       shown =
-    codes "registrations 0\n"
-    ++ codes "caches 1\n"
-    ++ codes "cache \"https://a.test\" \"v1\" 0\n";
+          codes "registrations 0\n"
+          ++ codes "caches 1\n"
+          ++ codes "cache \"https://a.test\" \"v1\" 0\n";
       durable =
-    codes "registrations 0\n"
-    ++ codes "caches 1\n"
-    ++ codes "cache \"https://a.test\" \"v1\" 0\n";
+          codes "registrations 0\n"
+          ++ codes "caches 1\n"
+          ++ codes "cache \"https://a.test\" \"v1\" 0\n";
     }
 unfolding digits escape_byte grammar_on_literals steps_on_literals
 row_041 = refl
@@ -138,15 +138,15 @@ row_056 :
     (codes "{\"lane\":1,\"do\":\"cacheKeys\",\"at\":\"http://x.localhost/\"}\n")
     ≡ record {
       transcript =
-    codes "- restarted -> 0 registrations 0 caches\n"
-    ++ codes "L1.0 cacheKeys -> 0\n"
-    ++ codes "end done\n";
+          codes "- restarted -> 0 registrations 0 caches\n"
+          ++ codes "L1.0 cacheKeys -> 0\n"
+          ++ codes "end done\n";
       shown =
-    codes "registrations 0\n"
-    ++ codes "caches 0\n";
+          codes "registrations 0\n"
+          ++ codes "caches 0\n";
       durable =
-    codes "registrations 0\n"
-    ++ codes "caches 0\n";
+          codes "registrations 0\n"
+          ++ codes "caches 0\n";
     }
 unfolding digits escape_byte grammar_on_literals steps_on_literals
 row_056 = refl
@@ -156,15 +156,15 @@ row_072 :
     (codes "{\"lane\":0,\"do\":\"addAll\",\"at\":\"http://c.test/\",\"name\":\"v1\",\"requests\":[\"/x?q=1\",\"./y\"]}\n")
     ≡ record {
       transcript =
-    codes "- restarted -> 0 registrations 0 caches\n"
-    ++ codes "L0.0 addAll -> SecurityError untrusted\n"
-    ++ codes "end done\n";
+          codes "- restarted -> 0 registrations 0 caches\n"
+          ++ codes "L0.0 addAll -> SecurityError untrusted\n"
+          ++ codes "end done\n";
       shown =
-    codes "registrations 0\n"
-    ++ codes "caches 0\n";
+          codes "registrations 0\n"
+          ++ codes "caches 0\n";
       durable =
-    codes "registrations 0\n"
-    ++ codes "caches 0\n";
+          codes "registrations 0\n"
+          ++ codes "caches 0\n";
     }
 unfolding digits escape_byte grammar_on_literals steps_on_literals
 row_072 = refl
@@ -174,15 +174,15 @@ row_075 :
     (codes "{\"lane\":0,\"do\":\"cacheKeys\",\"at\":\"http://[\"}\n")
     ≡ record {
       transcript =
-    codes "- restarted -> 0 registrations 0 caches\n"
-    ++ codes "L0.0 cacheKeys -> TypeError unparsed\n"
-    ++ codes "end done\n";
+          codes "- restarted -> 0 registrations 0 caches\n"
+          ++ codes "L0.0 cacheKeys -> TypeError unparsed\n"
+          ++ codes "end done\n";
       shown =
-    codes "registrations 0\n"
-    ++ codes "caches 0\n";
+          codes "registrations 0\n"
+          ++ codes "caches 0\n";
       durable =
-    codes "registrations 0\n"
-    ++ codes "caches 0\n";
+          codes "registrations 0\n"
+          ++ codes "caches 0\n";
     }
 unfolding digits escape_byte grammar_on_literals steps_on_literals
 row_075 = refl
@@ -192,15 +192,15 @@ row_076 :
     (codes "{\"lane\":0,\"do\":\"cacheDelete\",\"at\":\"https://b.test/app/x\",\"name\":\"v\"}\n")
     ≡ record {
       transcript =
-    codes "- restarted -> 0 registrations 0 caches\n"
-    ++ codes "L0.0 cacheDelete -> false\n"
-    ++ codes "end done\n";
+          codes "- restarted -> 0 registrations 0 caches\n"
+          ++ codes "L0.0 cacheDelete -> false\n"
+          ++ codes "end done\n";
       shown =
-    codes "registrations 0\n"
-    ++ codes "caches 0\n";
+          codes "registrations 0\n"
+          ++ codes "caches 0\n";
       durable =
-    codes "registrations 0\n"
-    ++ codes "caches 0\n";
+          codes "registrations 0\n"
+          ++ codes "caches 0\n";
     }
 unfolding digits escape_byte grammar_on_literals steps_on_literals
 row_076 = refl
@@ -211,18 +211,18 @@ row_090 :
     ++ codes "{\"lane\":0,\"do\":\"addAll\",\"at\":\"https://xn--nxa.test/d/\",\"name\":\"w\",\"requests\":[{\"url\":\"/w%20w\",\"method\":\"delete\",\"headers\":[]}]}\n")
     ≡ record {
       transcript =
-    codes "- restarted -> 0 registrations 0 caches\n"
-    ++ codes "L0.0 cacheOpen -> made\n"
-    ++ codes "L0.1 addAll -> TypeError method\n"
-    ++ codes "end done\n";
+          codes "- restarted -> 0 registrations 0 caches\n"
+          ++ codes "L0.0 cacheOpen -> made\n"
+          ++ codes "L0.1 addAll -> TypeError method\n"
+          ++ codes "end done\n";
       shown =
-    codes "registrations 0\n"
-    ++ codes "caches 1\n"
-    ++ codes "cache \"https://xn--nxa.test\" \"w\" 0\n";
+          codes "registrations 0\n"
+          ++ codes "caches 1\n"
+          ++ codes "cache \"https://xn--nxa.test\" \"w\" 0\n";
       durable =
-    codes "registrations 0\n"
-    ++ codes "caches 1\n"
-    ++ codes "cache \"https://xn--nxa.test\" \"w\" 0\n";
+          codes "registrations 0\n"
+          ++ codes "caches 1\n"
+          ++ codes "cache \"https://xn--nxa.test\" \"w\" 0\n";
     }
 unfolding digits escape_byte grammar_on_literals steps_on_literals
 row_090 = refl
@@ -232,15 +232,15 @@ row_101 :
     (codes "{\"lane\":0,\"do\":\"cacheOpen\",\"at\":\"http://10.0.0.1:81/\",\"name\":\"w\"}\n")
     ≡ record {
       transcript =
-    codes "- restarted -> 0 registrations 0 caches\n"
-    ++ codes "L0.0 cacheOpen -> SecurityError untrusted\n"
-    ++ codes "end done\n";
+          codes "- restarted -> 0 registrations 0 caches\n"
+          ++ codes "L0.0 cacheOpen -> SecurityError untrusted\n"
+          ++ codes "end done\n";
       shown =
-    codes "registrations 0\n"
-    ++ codes "caches 0\n";
+          codes "registrations 0\n"
+          ++ codes "caches 0\n";
       durable =
-    codes "registrations 0\n"
-    ++ codes "caches 0\n";
+          codes "registrations 0\n"
+          ++ codes "caches 0\n";
     }
 unfolding digits escape_byte grammar_on_literals steps_on_literals
 row_101 = refl
@@ -250,15 +250,15 @@ row_102 :
     (codes "{\"lane\":0,\"do\":\"cacheDelete\",\"at\":\"http://10.0.0.1:81/\",\"name\":\"w\"}\n")
     ≡ record {
       transcript =
-    codes "- restarted -> 0 registrations 0 caches\n"
-    ++ codes "L0.0 cacheDelete -> SecurityError untrusted\n"
-    ++ codes "end done\n";
+          codes "- restarted -> 0 registrations 0 caches\n"
+          ++ codes "L0.0 cacheDelete -> SecurityError untrusted\n"
+          ++ codes "end done\n";
       shown =
-    codes "registrations 0\n"
-    ++ codes "caches 0\n";
+          codes "registrations 0\n"
+          ++ codes "caches 0\n";
       durable =
-    codes "registrations 0\n"
-    ++ codes "caches 0\n";
+          codes "registrations 0\n"
+          ++ codes "caches 0\n";
     }
 unfolding digits escape_byte grammar_on_literals steps_on_literals
 row_102 = refl
@@ -269,19 +269,19 @@ row_107 :
     ++ codes "{\"lane\":1,\"do\":\"addAll\",\"at\":\"https://a.test:8443/d/\",\"name\":\"v1\",\"requests\":[]}\n")
     ≡ record {
       transcript =
-    codes "- restarted -> 0 registrations 0 caches\n"
-    ++ codes "L1.0 cacheOpen -> made\n"
-    ++ codes "L1.1 addAll -> a0\n"
-    ++ codes "- added a0 -> ok\n"
-    ++ codes "end done\n";
+          codes "- restarted -> 0 registrations 0 caches\n"
+          ++ codes "L1.0 cacheOpen -> made\n"
+          ++ codes "L1.1 addAll -> a0\n"
+          ++ codes "- added a0 -> ok\n"
+          ++ codes "end done\n";
       shown =
-    codes "registrations 0\n"
-    ++ codes "caches 1\n"
-    ++ codes "cache \"https://a.test:8443\" \"v1\" 0\n";
+          codes "registrations 0\n"
+          ++ codes "caches 1\n"
+          ++ codes "cache \"https://a.test:8443\" \"v1\" 0\n";
       durable =
-    codes "registrations 0\n"
-    ++ codes "caches 1\n"
-    ++ codes "cache \"https://a.test:8443\" \"v1\" 0\n";
+          codes "registrations 0\n"
+          ++ codes "caches 1\n"
+          ++ codes "cache \"https://a.test:8443\" \"v1\" 0\n";
     }
 unfolding digits escape_byte grammar_on_literals steps_on_literals
 row_107 = refl
@@ -295,22 +295,22 @@ row_109 :
     ++ codes "{\"lane\":1,\"do\":\"forget\",\"at\":\"http://localhost:8080/\"}\n")
     ≡ record {
       transcript =
-    codes "- restarted -> 0 registrations 0 caches\n"
-    ++ codes "L1.0 cacheOpen -> made\n"
-    ++ codes "L1.1 addAll -> a0\n"
-    ++ codes "L2.0 open -> none\n"
-    ++ codes "- added a0 -> ok\n"
-    ++ codes "L1.2 await -> ok\n"
-    ++ codes "L1.3 forget -> Busy\n"
-    ++ codes "end done\n";
+          codes "- restarted -> 0 registrations 0 caches\n"
+          ++ codes "L1.0 cacheOpen -> made\n"
+          ++ codes "L1.1 addAll -> a0\n"
+          ++ codes "L2.0 open -> none\n"
+          ++ codes "- added a0 -> ok\n"
+          ++ codes "L1.2 await -> ok\n"
+          ++ codes "L1.3 forget -> Busy\n"
+          ++ codes "end done\n";
       shown =
-    codes "registrations 0\n"
-    ++ codes "caches 1\n"
-    ++ codes "cache \"https://a.test:8443\" \"v1\" 0\n";
+          codes "registrations 0\n"
+          ++ codes "caches 1\n"
+          ++ codes "cache \"https://a.test:8443\" \"v1\" 0\n";
       durable =
-    codes "registrations 0\n"
-    ++ codes "caches 1\n"
-    ++ codes "cache \"https://a.test:8443\" \"v1\" 0\n";
+          codes "registrations 0\n"
+          ++ codes "caches 1\n"
+          ++ codes "cache \"https://a.test:8443\" \"v1\" 0\n";
     }
 unfolding digits escape_byte grammar_on_literals steps_on_literals
 row_109 = refl
@@ -320,15 +320,15 @@ row_118 :
     (codes "{\"lane\":0,\"do\":\"cacheHas\",\"at\":\"http://127.0.0.1/other\",\"name\":\"v\"}\n")
     ≡ record {
       transcript =
-    codes "- restarted -> 0 registrations 0 caches\n"
-    ++ codes "L0.0 cacheHas -> false\n"
-    ++ codes "end done\n";
+          codes "- restarted -> 0 registrations 0 caches\n"
+          ++ codes "L0.0 cacheHas -> false\n"
+          ++ codes "end done\n";
       shown =
-    codes "registrations 0\n"
-    ++ codes "caches 0\n";
+          codes "registrations 0\n"
+          ++ codes "caches 0\n";
       durable =
-    codes "registrations 0\n"
-    ++ codes "caches 0\n";
+          codes "registrations 0\n"
+          ++ codes "caches 0\n";
     }
 unfolding digits escape_byte grammar_on_literals steps_on_literals
 row_118 = refl
@@ -338,15 +338,15 @@ row_119 :
     (codes "{\"lane\":1,\"do\":\"forget\",\"at\":\"http://127.0.0.1/\"}\n")
     ≡ record {
       transcript =
-    codes "- restarted -> 0 registrations 0 caches\n"
-    ++ codes "L1.0 forget -> ok\n"
-    ++ codes "end done\n";
+          codes "- restarted -> 0 registrations 0 caches\n"
+          ++ codes "L1.0 forget -> ok\n"
+          ++ codes "end done\n";
       shown =
-    codes "registrations 0\n"
-    ++ codes "caches 0\n";
+          codes "registrations 0\n"
+          ++ codes "caches 0\n";
       durable =
-    codes "registrations 0\n"
-    ++ codes "caches 0\n";
+          codes "registrations 0\n"
+          ++ codes "caches 0\n";
     }
 unfolding digits escape_byte grammar_on_literals steps_on_literals
 row_119 = refl
@@ -358,19 +358,19 @@ row_123 :
     ++ codes "{\"lane\":0,\"do\":\"addAll\",\"at\":\"http://x.localhost/\",\"name\":\"v\",\"requests\":[{\"url\":\"/twice\",\"headers\":[[\"Accept\",\"b\"]]},{\"url\":\"/twice\",\"headers\":[[\"Accept\",\"b\"]]}]}\n")
     ≡ record {
       transcript =
-    codes "- restarted -> 0 registrations 0 caches\n"
-    ++ codes "L0.0 cacheOpen -> made\n"
-    ++ codes "L0.1 addAll -> a0\n"
-    ++ codes "- added a0 -> TypeError partial 0\n"
-    ++ codes "end done\n";
+          codes "- restarted -> 0 registrations 0 caches\n"
+          ++ codes "L0.0 cacheOpen -> made\n"
+          ++ codes "L0.1 addAll -> a0\n"
+          ++ codes "- added a0 -> TypeError partial 0\n"
+          ++ codes "end done\n";
       shown =
-    codes "registrations 0\n"
-    ++ codes "caches 1\n"
-    ++ codes "cache \"http://x.localhost\" \"v\" 0\n";
+          codes "registrations 0\n"
+          ++ codes "caches 1\n"
+          ++ codes "cache \"http://x.localhost\" \"v\" 0\n";
       durable =
-    codes "registrations 0\n"
-    ++ codes "caches 1\n"
-    ++ codes "cache \"http://x.localhost\" \"v\" 0\n";
+          codes "registrations 0\n"
+          ++ codes "caches 1\n"
+          ++ codes "cache \"http://x.localhost\" \"v\" 0\n";
     }
 unfolding digits escape_byte grammar_on_literals steps_on_literals
 row_123 = refl
@@ -380,15 +380,15 @@ row_132 :
     (codes "{\"lane\":0,\"do\":\"addAll\",\"at\":\"http://[\",\"name\":\"w\",\"requests\":[\"/x#f\",\"./y\"]}\n")
     ≡ record {
       transcript =
-    codes "- restarted -> 0 registrations 0 caches\n"
-    ++ codes "L0.0 addAll -> TypeError unparsed\n"
-    ++ codes "end done\n";
+          codes "- restarted -> 0 registrations 0 caches\n"
+          ++ codes "L0.0 addAll -> TypeError unparsed\n"
+          ++ codes "end done\n";
       shown =
-    codes "registrations 0\n"
-    ++ codes "caches 0\n";
+          codes "registrations 0\n"
+          ++ codes "caches 0\n";
       durable =
-    codes "registrations 0\n"
-    ++ codes "caches 0\n";
+          codes "registrations 0\n"
+          ++ codes "caches 0\n";
     }
 unfolding digits escape_byte grammar_on_literals steps_on_literals
 row_132 = refl
@@ -400,19 +400,19 @@ row_138 :
     ++ codes "{\"lane\":0,\"do\":\"addAll\",\"at\":\"http://127.9.0.1:99/d/\",\"name\":\"v1\",\"requests\":[\"/app.css\",\"/x?q=1\"]}\n")
     ≡ record {
       transcript =
-    codes "- restarted -> 0 registrations 0 caches\n"
-    ++ codes "L0.0 cacheOpen -> made\n"
-    ++ codes "L0.1 addAll -> a0\n"
-    ++ codes "- added a0 -> TypeError status 0\n"
-    ++ codes "end done\n";
+          codes "- restarted -> 0 registrations 0 caches\n"
+          ++ codes "L0.0 cacheOpen -> made\n"
+          ++ codes "L0.1 addAll -> a0\n"
+          ++ codes "- added a0 -> TypeError status 0\n"
+          ++ codes "end done\n";
       shown =
-    codes "registrations 0\n"
-    ++ codes "caches 1\n"
-    ++ codes "cache \"http://127.9.0.1:99\" \"v1\" 0\n";
+          codes "registrations 0\n"
+          ++ codes "caches 1\n"
+          ++ codes "cache \"http://127.9.0.1:99\" \"v1\" 0\n";
       durable =
-    codes "registrations 0\n"
-    ++ codes "caches 1\n"
-    ++ codes "cache \"http://127.9.0.1:99\" \"v1\" 0\n";
+          codes "registrations 0\n"
+          ++ codes "caches 1\n"
+          ++ codes "cache \"http://127.9.0.1:99\" \"v1\" 0\n";
     }
 unfolding digits escape_byte grammar_on_literals steps_on_literals
 row_138 = refl
@@ -422,15 +422,15 @@ row_147 :
     (codes "{\"lane\":1,\"do\":\"cacheOpen\",\"at\":\"http://[\",\"name\":\"v1\"}\n")
     ≡ record {
       transcript =
-    codes "- restarted -> 0 registrations 0 caches\n"
-    ++ codes "L1.0 cacheOpen -> TypeError unparsed\n"
-    ++ codes "end done\n";
+          codes "- restarted -> 0 registrations 0 caches\n"
+          ++ codes "L1.0 cacheOpen -> TypeError unparsed\n"
+          ++ codes "end done\n";
       shown =
-    codes "registrations 0\n"
-    ++ codes "caches 0\n";
+          codes "registrations 0\n"
+          ++ codes "caches 0\n";
       durable =
-    codes "registrations 0\n"
-    ++ codes "caches 0\n";
+          codes "registrations 0\n"
+          ++ codes "caches 0\n";
     }
 unfolding digits escape_byte grammar_on_literals steps_on_literals
 row_147 = refl
@@ -442,19 +442,19 @@ row_156 :
     ++ codes "{\"lane\":1,\"do\":\"addAll\",\"at\":\"http://x.localhost/\",\"name\":\"v\",\"requests\":[{\"url\":\"/twice\",\"headers\":[[\"Accept\",\"b\"]]},{\"url\":\"/twice\",\"headers\":[[\"Accept\",\"a\"]]}]}\n")
     ≡ record {
       transcript =
-    codes "- restarted -> 0 registrations 0 caches\n"
-    ++ codes "L1.0 cacheOpen -> made\n"
-    ++ codes "L1.1 addAll -> a0\n"
-    ++ codes "- added a0 -> TypeError vary 0\n"
-    ++ codes "end done\n";
+          codes "- restarted -> 0 registrations 0 caches\n"
+          ++ codes "L1.0 cacheOpen -> made\n"
+          ++ codes "L1.1 addAll -> a0\n"
+          ++ codes "- added a0 -> TypeError vary 0\n"
+          ++ codes "end done\n";
       shown =
-    codes "registrations 0\n"
-    ++ codes "caches 1\n"
-    ++ codes "cache \"http://x.localhost\" \"v\" 0\n";
+          codes "registrations 0\n"
+          ++ codes "caches 1\n"
+          ++ codes "cache \"http://x.localhost\" \"v\" 0\n";
       durable =
-    codes "registrations 0\n"
-    ++ codes "caches 1\n"
-    ++ codes "cache \"http://x.localhost\" \"v\" 0\n";
+          codes "registrations 0\n"
+          ++ codes "caches 1\n"
+          ++ codes "cache \"http://x.localhost\" \"v\" 0\n";
     }
 unfolding digits escape_byte grammar_on_literals steps_on_literals
 row_156 = refl
@@ -464,15 +464,15 @@ row_190 :
     (codes "{\"lane\":1,\"do\":\"forget\",\"at\":\"http://10.0.0.1:81/p\"}\n")
     ≡ record {
       transcript =
-    codes "- restarted -> 0 registrations 0 caches\n"
-    ++ codes "L1.0 forget -> SecurityError untrusted\n"
-    ++ codes "end done\n";
+          codes "- restarted -> 0 registrations 0 caches\n"
+          ++ codes "L1.0 forget -> SecurityError untrusted\n"
+          ++ codes "end done\n";
       shown =
-    codes "registrations 0\n"
-    ++ codes "caches 0\n";
+          codes "registrations 0\n"
+          ++ codes "caches 0\n";
       durable =
-    codes "registrations 0\n"
-    ++ codes "caches 0\n";
+          codes "registrations 0\n"
+          ++ codes "caches 0\n";
     }
 unfolding digits escape_byte grammar_on_literals steps_on_literals
 row_190 = refl
@@ -482,15 +482,15 @@ row_206 :
     (codes "{\"lane\":0,\"do\":\"cacheDelete\",\"at\":\"mailto:a\",\"name\":\"v\"}\n")
     ≡ record {
       transcript =
-    codes "- restarted -> 0 registrations 0 caches\n"
-    ++ codes "L0.0 cacheDelete -> TypeError scheme\n"
-    ++ codes "end done\n";
+          codes "- restarted -> 0 registrations 0 caches\n"
+          ++ codes "L0.0 cacheDelete -> TypeError scheme\n"
+          ++ codes "end done\n";
       shown =
-    codes "registrations 0\n"
-    ++ codes "caches 0\n";
+          codes "registrations 0\n"
+          ++ codes "caches 0\n";
       durable =
-    codes "registrations 0\n"
-    ++ codes "caches 0\n";
+          codes "registrations 0\n"
+          ++ codes "caches 0\n";
     }
 unfolding digits escape_byte grammar_on_literals steps_on_literals
 row_206 = refl
@@ -500,15 +500,15 @@ row_211 :
     (codes "{\"lane\":1,\"do\":\"cacheHas\",\"at\":\"http://c.test/\",\"name\":\"w\"}\n")
     ≡ record {
       transcript =
-    codes "- restarted -> 0 registrations 0 caches\n"
-    ++ codes "L1.0 cacheHas -> SecurityError untrusted\n"
-    ++ codes "end done\n";
+          codes "- restarted -> 0 registrations 0 caches\n"
+          ++ codes "L1.0 cacheHas -> SecurityError untrusted\n"
+          ++ codes "end done\n";
       shown =
-    codes "registrations 0\n"
-    ++ codes "caches 0\n";
+          codes "registrations 0\n"
+          ++ codes "caches 0\n";
       durable =
-    codes "registrations 0\n"
-    ++ codes "caches 0\n";
+          codes "registrations 0\n"
+          ++ codes "caches 0\n";
     }
 unfolding digits escape_byte grammar_on_literals steps_on_literals
 row_211 = refl
@@ -518,15 +518,15 @@ row_217 :
     (codes "{\"lane\":1,\"do\":\"forget\",\"at\":\"ftp://a.test/\"}\n")
     ≡ record {
       transcript =
-    codes "- restarted -> 0 registrations 0 caches\n"
-    ++ codes "L1.0 forget -> TypeError scheme\n"
-    ++ codes "end done\n";
+          codes "- restarted -> 0 registrations 0 caches\n"
+          ++ codes "L1.0 forget -> TypeError scheme\n"
+          ++ codes "end done\n";
       shown =
-    codes "registrations 0\n"
-    ++ codes "caches 0\n";
+          codes "registrations 0\n"
+          ++ codes "caches 0\n";
       durable =
-    codes "registrations 0\n"
-    ++ codes "caches 0\n";
+          codes "registrations 0\n"
+          ++ codes "caches 0\n";
     }
 unfolding digits escape_byte grammar_on_literals steps_on_literals
 row_217 = refl
@@ -536,15 +536,15 @@ row_233 :
     (codes "{\"lane\":0,\"do\":\"cacheOpen\",\"at\":\"ftp://a.test/\",\"name\":\"w\"}\n")
     ≡ record {
       transcript =
-    codes "- restarted -> 0 registrations 0 caches\n"
-    ++ codes "L0.0 cacheOpen -> TypeError scheme\n"
-    ++ codes "end done\n";
+          codes "- restarted -> 0 registrations 0 caches\n"
+          ++ codes "L0.0 cacheOpen -> TypeError scheme\n"
+          ++ codes "end done\n";
       shown =
-    codes "registrations 0\n"
-    ++ codes "caches 0\n";
+          codes "registrations 0\n"
+          ++ codes "caches 0\n";
       durable =
-    codes "registrations 0\n"
-    ++ codes "caches 0\n";
+          codes "registrations 0\n"
+          ++ codes "caches 0\n";
     }
 unfolding digits escape_byte grammar_on_literals steps_on_literals
 row_233 = refl
@@ -554,15 +554,15 @@ row_258 :
     (codes "{\"lane\":0,\"do\":\"forget\",\"at\":\"x\"}\n")
     ≡ record {
       transcript =
-    codes "- restarted -> 0 registrations 0 caches\n"
-    ++ codes "L0.0 forget -> TypeError unparsed\n"
-    ++ codes "end done\n";
+          codes "- restarted -> 0 registrations 0 caches\n"
+          ++ codes "L0.0 forget -> TypeError unparsed\n"
+          ++ codes "end done\n";
       shown =
-    codes "registrations 0\n"
-    ++ codes "caches 0\n";
+          codes "registrations 0\n"
+          ++ codes "caches 0\n";
       durable =
-    codes "registrations 0\n"
-    ++ codes "caches 0\n";
+          codes "registrations 0\n"
+          ++ codes "caches 0\n";
     }
 unfolding digits escape_byte grammar_on_literals steps_on_literals
 row_258 = refl
@@ -572,15 +572,15 @@ row_259 :
     (codes "{\"lane\":1,\"do\":\"cacheHas\",\"at\":\"http://[\",\"name\":\"w\"}\n")
     ≡ record {
       transcript =
-    codes "- restarted -> 0 registrations 0 caches\n"
-    ++ codes "L1.0 cacheHas -> TypeError unparsed\n"
-    ++ codes "end done\n";
+          codes "- restarted -> 0 registrations 0 caches\n"
+          ++ codes "L1.0 cacheHas -> TypeError unparsed\n"
+          ++ codes "end done\n";
       shown =
-    codes "registrations 0\n"
-    ++ codes "caches 0\n";
+          codes "registrations 0\n"
+          ++ codes "caches 0\n";
       durable =
-    codes "registrations 0\n"
-    ++ codes "caches 0\n";
+          codes "registrations 0\n"
+          ++ codes "caches 0\n";
     }
 unfolding digits escape_byte grammar_on_literals steps_on_literals
 row_259 = refl
@@ -590,15 +590,15 @@ row_263 :
     (codes "{\"lane\":2,\"do\":\"addAll\",\"at\":\"mailto:a\",\"name\":\"v\",\"requests\":[\"/x#f\"]}\n")
     ≡ record {
       transcript =
-    codes "- restarted -> 0 registrations 0 caches\n"
-    ++ codes "L2.0 addAll -> TypeError scheme\n"
-    ++ codes "end done\n";
+          codes "- restarted -> 0 registrations 0 caches\n"
+          ++ codes "L2.0 addAll -> TypeError scheme\n"
+          ++ codes "end done\n";
       shown =
-    codes "registrations 0\n"
-    ++ codes "caches 0\n";
+          codes "registrations 0\n"
+          ++ codes "caches 0\n";
       durable =
-    codes "registrations 0\n"
-    ++ codes "caches 0\n";
+          codes "registrations 0\n"
+          ++ codes "caches 0\n";
     }
 unfolding digits escape_byte grammar_on_literals steps_on_literals
 row_263 = refl
@@ -608,15 +608,15 @@ row_271 :
     (codes "{\"lane\":0,\"do\":\"cacheDelete\",\"at\":\"http://[\",\"name\":\"w\"}\n")
     ≡ record {
       transcript =
-    codes "- restarted -> 0 registrations 0 caches\n"
-    ++ codes "L0.0 cacheDelete -> TypeError unparsed\n"
-    ++ codes "end done\n";
+          codes "- restarted -> 0 registrations 0 caches\n"
+          ++ codes "L0.0 cacheDelete -> TypeError unparsed\n"
+          ++ codes "end done\n";
       shown =
-    codes "registrations 0\n"
-    ++ codes "caches 0\n";
+          codes "registrations 0\n"
+          ++ codes "caches 0\n";
       durable =
-    codes "registrations 0\n"
-    ++ codes "caches 0\n";
+          codes "registrations 0\n"
+          ++ codes "caches 0\n";
     }
 unfolding digits escape_byte grammar_on_literals steps_on_literals
 row_271 = refl
@@ -626,15 +626,15 @@ row_273 :
     (codes "{\"lane\":0,\"do\":\"cacheKeys\",\"at\":\"mailto:a\"}\n")
     ≡ record {
       transcript =
-    codes "- restarted -> 0 registrations 0 caches\n"
-    ++ codes "L0.0 cacheKeys -> TypeError scheme\n"
-    ++ codes "end done\n";
+          codes "- restarted -> 0 registrations 0 caches\n"
+          ++ codes "L0.0 cacheKeys -> TypeError scheme\n"
+          ++ codes "end done\n";
       shown =
-    codes "registrations 0\n"
-    ++ codes "caches 0\n";
+          codes "registrations 0\n"
+          ++ codes "caches 0\n";
       durable =
-    codes "registrations 0\n"
-    ++ codes "caches 0\n";
+          codes "registrations 0\n"
+          ++ codes "caches 0\n";
     }
 unfolding digits escape_byte grammar_on_literals steps_on_literals
 row_273 = refl
@@ -644,15 +644,15 @@ row_285 :
     (codes "{\"lane\":2,\"do\":\"cacheHas\",\"at\":\"mailto:a\",\"name\":\"w\",\"partition\":\"p\"}\n")
     ≡ record {
       transcript =
-    codes "- restarted -> 0 registrations 0 caches\n"
-    ++ codes "L2.0 cacheHas -> TypeError scheme\n"
-    ++ codes "end done\n";
+          codes "- restarted -> 0 registrations 0 caches\n"
+          ++ codes "L2.0 cacheHas -> TypeError scheme\n"
+          ++ codes "end done\n";
       shown =
-    codes "registrations 0\n"
-    ++ codes "caches 0\n";
+          codes "registrations 0\n"
+          ++ codes "caches 0\n";
       durable =
-    codes "registrations 0\n"
-    ++ codes "caches 0\n";
+          codes "registrations 0\n"
+          ++ codes "caches 0\n";
     }
 unfolding digits escape_byte grammar_on_literals steps_on_literals
 row_285 = refl

@@ -14,27 +14,27 @@ row_021 :
     ++ codes "{\"lane\":2,\"do\":\"await\",\"of\":1}\n")
     ≡ record {
       transcript =
-    codes "- restarted -> 0 registrations 0 caches\n"
-    ++ codes "L2.0 open -> none\n"
-    ++ codes "L2.1 register -> j0\n"
-    ++ codes "- run j0 -> fetch 0 | mapped r0\n"
-    ++ codes "- fetched j0 -> changed | w0 parsed\n"
-    ++ codes "- evaluated j0 -> installing | w0 installing | settled j0 r0 | updatefound r0\n"
-    ++ codes "L2.2 await -> r0\n"
-    ++ codes "- installed j0 -> ok | w0 installed\n"
-    ++ codes "- tryactivate r0 -> w0 | w0 activating\n"
-    ++ codes "- activated w0 -> ok | w0 activated\n"
-    ++ codes "end done\n";
+          codes "- restarted -> 0 registrations 0 caches\n"
+          ++ codes "L2.0 open -> none\n"
+          ++ codes "L2.1 register -> j0\n"
+          ++ codes "- run j0 -> fetch 0 | mapped r0\n"
+          ++ codes "- fetched j0 -> changed | w0 parsed\n"
+          ++ codes "- evaluated j0 -> installing | w0 installing | settled j0 r0 | updatefound r0\n"
+          ++ codes "L2.2 await -> r0\n"
+          ++ codes "- installed j0 -> ok | w0 installed\n"
+          ++ codes "- tryactivate r0 -> w0 | w0 activating\n"
+          ++ codes "- activated w0 -> ok | w0 activated\n"
+          ++ codes "end done\n";
       shown =
-    codes "registrations 1\n"
-    ++ codes "registration \"https://a.test^q.top\" \"https://a.test/app/\" imports\n"
-    ++ codes " active activated \"https://a.test/app/claim.js\" classic 8\n"
-    ++ codes "caches 0\n";
+          codes "registrations 1\n"
+          ++ codes "registration \"https://a.test^q.top\" \"https://a.test/app/\" imports\n"
+          ++ codes " active activated \"https://a.test/app/claim.js\" classic 8\n"
+          ++ codes "caches 0\n";
       durable =
-    codes "registrations 1\n"
-    ++ codes "registration \"https://a.test^q.top\" \"https://a.test/app/\" imports\n"
-    ++ codes " active activated \"https://a.test/app/claim.js\" classic 8\n"
-    ++ codes "caches 0\n";
+          codes "registrations 1\n"
+          ++ codes "registration \"https://a.test^q.top\" \"https://a.test/app/\" imports\n"
+          ++ codes " active activated \"https://a.test/app/claim.js\" classic 8\n"
+          ++ codes "caches 0\n";
     }
 unfolding digits escape_byte grammar_on_literals steps_on_literals
 row_021 = refl
@@ -49,26 +49,26 @@ row_045 :
     ++ codes "{\"lane\":0,\"do\":\"unregister\",\"client\":27,\"scope\":\"/f76/\"}\n")
     ≡ record {
       transcript =
-    codes "- restarted -> 0 registrations 0 caches\n"
-    ++ codes "L0.0 open -> none\n"
-    ++ codes "L0.1 register -> j0\n"
-    ++ codes "L0.2 open -> none\n"
-    ++ codes "- run j0 -> fetch 0 | mapped r0\n"
-    ++ codes "- fetched j0 -> changed | w0 parsed\n"
-    ++ codes "- evaluated j0 -> installing | w0 installing | settled j0 r0 | updatefound r0\n"
-    ++ codes "- installed j0 -> ok | w0 installed\n"
-    ++ codes "- tryactivate r0 -> w0 | w0 activating\n"
-    ++ codes "L0.3 ready -> r0\n"
-    ++ codes "L0.4 unregister -> j1\n"
-    ++ codes "- run j1 -> finished | unmapped r0 | settled j1 true\n"
-    ++ codes "- activated w0 -> ok | w0 activated | w0 redundant\n"
-    ++ codes "end done\n";
+          codes "- restarted -> 0 registrations 0 caches\n"
+          ++ codes "L0.0 open -> none\n"
+          ++ codes "L0.1 register -> j0\n"
+          ++ codes "L0.2 open -> none\n"
+          ++ codes "- run j0 -> fetch 0 | mapped r0\n"
+          ++ codes "- fetched j0 -> changed | w0 parsed\n"
+          ++ codes "- evaluated j0 -> installing | w0 installing | settled j0 r0 | updatefound r0\n"
+          ++ codes "- installed j0 -> ok | w0 installed\n"
+          ++ codes "- tryactivate r0 -> w0 | w0 activating\n"
+          ++ codes "L0.3 ready -> r0\n"
+          ++ codes "L0.4 unregister -> j1\n"
+          ++ codes "- run j1 -> finished | unmapped r0 | settled j1 true\n"
+          ++ codes "- activated w0 -> ok | w0 activated | w0 redundant\n"
+          ++ codes "end done\n";
       shown =
-    codes "registrations 0\n"
-    ++ codes "caches 0\n";
+          codes "registrations 0\n"
+          ++ codes "caches 0\n";
       durable =
-    codes "registrations 0\n"
-    ++ codes "caches 0\n";
+          codes "registrations 0\n"
+          ++ codes "caches 0\n";
     }
 unfolding digits escape_byte grammar_on_literals steps_on_literals
 row_045 = refl
@@ -83,29 +83,29 @@ row_047 :
     ++ codes "{\"lane\":0,\"do\":\"claim\",\"client\":27,\"scope\":\"/f76/p\",\"slot\":\"active\"}\n")
     ≡ record {
       transcript =
-    codes "- restarted -> 0 registrations 0 caches\n"
-    ++ codes "L0.0 open -> none\n"
-    ++ codes "L0.1 open -> none\n"
-    ++ codes "L0.2 register -> j0\n"
-    ++ codes "- run j0 -> fetch 0 | mapped r0\n"
-    ++ codes "- fetched j0 -> changed | w0 parsed\n"
-    ++ codes "- evaluated j0 -> installing | w0 installing | settled j0 r0 | updatefound r0\n"
-    ++ codes "- installed j0 -> ok | w0 installed\n"
-    ++ codes "- tryactivate r0 -> w0 | w0 activating\n"
-    ++ codes "L0.3 ready -> r0\n"
-    ++ codes "L0.4 claim -> ok | controllerchange c32\n"
-    ++ codes "- activated w0 -> ok | w0 activated\n"
-    ++ codes "end done\n";
+          codes "- restarted -> 0 registrations 0 caches\n"
+          ++ codes "L0.0 open -> none\n"
+          ++ codes "L0.1 open -> none\n"
+          ++ codes "L0.2 register -> j0\n"
+          ++ codes "- run j0 -> fetch 0 | mapped r0\n"
+          ++ codes "- fetched j0 -> changed | w0 parsed\n"
+          ++ codes "- evaluated j0 -> installing | w0 installing | settled j0 r0 | updatefound r0\n"
+          ++ codes "- installed j0 -> ok | w0 installed\n"
+          ++ codes "- tryactivate r0 -> w0 | w0 activating\n"
+          ++ codes "L0.3 ready -> r0\n"
+          ++ codes "L0.4 claim -> ok | controllerchange c32\n"
+          ++ codes "- activated w0 -> ok | w0 activated\n"
+          ++ codes "end done\n";
       shown =
-    codes "registrations 1\n"
-    ++ codes "registration \"https://a.test\" \"https://a.test/f76/p\" imports\n"
-    ++ codes " active activated \"https://a.test/f76/page.js\" classic 9\n"
-    ++ codes "caches 0\n";
+          codes "registrations 1\n"
+          ++ codes "registration \"https://a.test\" \"https://a.test/f76/p\" imports\n"
+          ++ codes " active activated \"https://a.test/f76/page.js\" classic 9\n"
+          ++ codes "caches 0\n";
       durable =
-    codes "registrations 1\n"
-    ++ codes "registration \"https://a.test\" \"https://a.test/f76/p\" imports\n"
-    ++ codes " active activated \"https://a.test/f76/page.js\" classic 9\n"
-    ++ codes "caches 0\n";
+          codes "registrations 1\n"
+          ++ codes "registration \"https://a.test\" \"https://a.test/f76/p\" imports\n"
+          ++ codes " active activated \"https://a.test/f76/page.js\" classic 9\n"
+          ++ codes "caches 0\n";
     }
 unfolding digits escape_byte grammar_on_literals steps_on_literals
 row_047 = refl
@@ -122,32 +122,32 @@ row_048 :
     ++ codes "{\"lane\":0,\"do\":\"unregister\",\"client\":27,\"scope\":\"/f76/\"}\n")
     ≡ record {
       transcript =
-    codes "- restarted -> 0 registrations 0 caches\n"
-    ++ codes "L0.0 open -> none\n"
-    ++ codes "L0.1 register -> j0\n"
-    ++ codes "L0.2 open -> none\n"
-    ++ codes "- run j0 -> fetch 0 | mapped r0\n"
-    ++ codes "- fetched j0 -> changed | w0 parsed\n"
-    ++ codes "- evaluated j0 -> installing | w0 installing | settled j0 r0 | updatefound r0\n"
-    ++ codes "- installed j0 -> ok | w0 installed\n"
-    ++ codes "- tryactivate r0 -> w0 | w0 activating\n"
-    ++ codes "L0.3 ready -> r0\n"
-    ++ codes "L0.4 update -> j1\n"
-    ++ codes "L0.5 unregister -> j2\n"
-    ++ codes "- run j1 -> fetch 1\n"
-    ++ codes "- fetched j1 -> changed | w1 parsed\n"
-    ++ codes "- evaluated j1 -> installing | w1 installing | settled j1 r0 | updatefound r0\n"
-    ++ codes "- installed j1 -> ok | w1 installed\n"
-    ++ codes "- run j2 -> finished | unmapped r0 | settled j2 true\n"
-    ++ codes "- tryactivate r0 -> none\n"
-    ++ codes "- activated w0 -> ok | w0 activated | w1 redundant | w0 redundant\n"
-    ++ codes "end done\n";
+          codes "- restarted -> 0 registrations 0 caches\n"
+          ++ codes "L0.0 open -> none\n"
+          ++ codes "L0.1 register -> j0\n"
+          ++ codes "L0.2 open -> none\n"
+          ++ codes "- run j0 -> fetch 0 | mapped r0\n"
+          ++ codes "- fetched j0 -> changed | w0 parsed\n"
+          ++ codes "- evaluated j0 -> installing | w0 installing | settled j0 r0 | updatefound r0\n"
+          ++ codes "- installed j0 -> ok | w0 installed\n"
+          ++ codes "- tryactivate r0 -> w0 | w0 activating\n"
+          ++ codes "L0.3 ready -> r0\n"
+          ++ codes "L0.4 update -> j1\n"
+          ++ codes "L0.5 unregister -> j2\n"
+          ++ codes "- run j1 -> fetch 1\n"
+          ++ codes "- fetched j1 -> changed | w1 parsed\n"
+          ++ codes "- evaluated j1 -> installing | w1 installing | settled j1 r0 | updatefound r0\n"
+          ++ codes "- installed j1 -> ok | w1 installed\n"
+          ++ codes "- run j2 -> finished | unmapped r0 | settled j2 true\n"
+          ++ codes "- tryactivate r0 -> none\n"
+          ++ codes "- activated w0 -> ok | w0 activated | w1 redundant | w0 redundant\n"
+          ++ codes "end done\n";
       shown =
-    codes "registrations 0\n"
-    ++ codes "caches 0\n";
+          codes "registrations 0\n"
+          ++ codes "caches 0\n";
       durable =
-    codes "registrations 0\n"
-    ++ codes "caches 0\n";
+          codes "registrations 0\n"
+          ++ codes "caches 0\n";
     }
 unfolding digits escape_byte grammar_on_literals steps_on_literals
 row_048 = refl
@@ -161,26 +161,26 @@ row_068 :
     ++ codes "{\"lane\":0,\"do\":\"unregister\",\"client\":0,\"scope\":\"/late2/\"}\n")
     ≡ record {
       transcript =
-    codes "- restarted -> 0 registrations 0 caches\n"
-    ++ codes "L0.0 open -> none\n"
-    ++ codes "L0.1 register -> j0\n"
-    ++ codes "- run j0 -> fetch 0 | mapped r0\n"
-    ++ codes "- fetched j0 -> changed | w0 parsed\n"
-    ++ codes "- evaluated j0 -> installing | w0 installing | settled j0 r0 | updatefound r0\n"
-    ++ codes "- installed j0 -> ok | w0 installed\n"
-    ++ codes "- tryactivate r0 -> w0 | w0 activating\n"
-    ++ codes "L0.2 ready -> r0\n"
-    ++ codes "L0.3 unregister -> j1\n"
-    ++ codes "- run j1 -> finished | unmapped r0 | settled j1 true\n"
-    ++ codes "w0.activate.0 update -> NoRegistration\n"
-    ++ codes "- activated w0 -> ok | w0 activated | w0 redundant\n"
-    ++ codes "end done\n";
+          codes "- restarted -> 0 registrations 0 caches\n"
+          ++ codes "L0.0 open -> none\n"
+          ++ codes "L0.1 register -> j0\n"
+          ++ codes "- run j0 -> fetch 0 | mapped r0\n"
+          ++ codes "- fetched j0 -> changed | w0 parsed\n"
+          ++ codes "- evaluated j0 -> installing | w0 installing | settled j0 r0 | updatefound r0\n"
+          ++ codes "- installed j0 -> ok | w0 installed\n"
+          ++ codes "- tryactivate r0 -> w0 | w0 activating\n"
+          ++ codes "L0.2 ready -> r0\n"
+          ++ codes "L0.3 unregister -> j1\n"
+          ++ codes "- run j1 -> finished | unmapped r0 | settled j1 true\n"
+          ++ codes "w0.activate.0 update -> NoRegistration\n"
+          ++ codes "- activated w0 -> ok | w0 activated | w0 redundant\n"
+          ++ codes "end done\n";
       shown =
-    codes "registrations 0\n"
-    ++ codes "caches 0\n";
+          codes "registrations 0\n"
+          ++ codes "caches 0\n";
       durable =
-    codes "registrations 0\n"
-    ++ codes "caches 0\n";
+          codes "registrations 0\n"
+          ++ codes "caches 0\n";
     }
 unfolding digits escape_byte grammar_on_literals steps_on_literals
 row_068 = refl
@@ -195,29 +195,29 @@ row_070 :
     ++ codes "{\"lane\":0,\"do\":\"skipWaiting\",\"client\":1,\"scope\":\"/app/\",\"slot\":\"waiting\"}\n")
     ≡ record {
       transcript =
-    codes "- restarted -> 0 registrations 0 caches\n"
-    ++ codes "L0.0 open -> none\n"
-    ++ codes "L0.1 open -> none\n"
-    ++ codes "L0.2 register -> j0\n"
-    ++ codes "- run j0 -> fetch 0 | mapped r0\n"
-    ++ codes "- fetched j0 -> changed | w0 parsed\n"
-    ++ codes "- evaluated j0 -> installing | w0 installing | settled j0 r0 | updatefound r0\n"
-    ++ codes "L0.3 await -> r0\n"
-    ++ codes "L0.4 skipWaiting -> NoWorker\n"
-    ++ codes "- installed j0 -> ok | w0 installed\n"
-    ++ codes "- tryactivate r0 -> w0 | w0 activating\n"
-    ++ codes "- activated w0 -> ok | w0 activated\n"
-    ++ codes "end done\n";
+          codes "- restarted -> 0 registrations 0 caches\n"
+          ++ codes "L0.0 open -> none\n"
+          ++ codes "L0.1 open -> none\n"
+          ++ codes "L0.2 register -> j0\n"
+          ++ codes "- run j0 -> fetch 0 | mapped r0\n"
+          ++ codes "- fetched j0 -> changed | w0 parsed\n"
+          ++ codes "- evaluated j0 -> installing | w0 installing | settled j0 r0 | updatefound r0\n"
+          ++ codes "L0.3 await -> r0\n"
+          ++ codes "L0.4 skipWaiting -> NoWorker\n"
+          ++ codes "- installed j0 -> ok | w0 installed\n"
+          ++ codes "- tryactivate r0 -> w0 | w0 activating\n"
+          ++ codes "- activated w0 -> ok | w0 activated\n"
+          ++ codes "end done\n";
       shown =
-    codes "registrations 1\n"
-    ++ codes "registration \"http://localhost:8080\" \"http://localhost:8080/app/\" none\n"
-    ++ codes " active activated \"http://localhost:8080/app/claim.js\" classic 8\n"
-    ++ codes "caches 0\n";
+          codes "registrations 1\n"
+          ++ codes "registration \"http://localhost:8080\" \"http://localhost:8080/app/\" none\n"
+          ++ codes " active activated \"http://localhost:8080/app/claim.js\" classic 8\n"
+          ++ codes "caches 0\n";
       durable =
-    codes "registrations 1\n"
-    ++ codes "registration \"http://localhost:8080\" \"http://localhost:8080/app/\" none\n"
-    ++ codes " active activated \"http://localhost:8080/app/claim.js\" classic 8\n"
-    ++ codes "caches 0\n";
+          codes "registrations 1\n"
+          ++ codes "registration \"http://localhost:8080\" \"http://localhost:8080/app/\" none\n"
+          ++ codes " active activated \"http://localhost:8080/app/claim.js\" classic 8\n"
+          ++ codes "caches 0\n";
     }
 unfolding digits escape_byte grammar_on_literals steps_on_literals
 row_070 = refl
@@ -234,39 +234,39 @@ row_087 :
     ++ codes "{\"lane\":0,\"do\":\"await\",\"of\":4}\n")
     ≡ record {
       transcript =
-    codes "- restarted -> 0 registrations 0 caches\n"
-    ++ codes "L0.0 open -> none\n"
-    ++ codes "L0.1 register -> j0\n"
-    ++ codes "L0.2 register -> j1\n"
-    ++ codes "- run j0 -> fetch 0 | mapped r0\n"
-    ++ codes "- fetched j0 -> changed | w0 parsed\n"
-    ++ codes "- evaluated j0 -> installing | w0 installing | settled j0 r0 | updatefound r0\n"
-    ++ codes "w0.install.0 cacheOpen -> made\n"
-    ++ codes "- installed j0 -> ok | w0 installed\n"
-    ++ codes "- run j1 -> fetch 1\n"
-    ++ codes "- fetched j1 -> changed | w1 parsed\n"
-    ++ codes "- evaluated j1 -> installing | w1 installing | settled j1 r0 | updatefound r0\n"
-    ++ codes "L0.3 await -> r0\n"
-    ++ codes "L0.4 addAll -> a0\n"
-    ++ codes "- added a0 -> InvalidStateError 1\n"
-    ++ codes "L0.5 await -> InvalidStateError 1\n"
-    ++ codes "w1.install.0 cacheOpen -> found\n"
-    ++ codes "- installed j1 -> ok | w0 redundant | w1 installed\n"
-    ++ codes "- tryactivate r0 -> w1 | w1 activating\n"
-    ++ codes "- activated w1 -> ok | w1 activated\n"
-    ++ codes "end done\n";
+          codes "- restarted -> 0 registrations 0 caches\n"
+          ++ codes "L0.0 open -> none\n"
+          ++ codes "L0.1 register -> j0\n"
+          ++ codes "L0.2 register -> j1\n"
+          ++ codes "- run j0 -> fetch 0 | mapped r0\n"
+          ++ codes "- fetched j0 -> changed | w0 parsed\n"
+          ++ codes "- evaluated j0 -> installing | w0 installing | settled j0 r0 | updatefound r0\n"
+          ++ codes "w0.install.0 cacheOpen -> made\n"
+          ++ codes "- installed j0 -> ok | w0 installed\n"
+          ++ codes "- run j1 -> fetch 1\n"
+          ++ codes "- fetched j1 -> changed | w1 parsed\n"
+          ++ codes "- evaluated j1 -> installing | w1 installing | settled j1 r0 | updatefound r0\n"
+          ++ codes "L0.3 await -> r0\n"
+          ++ codes "L0.4 addAll -> a0\n"
+          ++ codes "- added a0 -> InvalidStateError 1\n"
+          ++ codes "L0.5 await -> InvalidStateError 1\n"
+          ++ codes "w1.install.0 cacheOpen -> found\n"
+          ++ codes "- installed j1 -> ok | w0 redundant | w1 installed\n"
+          ++ codes "- tryactivate r0 -> w1 | w1 activating\n"
+          ++ codes "- activated w1 -> ok | w1 activated\n"
+          ++ codes "end done\n";
       shown =
-    codes "registrations 1\n"
-    ++ codes "registration \"https://b.test\" \"https://b.test/\" imports\n"
-    ++ codes " active activated \"https://b.test/sw.js\" classic 5\n"
-    ++ codes "caches 1\n"
-    ++ codes "cache \"https://b.test\" \"v\" 0\n";
+          codes "registrations 1\n"
+          ++ codes "registration \"https://b.test\" \"https://b.test/\" imports\n"
+          ++ codes " active activated \"https://b.test/sw.js\" classic 5\n"
+          ++ codes "caches 1\n"
+          ++ codes "cache \"https://b.test\" \"v\" 0\n";
       durable =
-    codes "registrations 1\n"
-    ++ codes "registration \"https://b.test\" \"https://b.test/\" imports\n"
-    ++ codes " active activated \"https://b.test/sw.js\" classic 5\n"
-    ++ codes "caches 1\n"
-    ++ codes "cache \"https://b.test\" \"v\" 0\n";
+          codes "registrations 1\n"
+          ++ codes "registration \"https://b.test\" \"https://b.test/\" imports\n"
+          ++ codes " active activated \"https://b.test/sw.js\" classic 5\n"
+          ++ codes "caches 1\n"
+          ++ codes "cache \"https://b.test\" \"v\" 0\n";
     }
 unfolding digits escape_byte grammar_on_literals steps_on_literals
 row_087 = refl
@@ -280,28 +280,28 @@ row_111 :
     ++ codes "{\"lane\":0,\"do\":\"claim\",\"client\":1,\"scope\":\"/\",\"slot\":\"active\"}\n")
     ≡ record {
       transcript =
-    codes "- restarted -> 0 registrations 0 caches\n"
-    ++ codes "L0.0 open -> none\n"
-    ++ codes "L0.1 register -> j0\n"
-    ++ codes "- run j0 -> fetch 0 | mapped r0\n"
-    ++ codes "- fetched j0 -> changed | w0 parsed\n"
-    ++ codes "- evaluated j0 -> installing | w0 installing | settled j0 r0 | updatefound r0\n"
-    ++ codes "L0.2 await -> r0\n"
-    ++ codes "L0.3 claim -> NoWorker\n"
-    ++ codes "- installed j0 -> ok | w0 installed\n"
-    ++ codes "- tryactivate r0 -> w0 | w0 activating\n"
-    ++ codes "- activated w0 -> ok | w0 activated\n"
-    ++ codes "end done\n";
+          codes "- restarted -> 0 registrations 0 caches\n"
+          ++ codes "L0.0 open -> none\n"
+          ++ codes "L0.1 register -> j0\n"
+          ++ codes "- run j0 -> fetch 0 | mapped r0\n"
+          ++ codes "- fetched j0 -> changed | w0 parsed\n"
+          ++ codes "- evaluated j0 -> installing | w0 installing | settled j0 r0 | updatefound r0\n"
+          ++ codes "L0.2 await -> r0\n"
+          ++ codes "L0.3 claim -> NoWorker\n"
+          ++ codes "- installed j0 -> ok | w0 installed\n"
+          ++ codes "- tryactivate r0 -> w0 | w0 activating\n"
+          ++ codes "- activated w0 -> ok | w0 activated\n"
+          ++ codes "end done\n";
       shown =
-    codes "registrations 1\n"
-    ++ codes "registration \"http://127.9.0.1:99\" \"http://127.9.0.1:99/\" imports\n"
-    ++ codes " active activated \"http://127.9.0.1:99/other.js\" classic 5\n"
-    ++ codes "caches 0\n";
+          codes "registrations 1\n"
+          ++ codes "registration \"http://127.9.0.1:99\" \"http://127.9.0.1:99/\" imports\n"
+          ++ codes " active activated \"http://127.9.0.1:99/other.js\" classic 5\n"
+          ++ codes "caches 0\n";
       durable =
-    codes "registrations 1\n"
-    ++ codes "registration \"http://127.9.0.1:99\" \"http://127.9.0.1:99/\" imports\n"
-    ++ codes " active activated \"http://127.9.0.1:99/other.js\" classic 5\n"
-    ++ codes "caches 0\n";
+          codes "registrations 1\n"
+          ++ codes "registration \"http://127.9.0.1:99\" \"http://127.9.0.1:99/\" imports\n"
+          ++ codes " active activated \"http://127.9.0.1:99/other.js\" classic 5\n"
+          ++ codes "caches 0\n";
     }
 unfolding digits escape_byte grammar_on_literals steps_on_literals
 row_111 = refl
@@ -317,32 +317,32 @@ row_169 :
     ++ codes "{\"lane\":1,\"do\":\"skipWaiting\",\"client\":5,\"scope\":\"/\",\"slot\":\"waiting\"}\n")
     ≡ record {
       transcript =
-    codes "- restarted -> 0 registrations 0 caches\n"
-    ++ codes "L1.0 open -> none\n"
-    ++ codes "L1.1 register -> j0\n"
-    ++ codes "- run j0 -> fetch 0 | mapped r0\n"
-    ++ codes "- fetched j0 -> changed | w0 parsed\n"
-    ++ codes "- evaluated j0 -> installing | w0 installing | settled j0 r0 | updatefound r0\n"
-    ++ codes "L1.2 await -> r0\n"
-    ++ codes "L1.3 update -> j1\n"
-    ++ codes "- installed j0 -> ok | w0 installed\n"
-    ++ codes "- run j1 -> fetch 1\n"
-    ++ codes "- fetched j1 -> unchanged | settled j1 r0\n"
-    ++ codes "L1.4 await -> r0\n"
-    ++ codes "L1.5 skipWaiting -> ok | w0 activating\n"
-    ++ codes "- tryactivate r0 -> none\n"
-    ++ codes "- activated w0 -> ok | w0 activated\n"
-    ++ codes "end done\n";
+          codes "- restarted -> 0 registrations 0 caches\n"
+          ++ codes "L1.0 open -> none\n"
+          ++ codes "L1.1 register -> j0\n"
+          ++ codes "- run j0 -> fetch 0 | mapped r0\n"
+          ++ codes "- fetched j0 -> changed | w0 parsed\n"
+          ++ codes "- evaluated j0 -> installing | w0 installing | settled j0 r0 | updatefound r0\n"
+          ++ codes "L1.2 await -> r0\n"
+          ++ codes "L1.3 update -> j1\n"
+          ++ codes "- installed j0 -> ok | w0 installed\n"
+          ++ codes "- run j1 -> fetch 1\n"
+          ++ codes "- fetched j1 -> unchanged | settled j1 r0\n"
+          ++ codes "L1.4 await -> r0\n"
+          ++ codes "L1.5 skipWaiting -> ok | w0 activating\n"
+          ++ codes "- tryactivate r0 -> none\n"
+          ++ codes "- activated w0 -> ok | w0 activated\n"
+          ++ codes "end done\n";
       shown =
-    codes "registrations 1\n"
-    ++ codes "registration \"https://b.test\" \"https://b.test/\" imports\n"
-    ++ codes " active activated \"https://b.test/sw.js\" classic 5\n"
-    ++ codes "caches 0\n";
+          codes "registrations 1\n"
+          ++ codes "registration \"https://b.test\" \"https://b.test/\" imports\n"
+          ++ codes " active activated \"https://b.test/sw.js\" classic 5\n"
+          ++ codes "caches 0\n";
       durable =
-    codes "registrations 1\n"
-    ++ codes "registration \"https://b.test\" \"https://b.test/\" imports\n"
-    ++ codes " active activated \"https://b.test/sw.js\" classic 5\n"
-    ++ codes "caches 0\n";
+          codes "registrations 1\n"
+          ++ codes "registration \"https://b.test\" \"https://b.test/\" imports\n"
+          ++ codes " active activated \"https://b.test/sw.js\" classic 5\n"
+          ++ codes "caches 0\n";
     }
 unfolding digits escape_byte grammar_on_literals steps_on_literals
 row_169 = refl
@@ -360,42 +360,42 @@ row_201 :
     ++ codes "{\"lane\":2,\"do\":\"skipWaiting\",\"client\":0,\"scope\":\"/app/\",\"slot\":\"waiting\"}\n")
     ≡ record {
       transcript =
-    codes "- restarted -> 0 registrations 0 caches\n"
-    ++ codes "L0.0 open -> none\n"
-    ++ codes "L0.1 register -> j0\n"
-    ++ codes "L2.0 open -> none\n"
-    ++ codes "L2.1 register -> j1\n"
-    ++ codes "- run j0 -> fetch 0 | mapped r0\n"
-    ++ codes "- fetched j0 -> changed | w0 parsed\n"
-    ++ codes "- evaluated j0 -> installing | w0 installing | settled j0 r0 | updatefound r0\n"
-    ++ codes "- installed j0 -> ok | w0 installed\n"
-    ++ codes "- run j1 -> fetch 0\n"
-    ++ codes "- fetched j1 -> rejected | settled j1 TypeError network\n"
-    ++ codes "L2.2 await -> TypeError network\n"
-    ++ codes "L2.3 softUpdate -> j2\n"
-    ++ codes "L2.4 skipWaiting -> ok | w0 activating\n"
-    ++ codes "- run j2 -> fetch 1\n"
-    ++ codes "- fetched j2 -> changed | w1 parsed\n"
-    ++ codes "- evaluated j2 -> installing | w1 installing | updatefound r0\n"
-    ++ codes "- installed j2 -> ok | w1 installed\n"
-    ++ codes "- tryactivate r0 -> none\n"
-    ++ codes "w0.activate.0 cacheOpen -> made\n"
-    ++ codes "- activated w0 -> ok | w0 activated | w0 redundant | w1 activating\n"
-    ++ codes "w1.activate.0 batch -> InvalidStateError 1\n"
-    ++ codes "- activated w1 -> ok | w1 activated\n"
-    ++ codes "end done\n";
+          codes "- restarted -> 0 registrations 0 caches\n"
+          ++ codes "L0.0 open -> none\n"
+          ++ codes "L0.1 register -> j0\n"
+          ++ codes "L2.0 open -> none\n"
+          ++ codes "L2.1 register -> j1\n"
+          ++ codes "- run j0 -> fetch 0 | mapped r0\n"
+          ++ codes "- fetched j0 -> changed | w0 parsed\n"
+          ++ codes "- evaluated j0 -> installing | w0 installing | settled j0 r0 | updatefound r0\n"
+          ++ codes "- installed j0 -> ok | w0 installed\n"
+          ++ codes "- run j1 -> fetch 0\n"
+          ++ codes "- fetched j1 -> rejected | settled j1 TypeError network\n"
+          ++ codes "L2.2 await -> TypeError network\n"
+          ++ codes "L2.3 softUpdate -> j2\n"
+          ++ codes "L2.4 skipWaiting -> ok | w0 activating\n"
+          ++ codes "- run j2 -> fetch 1\n"
+          ++ codes "- fetched j2 -> changed | w1 parsed\n"
+          ++ codes "- evaluated j2 -> installing | w1 installing | updatefound r0\n"
+          ++ codes "- installed j2 -> ok | w1 installed\n"
+          ++ codes "- tryactivate r0 -> none\n"
+          ++ codes "w0.activate.0 cacheOpen -> made\n"
+          ++ codes "- activated w0 -> ok | w0 activated | w0 redundant | w1 activating\n"
+          ++ codes "w1.activate.0 batch -> InvalidStateError 1\n"
+          ++ codes "- activated w1 -> ok | w1 activated\n"
+          ++ codes "end done\n";
       shown =
-    codes "registrations 1\n"
-    ++ codes "registration \"http://[::1]:3000\" \"http://[::1]:3000/app/\" all\n"
-    ++ codes " active activated \"http://[::1]:3000/app/sw.js\" classic 5\n"
-    ++ codes "caches 1\n"
-    ++ codes "cache \"http://[::1]:3000\" \"v\" 0\n";
+          codes "registrations 1\n"
+          ++ codes "registration \"http://[::1]:3000\" \"http://[::1]:3000/app/\" all\n"
+          ++ codes " active activated \"http://[::1]:3000/app/sw.js\" classic 5\n"
+          ++ codes "caches 1\n"
+          ++ codes "cache \"http://[::1]:3000\" \"v\" 0\n";
       durable =
-    codes "registrations 1\n"
-    ++ codes "registration \"http://[::1]:3000\" \"http://[::1]:3000/app/\" all\n"
-    ++ codes " active activated \"http://[::1]:3000/app/sw.js\" classic 5\n"
-    ++ codes "caches 1\n"
-    ++ codes "cache \"http://[::1]:3000\" \"v\" 0\n";
+          codes "registrations 1\n"
+          ++ codes "registration \"http://[::1]:3000\" \"http://[::1]:3000/app/\" all\n"
+          ++ codes " active activated \"http://[::1]:3000/app/sw.js\" classic 5\n"
+          ++ codes "caches 1\n"
+          ++ codes "cache \"http://[::1]:3000\" \"v\" 0\n";
     }
 unfolding digits escape_byte grammar_on_literals steps_on_literals
 row_201 = refl
@@ -411,30 +411,30 @@ row_213 :
     ++ codes "{\"lane\":0,\"do\":\"claim\",\"client\":1,\"scope\":\"/\",\"slot\":\"active\"}\n")
     ≡ record {
       transcript =
-    codes "- restarted -> 0 registrations 0 caches\n"
-    ++ codes "L0.0 open -> none\n"
-    ++ codes "L0.1 open -> none\n"
-    ++ codes "L0.2 register -> j0\n"
-    ++ codes "- run j0 -> fetch 0 | mapped r0\n"
-    ++ codes "- fetched j0 -> changed | w0 parsed\n"
-    ++ codes "- evaluated j0 -> installing | w0 installing | settled j0 r0 | updatefound r0\n"
-    ++ codes "- installed j0 -> ok | w0 installed\n"
-    ++ codes "- tryactivate r0 -> w0 | w0 activating\n"
-    ++ codes "L0.3 ready -> r0\n"
-    ++ codes "L0.4 claim -> ok | controllerchange c1 | controllerchange c0\n"
-    ++ codes "L0.5 claim -> ok\n"
-    ++ codes "- activated w0 -> ok | w0 activated\n"
-    ++ codes "end done\n";
+          codes "- restarted -> 0 registrations 0 caches\n"
+          ++ codes "L0.0 open -> none\n"
+          ++ codes "L0.1 open -> none\n"
+          ++ codes "L0.2 register -> j0\n"
+          ++ codes "- run j0 -> fetch 0 | mapped r0\n"
+          ++ codes "- fetched j0 -> changed | w0 parsed\n"
+          ++ codes "- evaluated j0 -> installing | w0 installing | settled j0 r0 | updatefound r0\n"
+          ++ codes "- installed j0 -> ok | w0 installed\n"
+          ++ codes "- tryactivate r0 -> w0 | w0 activating\n"
+          ++ codes "L0.3 ready -> r0\n"
+          ++ codes "L0.4 claim -> ok | controllerchange c1 | controllerchange c0\n"
+          ++ codes "L0.5 claim -> ok\n"
+          ++ codes "- activated w0 -> ok | w0 activated\n"
+          ++ codes "end done\n";
       shown =
-    codes "registrations 1\n"
-    ++ codes "registration \"http://[::1]:3000\" \"http://[::1]:3000/\" imports\n"
-    ++ codes " active activated \"http://[::1]:3000/sw.js\" classic 5\n"
-    ++ codes "caches 0\n";
+          codes "registrations 1\n"
+          ++ codes "registration \"http://[::1]:3000\" \"http://[::1]:3000/\" imports\n"
+          ++ codes " active activated \"http://[::1]:3000/sw.js\" classic 5\n"
+          ++ codes "caches 0\n";
       durable =
-    codes "registrations 1\n"
-    ++ codes "registration \"http://[::1]:3000\" \"http://[::1]:3000/\" imports\n"
-    ++ codes " active activated \"http://[::1]:3000/sw.js\" classic 5\n"
-    ++ codes "caches 0\n";
+          codes "registrations 1\n"
+          ++ codes "registration \"http://[::1]:3000\" \"http://[::1]:3000/\" imports\n"
+          ++ codes " active activated \"http://[::1]:3000/sw.js\" classic 5\n"
+          ++ codes "caches 0\n";
     }
 unfolding digits escape_byte grammar_on_literals steps_on_literals
 row_213 = refl
@@ -451,35 +451,35 @@ row_231 :
     ++ codes "{\"lane\":0,\"do\":\"await\",\"of\":4}\n")
     ≡ record {
       transcript =
-    codes "- restarted -> 0 registrations 0 caches\n"
-    ++ codes "L0.0 open -> none\n"
-    ++ codes "L0.1 register -> j0\n"
-    ++ codes "- run j0 -> fetch 0 | mapped r0\n"
-    ++ codes "- fetched j0 -> changed | w0 parsed\n"
-    ++ codes "- evaluated j0 -> installing | w0 installing | settled j0 r0 | updatefound r0\n"
-    ++ codes "L0.2 await -> r0\n"
-    ++ codes "L0.3 register -> j1\n"
-    ++ codes "L0.4 update -> j2\n"
-    ++ codes "- installed j0 -> ok | w0 installed\n"
-    ++ codes "- run j1 -> fetch 0\n"
-    ++ codes "- fetched j1 -> changed | w1 parsed\n"
-    ++ codes "- evaluated j1 -> installing | w1 installing | settled j1 r0 | updatefound r0\n"
-    ++ codes "- installed j1 -> ok | w0 redundant | w1 installed\n"
-    ++ codes "- run j2 -> finished | settled j2 TypeError script\n"
-    ++ codes "L0.5 await -> TypeError script\n"
-    ++ codes "- tryactivate r0 -> w1 | w1 activating\n"
-    ++ codes "- activated w1 -> ok | w1 activated\n"
-    ++ codes "end done\n";
+          codes "- restarted -> 0 registrations 0 caches\n"
+          ++ codes "L0.0 open -> none\n"
+          ++ codes "L0.1 register -> j0\n"
+          ++ codes "- run j0 -> fetch 0 | mapped r0\n"
+          ++ codes "- fetched j0 -> changed | w0 parsed\n"
+          ++ codes "- evaluated j0 -> installing | w0 installing | settled j0 r0 | updatefound r0\n"
+          ++ codes "L0.2 await -> r0\n"
+          ++ codes "L0.3 register -> j1\n"
+          ++ codes "L0.4 update -> j2\n"
+          ++ codes "- installed j0 -> ok | w0 installed\n"
+          ++ codes "- run j1 -> fetch 0\n"
+          ++ codes "- fetched j1 -> changed | w1 parsed\n"
+          ++ codes "- evaluated j1 -> installing | w1 installing | settled j1 r0 | updatefound r0\n"
+          ++ codes "- installed j1 -> ok | w0 redundant | w1 installed\n"
+          ++ codes "- run j2 -> finished | settled j2 TypeError script\n"
+          ++ codes "L0.5 await -> TypeError script\n"
+          ++ codes "- tryactivate r0 -> w1 | w1 activating\n"
+          ++ codes "- activated w1 -> ok | w1 activated\n"
+          ++ codes "end done\n";
       shown =
-    codes "registrations 1\n"
-    ++ codes "registration \"http://127.0.0.1\" \"http://127.0.0.1/\" imports\n"
-    ++ codes " active activated \"http://127.0.0.1/other.js\" classic 5\n"
-    ++ codes "caches 0\n";
+          codes "registrations 1\n"
+          ++ codes "registration \"http://127.0.0.1\" \"http://127.0.0.1/\" imports\n"
+          ++ codes " active activated \"http://127.0.0.1/other.js\" classic 5\n"
+          ++ codes "caches 0\n";
       durable =
-    codes "registrations 1\n"
-    ++ codes "registration \"http://127.0.0.1\" \"http://127.0.0.1/\" imports\n"
-    ++ codes " active activated \"http://127.0.0.1/other.js\" classic 5\n"
-    ++ codes "caches 0\n";
+          codes "registrations 1\n"
+          ++ codes "registration \"http://127.0.0.1\" \"http://127.0.0.1/\" imports\n"
+          ++ codes " active activated \"http://127.0.0.1/other.js\" classic 5\n"
+          ++ codes "caches 0\n";
     }
 unfolding digits escape_byte grammar_on_literals steps_on_literals
 row_231 = refl
@@ -495,27 +495,27 @@ row_243 :
     ++ codes "{\"lane\":0,\"do\":\"unregister\",\"client\":9,\"scope\":\"/\"}\n")
     ≡ record {
       transcript =
-    codes "- restarted -> 0 registrations 0 caches\n"
-    ++ codes "L0.0 open -> none\n"
-    ++ codes "L1.0 register -> j0\n"
-    ++ codes "- run j0 -> fetch 0 | mapped r0\n"
-    ++ codes "- fetched j0 -> changed | w0 parsed\n"
-    ++ codes "- evaluated j0 -> installing | w0 installing | settled j0 r0 | updatefound r0\n"
-    ++ codes "- installed j0 -> ok | w0 installed\n"
-    ++ codes "- tryactivate r0 -> w0 | w0 activating\n"
-    ++ codes "L0.1 ready -> r0\n"
-    ++ codes "L0.2 open -> w0\n"
-    ++ codes "L0.3 unregister -> j1\n"
-    ++ codes "L0.4 unregister -> j2 joined j1\n"
-    ++ codes "- run j1 -> finished | unmapped r0 | settled j1 true | settled j2 true\n"
-    ++ codes "- activated w0 -> ok | w0 activated\n"
-    ++ codes "end done\n";
+          codes "- restarted -> 0 registrations 0 caches\n"
+          ++ codes "L0.0 open -> none\n"
+          ++ codes "L1.0 register -> j0\n"
+          ++ codes "- run j0 -> fetch 0 | mapped r0\n"
+          ++ codes "- fetched j0 -> changed | w0 parsed\n"
+          ++ codes "- evaluated j0 -> installing | w0 installing | settled j0 r0 | updatefound r0\n"
+          ++ codes "- installed j0 -> ok | w0 installed\n"
+          ++ codes "- tryactivate r0 -> w0 | w0 activating\n"
+          ++ codes "L0.1 ready -> r0\n"
+          ++ codes "L0.2 open -> w0\n"
+          ++ codes "L0.3 unregister -> j1\n"
+          ++ codes "L0.4 unregister -> j2 joined j1\n"
+          ++ codes "- run j1 -> finished | unmapped r0 | settled j1 true | settled j2 true\n"
+          ++ codes "- activated w0 -> ok | w0 activated\n"
+          ++ codes "end done\n";
       shown =
-    codes "registrations 0\n"
-    ++ codes "caches 0\n";
+          codes "registrations 0\n"
+          ++ codes "caches 0\n";
       durable =
-    codes "registrations 0\n"
-    ++ codes "caches 0\n";
+          codes "registrations 0\n"
+          ++ codes "caches 0\n";
     }
 unfolding digits escape_byte grammar_on_literals steps_on_literals
 row_243 = refl
@@ -537,41 +537,41 @@ row_264 :
     ++ codes "{\"lane\":0,\"do\":\"skipWaiting\",\"client\":8,\"scope\":\"./\",\"slot\":\"installing\"}\n")
     ≡ record {
       transcript =
-    codes "- restarted -> 0 registrations 0 caches\n"
-    ++ codes "L0.0 open -> none\n"
-    ++ codes "L0.1 register -> j0\n"
-    ++ codes "L0.2 open -> none\n"
-    ++ codes "- run j0 -> fetch 0 | mapped r0\n"
-    ++ codes "- fetched j0 -> changed | w0 parsed\n"
-    ++ codes "- evaluated j0 -> installing | w0 installing | settled j0 r0 | updatefound r0\n"
-    ++ codes "- installed j0 -> ok | w0 installed\n"
-    ++ codes "- tryactivate r0 -> w0 | w0 activating\n"
-    ++ codes "L0.3 ready -> r0\n"
-    ++ codes "L0.4 open -> w0\n"
-    ++ codes "- activated w0 -> ok | w0 activated\n"
-    ++ codes "L0.5 begin -> w0\n"
-    ++ codes "L0.6 end -> ok\n"
-    ++ codes "L0.7 open -> w0\n"
-    ++ codes "L0.8 register -> j1\n"
-    ++ codes "- run j1 -> fetch 0\n"
-    ++ codes "- fetched j1 -> changed | w1 parsed\n"
-    ++ codes "- evaluated j1 -> installing | w1 installing | settled j1 r0 | updatefound r0\n"
-    ++ codes "L0.9 await -> r0\n"
-    ++ codes "L0.10 skipWaiting -> ok\n"
-    ++ codes "- installed j1 -> ok | w1 installed\n"
-    ++ codes "- tryactivate r0 -> w1 | w0 redundant | w1 activating | controllerchange c0 | controllerchange c8\n"
-    ++ codes "- activated w1 -> ok | w1 activated\n"
-    ++ codes "end done\n";
+          codes "- restarted -> 0 registrations 0 caches\n"
+          ++ codes "L0.0 open -> none\n"
+          ++ codes "L0.1 register -> j0\n"
+          ++ codes "L0.2 open -> none\n"
+          ++ codes "- run j0 -> fetch 0 | mapped r0\n"
+          ++ codes "- fetched j0 -> changed | w0 parsed\n"
+          ++ codes "- evaluated j0 -> installing | w0 installing | settled j0 r0 | updatefound r0\n"
+          ++ codes "- installed j0 -> ok | w0 installed\n"
+          ++ codes "- tryactivate r0 -> w0 | w0 activating\n"
+          ++ codes "L0.3 ready -> r0\n"
+          ++ codes "L0.4 open -> w0\n"
+          ++ codes "- activated w0 -> ok | w0 activated\n"
+          ++ codes "L0.5 begin -> w0\n"
+          ++ codes "L0.6 end -> ok\n"
+          ++ codes "L0.7 open -> w0\n"
+          ++ codes "L0.8 register -> j1\n"
+          ++ codes "- run j1 -> fetch 0\n"
+          ++ codes "- fetched j1 -> changed | w1 parsed\n"
+          ++ codes "- evaluated j1 -> installing | w1 installing | settled j1 r0 | updatefound r0\n"
+          ++ codes "L0.9 await -> r0\n"
+          ++ codes "L0.10 skipWaiting -> ok\n"
+          ++ codes "- installed j1 -> ok | w1 installed\n"
+          ++ codes "- tryactivate r0 -> w1 | w0 redundant | w1 activating | controllerchange c0 | controllerchange c8\n"
+          ++ codes "- activated w1 -> ok | w1 activated\n"
+          ++ codes "end done\n";
       shown =
-    codes "registrations 1\n"
-    ++ codes "registration \"https://a.test:8443\" \"https://a.test:8443/\" imports\n"
-    ++ codes " active activated \"https://a.test:8443/sw.js\" classic 5\n"
-    ++ codes "caches 0\n";
+          codes "registrations 1\n"
+          ++ codes "registration \"https://a.test:8443\" \"https://a.test:8443/\" imports\n"
+          ++ codes " active activated \"https://a.test:8443/sw.js\" classic 5\n"
+          ++ codes "caches 0\n";
       durable =
-    codes "registrations 1\n"
-    ++ codes "registration \"https://a.test:8443\" \"https://a.test:8443/\" imports\n"
-    ++ codes " active activated \"https://a.test:8443/sw.js\" classic 5\n"
-    ++ codes "caches 0\n";
+          codes "registrations 1\n"
+          ++ codes "registration \"https://a.test:8443\" \"https://a.test:8443/\" imports\n"
+          ++ codes " active activated \"https://a.test:8443/sw.js\" classic 5\n"
+          ++ codes "caches 0\n";
     }
 unfolding digits escape_byte grammar_on_literals steps_on_literals
 row_264 = refl
@@ -587,27 +587,27 @@ row_301 :
     ++ codes "{\"lane\":0,\"do\":\"unregister\",\"client\":8,\"scope\":\"/late0/\"}\n")
     ≡ record {
       transcript =
-    codes "- restarted -> 0 registrations 0 caches\n"
-    ++ codes "L0.0 open -> none\n"
-    ++ codes "L0.1 register -> j0\n"
-    ++ codes "- run j0 -> fetch 0 | mapped r0\n"
-    ++ codes "- fetched j0 -> changed | w0 parsed\n"
-    ++ codes "- evaluated j0 -> installing | w0 installing | settled j0 r0 | updatefound r0\n"
-    ++ codes "- installed j0 -> ok | w0 installed\n"
-    ++ codes "- tryactivate r0 -> w0 | w0 activating\n"
-    ++ codes "L0.2 ready -> r0\n"
-    ++ codes "L0.3 unregister -> j1\n"
-    ++ codes "L0.4 unregister -> j2 joined j1\n"
-    ++ codes "L0.5 unregister -> j3 joined j1\n"
-    ++ codes "- run j1 -> finished | unmapped r0 | settled j1 true | settled j2 true | settled j3 true\n"
-    ++ codes "- activated w0 -> ok | w0 activated | w0 redundant\n"
-    ++ codes "end done\n";
+          codes "- restarted -> 0 registrations 0 caches\n"
+          ++ codes "L0.0 open -> none\n"
+          ++ codes "L0.1 register -> j0\n"
+          ++ codes "- run j0 -> fetch 0 | mapped r0\n"
+          ++ codes "- fetched j0 -> changed | w0 parsed\n"
+          ++ codes "- evaluated j0 -> installing | w0 installing | settled j0 r0 | updatefound r0\n"
+          ++ codes "- installed j0 -> ok | w0 installed\n"
+          ++ codes "- tryactivate r0 -> w0 | w0 activating\n"
+          ++ codes "L0.2 ready -> r0\n"
+          ++ codes "L0.3 unregister -> j1\n"
+          ++ codes "L0.4 unregister -> j2 joined j1\n"
+          ++ codes "L0.5 unregister -> j3 joined j1\n"
+          ++ codes "- run j1 -> finished | unmapped r0 | settled j1 true | settled j2 true | settled j3 true\n"
+          ++ codes "- activated w0 -> ok | w0 activated | w0 redundant\n"
+          ++ codes "end done\n";
       shown =
-    codes "registrations 0\n"
-    ++ codes "caches 0\n";
+          codes "registrations 0\n"
+          ++ codes "caches 0\n";
       durable =
-    codes "registrations 0\n"
-    ++ codes "caches 0\n";
+          codes "registrations 0\n"
+          ++ codes "caches 0\n";
     }
 unfolding digits escape_byte grammar_on_literals steps_on_literals
 row_301 = refl

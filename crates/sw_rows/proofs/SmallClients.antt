@@ -11,14 +11,14 @@ row_000 :
     (codes "")
     ≡ record {
       transcript =
-    codes "- restarted -> 0 registrations 0 caches\n"
-    ++ codes "end done\n";
+          codes "- restarted -> 0 registrations 0 caches\n"
+          ++ codes "end done\n";
       shown =
-    codes "registrations 0\n"
-    ++ codes "caches 0\n";
+          codes "registrations 0\n"
+          ++ codes "caches 0\n";
       durable =
-    codes "registrations 0\n"
-    ++ codes "caches 0\n";
+          codes "registrations 0\n"
+          ++ codes "caches 0\n";
     }
 unfolding digits escape_byte grammar_on_literals steps_on_literals
 row_000 = refl
@@ -28,15 +28,15 @@ row_002 :
     (codes "{\"lane\":0,\"do\":\"begin\",\"client\":6,\"event\":4}\n")
     ≡ record {
       transcript =
-    codes "- restarted -> 0 registrations 0 caches\n"
-    ++ codes "L0.0 begin -> NoClient\n"
-    ++ codes "end done\n";
+          codes "- restarted -> 0 registrations 0 caches\n"
+          ++ codes "L0.0 begin -> NoClient\n"
+          ++ codes "end done\n";
       shown =
-    codes "registrations 0\n"
-    ++ codes "caches 0\n";
+          codes "registrations 0\n"
+          ++ codes "caches 0\n";
       durable =
-    codes "registrations 0\n"
-    ++ codes "caches 0\n";
+          codes "registrations 0\n"
+          ++ codes "caches 0\n";
     }
 unfolding digits escape_byte grammar_on_literals steps_on_literals
 row_002 = refl
@@ -46,15 +46,15 @@ row_005 :
     (codes "{\"lane\":2,\"do\":\"open\",\"client\":5,\"url\":\"https://a.test/app/x\",\"partition\":\"q.top\"}\n")
     ≡ record {
       transcript =
-    codes "- restarted -> 0 registrations 0 caches\n"
-    ++ codes "L2.0 open -> none\n"
-    ++ codes "end done\n";
+          codes "- restarted -> 0 registrations 0 caches\n"
+          ++ codes "L2.0 open -> none\n"
+          ++ codes "end done\n";
       shown =
-    codes "registrations 0\n"
-    ++ codes "caches 0\n";
+          codes "registrations 0\n"
+          ++ codes "caches 0\n";
       durable =
-    codes "registrations 0\n"
-    ++ codes "caches 0\n";
+          codes "registrations 0\n"
+          ++ codes "caches 0\n";
     }
 unfolding digits escape_byte grammar_on_literals steps_on_literals
 row_005 = refl
@@ -65,16 +65,16 @@ row_024 :
     ++ codes "{\"lane\":2,\"do\":\"open\",\"client\":2,\"url\":\"https://a.test/f57/\"}\n")
     ≡ record {
       transcript =
-    codes "- restarted -> 0 registrations 0 caches\n"
-    ++ codes "L1.0 open -> none\n"
-    ++ codes "L2.0 open -> InUse\n"
-    ++ codes "end done\n";
+          codes "- restarted -> 0 registrations 0 caches\n"
+          ++ codes "L1.0 open -> none\n"
+          ++ codes "L2.0 open -> InUse\n"
+          ++ codes "end done\n";
       shown =
-    codes "registrations 0\n"
-    ++ codes "caches 0\n";
+          codes "registrations 0\n"
+          ++ codes "caches 0\n";
       durable =
-    codes "registrations 0\n"
-    ++ codes "caches 0\n";
+          codes "registrations 0\n"
+          ++ codes "caches 0\n";
     }
 unfolding digits escape_byte grammar_on_literals steps_on_literals
 row_024 = refl
@@ -85,16 +85,16 @@ row_042 :
     ++ codes "{\"lane\":0,\"do\":\"close\",\"client\":32}\n")
     ≡ record {
       transcript =
-    codes "- restarted -> 0 registrations 0 caches\n"
-    ++ codes "L0.0 open -> none\n"
-    ++ codes "L0.1 close -> ok\n"
-    ++ codes "end done\n";
+          codes "- restarted -> 0 registrations 0 caches\n"
+          ++ codes "L0.0 open -> none\n"
+          ++ codes "L0.1 close -> ok\n"
+          ++ codes "end done\n";
       shown =
-    codes "registrations 0\n"
-    ++ codes "caches 0\n";
+          codes "registrations 0\n"
+          ++ codes "caches 0\n";
       durable =
-    codes "registrations 0\n"
-    ++ codes "caches 0\n";
+          codes "registrations 0\n"
+          ++ codes "caches 0\n";
     }
 unfolding digits escape_byte grammar_on_literals steps_on_literals
 row_042 = refl
@@ -104,15 +104,15 @@ row_052 :
     (codes "{\"lane\":0,\"do\":\"end\",\"event\":1}\n")
     ≡ record {
       transcript =
-    codes "- restarted -> 0 registrations 0 caches\n"
-    ++ codes "L0.0 end -> NoEvent\n"
-    ++ codes "end done\n";
+          codes "- restarted -> 0 registrations 0 caches\n"
+          ++ codes "L0.0 end -> NoEvent\n"
+          ++ codes "end done\n";
       shown =
-    codes "registrations 0\n"
-    ++ codes "caches 0\n";
+          codes "registrations 0\n"
+          ++ codes "caches 0\n";
       durable =
-    codes "registrations 0\n"
-    ++ codes "caches 0\n";
+          codes "registrations 0\n"
+          ++ codes "caches 0\n";
     }
 unfolding digits escape_byte grammar_on_literals steps_on_literals
 row_052 = refl
@@ -123,16 +123,16 @@ row_060 :
     ++ codes "{\"lane\":1,\"do\":\"registrations\",\"client\":4}\n")
     ≡ record {
       transcript =
-    codes "- restarted -> 0 registrations 0 caches\n"
-    ++ codes "L1.0 open -> none\n"
-    ++ codes "L1.1 registrations -> 0\n"
-    ++ codes "end done\n";
+          codes "- restarted -> 0 registrations 0 caches\n"
+          ++ codes "L1.0 open -> none\n"
+          ++ codes "L1.1 registrations -> 0\n"
+          ++ codes "end done\n";
       shown =
-    codes "registrations 0\n"
-    ++ codes "caches 0\n";
+          codes "registrations 0\n"
+          ++ codes "caches 0\n";
       durable =
-    codes "registrations 0\n"
-    ++ codes "caches 0\n";
+          codes "registrations 0\n"
+          ++ codes "caches 0\n";
     }
 unfolding digits escape_byte grammar_on_literals steps_on_literals
 row_060 = refl
@@ -143,16 +143,16 @@ row_062 :
     ++ codes "{\"lane\":1,\"do\":\"registration\",\"client\":7,\"url\":\"/d/e/q\"}\n")
     ≡ record {
       transcript =
-    codes "- restarted -> 0 registrations 0 caches\n"
-    ++ codes "L0.0 open -> none\n"
-    ++ codes "L1.0 registration -> undefined\n"
-    ++ codes "end done\n";
+          codes "- restarted -> 0 registrations 0 caches\n"
+          ++ codes "L0.0 open -> none\n"
+          ++ codes "L1.0 registration -> undefined\n"
+          ++ codes "end done\n";
       shown =
-    codes "registrations 0\n"
-    ++ codes "caches 0\n";
+          codes "registrations 0\n"
+          ++ codes "caches 0\n";
       durable =
-    codes "registrations 0\n"
-    ++ codes "caches 0\n";
+          codes "registrations 0\n"
+          ++ codes "caches 0\n";
     }
 unfolding digits escape_byte grammar_on_literals steps_on_literals
 row_062 = refl
@@ -166,21 +166,21 @@ row_065 :
     ++ codes "{\"lane\":0,\"do\":\"begin\",\"client\":4,\"event\":4}\n")
     ≡ record {
       transcript =
-    codes "- restarted -> 0 registrations 0 caches\n"
-    ++ codes "L0.0 open -> none\n"
-    ++ codes "L0.1 register -> j0\n"
-    ++ codes "L2.0 open -> none\n"
-    ++ codes "- run j0 -> fetch 0 | mapped r0\n"
-    ++ codes "- fetched j0 -> rejected | settled j0 TypeError network | unmapped r0\n"
-    ++ codes "L0.2 await -> TypeError network\n"
-    ++ codes "L0.3 begin -> NoController\n"
-    ++ codes "end done\n";
+          codes "- restarted -> 0 registrations 0 caches\n"
+          ++ codes "L0.0 open -> none\n"
+          ++ codes "L0.1 register -> j0\n"
+          ++ codes "L2.0 open -> none\n"
+          ++ codes "- run j0 -> fetch 0 | mapped r0\n"
+          ++ codes "- fetched j0 -> rejected | settled j0 TypeError network | unmapped r0\n"
+          ++ codes "L0.2 await -> TypeError network\n"
+          ++ codes "L0.3 begin -> NoController\n"
+          ++ codes "end done\n";
       shown =
-    codes "registrations 0\n"
-    ++ codes "caches 0\n";
+          codes "registrations 0\n"
+          ++ codes "caches 0\n";
       durable =
-    codes "registrations 0\n"
-    ++ codes "caches 0\n";
+          codes "registrations 0\n"
+          ++ codes "caches 0\n";
     }
 unfolding digits escape_byte grammar_on_literals steps_on_literals
 row_065 = refl
@@ -190,15 +190,15 @@ row_100 :
     (codes "{\"lane\":0,\"do\":\"registration\",\"client\":5,\"url\":\"/app/x/y?q#f\"}\n")
     ≡ record {
       transcript =
-    codes "- restarted -> 0 registrations 0 caches\n"
-    ++ codes "L0.0 registration -> NoClient\n"
-    ++ codes "end done\n";
+          codes "- restarted -> 0 registrations 0 caches\n"
+          ++ codes "L0.0 registration -> NoClient\n"
+          ++ codes "end done\n";
       shown =
-    codes "registrations 0\n"
-    ++ codes "caches 0\n";
+          codes "registrations 0\n"
+          ++ codes "caches 0\n";
       durable =
-    codes "registrations 0\n"
-    ++ codes "caches 0\n";
+          codes "registrations 0\n"
+          ++ codes "caches 0\n";
     }
 unfolding digits escape_byte grammar_on_literals steps_on_literals
 row_100 = refl
@@ -208,15 +208,15 @@ row_113 :
     (codes "{\"lane\":0,\"do\":\"ready\",\"client\":6}\n")
     ≡ record {
       transcript =
-    codes "- restarted -> 0 registrations 0 caches\n"
-    ++ codes "L0.0 ready -> NoClient\n"
-    ++ codes "end done\n";
+          codes "- restarted -> 0 registrations 0 caches\n"
+          ++ codes "L0.0 ready -> NoClient\n"
+          ++ codes "end done\n";
       shown =
-    codes "registrations 0\n"
-    ++ codes "caches 0\n";
+          codes "registrations 0\n"
+          ++ codes "caches 0\n";
       durable =
-    codes "registrations 0\n"
-    ++ codes "caches 0\n";
+          codes "registrations 0\n"
+          ++ codes "caches 0\n";
     }
 unfolding digits escape_byte grammar_on_literals steps_on_literals
 row_113 = refl
@@ -233,31 +233,31 @@ row_114 :
     ++ codes "{\"lane\":1,\"do\":\"begin\",\"client\":30,\"event\":3}\n")
     ≡ record {
       transcript =
-    codes "- restarted -> 0 registrations 0 caches\n"
-    ++ codes "L1.0 open -> none\n"
-    ++ codes "L1.1 register -> j0\n"
-    ++ codes "L1.2 open -> none\n"
-    ++ codes "- run j0 -> fetch 0 | mapped r0\n"
-    ++ codes "- fetched j0 -> changed | w0 parsed\n"
-    ++ codes "- evaluated j0 -> installing | w0 installing | settled j0 r0 | updatefound r0\n"
-    ++ codes "- installed j0 -> ok | w0 installed\n"
-    ++ codes "- tryactivate r0 -> w0 | w0 activating\n"
-    ++ codes "L1.3 ready -> r0\n"
-    ++ codes "L1.4 close -> ok\n"
-    ++ codes "L1.5 open -> w0\n"
-    ++ codes "- activated w0 -> ok | w0 activated\n"
-    ++ codes "L1.6 begin -> w0\n"
-    ++ codes "end done\n";
+          codes "- restarted -> 0 registrations 0 caches\n"
+          ++ codes "L1.0 open -> none\n"
+          ++ codes "L1.1 register -> j0\n"
+          ++ codes "L1.2 open -> none\n"
+          ++ codes "- run j0 -> fetch 0 | mapped r0\n"
+          ++ codes "- fetched j0 -> changed | w0 parsed\n"
+          ++ codes "- evaluated j0 -> installing | w0 installing | settled j0 r0 | updatefound r0\n"
+          ++ codes "- installed j0 -> ok | w0 installed\n"
+          ++ codes "- tryactivate r0 -> w0 | w0 activating\n"
+          ++ codes "L1.3 ready -> r0\n"
+          ++ codes "L1.4 close -> ok\n"
+          ++ codes "L1.5 open -> w0\n"
+          ++ codes "- activated w0 -> ok | w0 activated\n"
+          ++ codes "L1.6 begin -> w0\n"
+          ++ codes "end done\n";
       shown =
-    codes "registrations 1\n"
-    ++ codes "registration \"http://127.9.0.1:99\" \"http://127.9.0.1:99/f75/\" imports\n"
-    ++ codes " active activated \"http://127.9.0.1:99/f75/sw57.js\" classic 9\n"
-    ++ codes "caches 0\n";
+          codes "registrations 1\n"
+          ++ codes "registration \"http://127.9.0.1:99\" \"http://127.9.0.1:99/f75/\" imports\n"
+          ++ codes " active activated \"http://127.9.0.1:99/f75/sw57.js\" classic 9\n"
+          ++ codes "caches 0\n";
       durable =
-    codes "registrations 1\n"
-    ++ codes "registration \"http://127.9.0.1:99\" \"http://127.9.0.1:99/f75/\" imports\n"
-    ++ codes " active activated \"http://127.9.0.1:99/f75/sw57.js\" classic 9\n"
-    ++ codes "caches 0\n";
+          codes "registrations 1\n"
+          ++ codes "registration \"http://127.9.0.1:99\" \"http://127.9.0.1:99/f75/\" imports\n"
+          ++ codes " active activated \"http://127.9.0.1:99/f75/sw57.js\" classic 9\n"
+          ++ codes "caches 0\n";
     }
 unfolding digits escape_byte grammar_on_literals steps_on_literals
 row_114 = refl
@@ -280,38 +280,38 @@ row_115 :
     ++ codes "{\"lane\":1,\"do\":\"end\",\"event\":3}\n")
     ≡ record {
       transcript =
-    codes "- restarted -> 0 registrations 0 caches\n"
-    ++ codes "L1.0 open -> none\n"
-    ++ codes "L1.1 register -> j0\n"
-    ++ codes "L1.2 open -> none\n"
-    ++ codes "- run j0 -> fetch 0 | mapped r0\n"
-    ++ codes "- fetched j0 -> changed | w0 parsed\n"
-    ++ codes "- evaluated j0 -> installing | w0 installing | settled j0 r0 | updatefound r0\n"
-    ++ codes "- installed j0 -> ok | w0 installed\n"
-    ++ codes "- tryactivate r0 -> w0 | w0 activating\n"
-    ++ codes "L1.3 ready -> r0\n"
-    ++ codes "L1.4 close -> ok\n"
-    ++ codes "L1.5 open -> w0\n"
-    ++ codes "L1.6 update -> j1\n"
-    ++ codes "- run j1 -> fetch 1\n"
-    ++ codes "- fetched j1 -> changed | w1 parsed\n"
-    ++ codes "- evaluated j1 -> installing | w1 installing | settled j1 r0 | updatefound r0\n"
-    ++ codes "- installed j1 -> ok | w1 installed\n"
-    ++ codes "- tryactivate r0 -> none\n"
-    ++ codes "- activated w0 -> ok | w0 activated\n"
-    ++ codes "L1.7 begin -> w0\n"
-    ++ codes "L1.8 unregister -> j2\n"
-    ++ codes "- run j2 -> finished | unmapped r0 | settled j2 true\n"
-    ++ codes "L1.9 await -> true\n"
-    ++ codes "L1.10 close -> ok\n"
-    ++ codes "L1.11 end -> ok | w1 redundant | w0 redundant\n"
-    ++ codes "end done\n";
+          codes "- restarted -> 0 registrations 0 caches\n"
+          ++ codes "L1.0 open -> none\n"
+          ++ codes "L1.1 register -> j0\n"
+          ++ codes "L1.2 open -> none\n"
+          ++ codes "- run j0 -> fetch 0 | mapped r0\n"
+          ++ codes "- fetched j0 -> changed | w0 parsed\n"
+          ++ codes "- evaluated j0 -> installing | w0 installing | settled j0 r0 | updatefound r0\n"
+          ++ codes "- installed j0 -> ok | w0 installed\n"
+          ++ codes "- tryactivate r0 -> w0 | w0 activating\n"
+          ++ codes "L1.3 ready -> r0\n"
+          ++ codes "L1.4 close -> ok\n"
+          ++ codes "L1.5 open -> w0\n"
+          ++ codes "L1.6 update -> j1\n"
+          ++ codes "- run j1 -> fetch 1\n"
+          ++ codes "- fetched j1 -> changed | w1 parsed\n"
+          ++ codes "- evaluated j1 -> installing | w1 installing | settled j1 r0 | updatefound r0\n"
+          ++ codes "- installed j1 -> ok | w1 installed\n"
+          ++ codes "- tryactivate r0 -> none\n"
+          ++ codes "- activated w0 -> ok | w0 activated\n"
+          ++ codes "L1.7 begin -> w0\n"
+          ++ codes "L1.8 unregister -> j2\n"
+          ++ codes "- run j2 -> finished | unmapped r0 | settled j2 true\n"
+          ++ codes "L1.9 await -> true\n"
+          ++ codes "L1.10 close -> ok\n"
+          ++ codes "L1.11 end -> ok | w1 redundant | w0 redundant\n"
+          ++ codes "end done\n";
       shown =
-    codes "registrations 0\n"
-    ++ codes "caches 0\n";
+          codes "registrations 0\n"
+          ++ codes "caches 0\n";
       durable =
-    codes "registrations 0\n"
-    ++ codes "caches 0\n";
+          codes "registrations 0\n"
+          ++ codes "caches 0\n";
     }
 unfolding digits escape_byte grammar_on_literals steps_on_literals
 row_115 = refl
@@ -321,15 +321,15 @@ row_121 :
     (codes "{\"lane\":2,\"do\":\"open\",\"client\":38,\"url\":\"http://[\"}\n")
     ≡ record {
       transcript =
-    codes "- restarted -> 0 registrations 0 caches\n"
-    ++ codes "L2.0 open -> TypeError unparsed\n"
-    ++ codes "end done\n";
+          codes "- restarted -> 0 registrations 0 caches\n"
+          ++ codes "L2.0 open -> TypeError unparsed\n"
+          ++ codes "end done\n";
       shown =
-    codes "registrations 0\n"
-    ++ codes "caches 0\n";
+          codes "registrations 0\n"
+          ++ codes "caches 0\n";
       durable =
-    codes "registrations 0\n"
-    ++ codes "caches 0\n";
+          codes "registrations 0\n"
+          ++ codes "caches 0\n";
     }
 unfolding digits escape_byte grammar_on_literals steps_on_literals
 row_121 = refl
@@ -339,15 +339,15 @@ row_122 :
     (codes "{\"lane\":2,\"do\":\"close\",\"client\":38}\n")
     ≡ record {
       transcript =
-    codes "- restarted -> 0 registrations 0 caches\n"
-    ++ codes "L2.0 close -> NoClient\n"
-    ++ codes "end done\n";
+          codes "- restarted -> 0 registrations 0 caches\n"
+          ++ codes "L2.0 close -> NoClient\n"
+          ++ codes "end done\n";
       shown =
-    codes "registrations 0\n"
-    ++ codes "caches 0\n";
+          codes "registrations 0\n"
+          ++ codes "caches 0\n";
       durable =
-    codes "registrations 0\n"
-    ++ codes "caches 0\n";
+          codes "registrations 0\n"
+          ++ codes "caches 0\n";
     }
 unfolding digits escape_byte grammar_on_literals steps_on_literals
 row_122 = refl
@@ -357,15 +357,15 @@ row_142 :
     (codes "{\"lane\":1,\"do\":\"open\",\"client\":26,\"url\":\"ftp://a.test/\"}\n")
     ≡ record {
       transcript =
-    codes "- restarted -> 0 registrations 0 caches\n"
-    ++ codes "L1.0 open -> TypeError scheme\n"
-    ++ codes "end done\n";
+          codes "- restarted -> 0 registrations 0 caches\n"
+          ++ codes "L1.0 open -> TypeError scheme\n"
+          ++ codes "end done\n";
       shown =
-    codes "registrations 0\n"
-    ++ codes "caches 0\n";
+          codes "registrations 0\n"
+          ++ codes "caches 0\n";
       durable =
-    codes "registrations 0\n"
-    ++ codes "caches 0\n";
+          codes "registrations 0\n"
+          ++ codes "caches 0\n";
     }
 unfolding digits escape_byte grammar_on_literals steps_on_literals
 row_142 = refl
@@ -376,15 +376,15 @@ row_145 :
     ++ codes "{\"lane\":0,\"do\":\"ready\",\"client\":7}\n")
     ≡ record {
       transcript =
-    codes "- restarted -> 0 registrations 0 caches\n"
-    ++ codes "L0.0 open -> none\n"
-    ++ codes "end stalled 0\n";
+          codes "- restarted -> 0 registrations 0 caches\n"
+          ++ codes "L0.0 open -> none\n"
+          ++ codes "end stalled 0\n";
       shown =
-    codes "registrations 0\n"
-    ++ codes "caches 0\n";
+          codes "registrations 0\n"
+          ++ codes "caches 0\n";
       durable =
-    codes "registrations 0\n"
-    ++ codes "caches 0\n";
+          codes "registrations 0\n"
+          ++ codes "caches 0\n";
     }
 unfolding digits escape_byte grammar_on_literals steps_on_literals
 row_145 = refl
@@ -395,16 +395,16 @@ row_154 :
     ++ codes "{\"lane\":1,\"do\":\"registration\",\"client\":9,\"url\":\"mailto:x\"}\n")
     ≡ record {
       transcript =
-    codes "- restarted -> 0 registrations 0 caches\n"
-    ++ codes "L1.0 open -> none\n"
-    ++ codes "L1.1 registration -> SecurityError origin\n"
-    ++ codes "end done\n";
+          codes "- restarted -> 0 registrations 0 caches\n"
+          ++ codes "L1.0 open -> none\n"
+          ++ codes "L1.1 registration -> SecurityError origin\n"
+          ++ codes "end done\n";
       shown =
-    codes "registrations 0\n"
-    ++ codes "caches 0\n";
+          codes "registrations 0\n"
+          ++ codes "caches 0\n";
       durable =
-    codes "registrations 0\n"
-    ++ codes "caches 0\n";
+          codes "registrations 0\n"
+          ++ codes "caches 0\n";
     }
 unfolding digits escape_byte grammar_on_literals steps_on_literals
 row_154 = refl
@@ -422,32 +422,32 @@ row_162 :
     ++ codes "{\"lane\":1,\"do\":\"end\",\"event\":3}\n")
     ≡ record {
       transcript =
-    codes "- restarted -> 0 registrations 0 caches\n"
-    ++ codes "L1.0 open -> none\n"
-    ++ codes "L1.1 register -> j0\n"
-    ++ codes "L1.2 open -> none\n"
-    ++ codes "- run j0 -> fetch 0 | mapped r0\n"
-    ++ codes "- fetched j0 -> changed | w0 parsed\n"
-    ++ codes "- evaluated j0 -> installing | w0 installing | settled j0 r0 | updatefound r0\n"
-    ++ codes "- installed j0 -> ok | w0 installed\n"
-    ++ codes "- tryactivate r0 -> w0 | w0 activating\n"
-    ++ codes "L1.3 ready -> r0\n"
-    ++ codes "L1.4 close -> ok\n"
-    ++ codes "L1.5 open -> w0\n"
-    ++ codes "- activated w0 -> ok | w0 activated\n"
-    ++ codes "L1.6 begin -> w0\n"
-    ++ codes "L1.7 end -> ok\n"
-    ++ codes "end done\n";
+          codes "- restarted -> 0 registrations 0 caches\n"
+          ++ codes "L1.0 open -> none\n"
+          ++ codes "L1.1 register -> j0\n"
+          ++ codes "L1.2 open -> none\n"
+          ++ codes "- run j0 -> fetch 0 | mapped r0\n"
+          ++ codes "- fetched j0 -> changed | w0 parsed\n"
+          ++ codes "- evaluated j0 -> installing | w0 installing | settled j0 r0 | updatefound r0\n"
+          ++ codes "- installed j0 -> ok | w0 installed\n"
+          ++ codes "- tryactivate r0 -> w0 | w0 activating\n"
+          ++ codes "L1.3 ready -> r0\n"
+          ++ codes "L1.4 close -> ok\n"
+          ++ codes "L1.5 open -> w0\n"
+          ++ codes "- activated w0 -> ok | w0 activated\n"
+          ++ codes "L1.6 begin -> w0\n"
+          ++ codes "L1.7 end -> ok\n"
+          ++ codes "end done\n";
       shown =
-    codes "registrations 1\n"
-    ++ codes "registration \"http://127.9.0.1:99\" \"http://127.9.0.1:99/f39/\" imports\n"
-    ++ codes " active activated \"http://127.9.0.1:99/f39/sw67.js\" classic 9\n"
-    ++ codes "caches 0\n";
+          codes "registrations 1\n"
+          ++ codes "registration \"http://127.9.0.1:99\" \"http://127.9.0.1:99/f39/\" imports\n"
+          ++ codes " active activated \"http://127.9.0.1:99/f39/sw67.js\" classic 9\n"
+          ++ codes "caches 0\n";
       durable =
-    codes "registrations 1\n"
-    ++ codes "registration \"http://127.9.0.1:99\" \"http://127.9.0.1:99/f39/\" imports\n"
-    ++ codes " active activated \"http://127.9.0.1:99/f39/sw67.js\" classic 9\n"
-    ++ codes "caches 0\n";
+          codes "registrations 1\n"
+          ++ codes "registration \"http://127.9.0.1:99\" \"http://127.9.0.1:99/f39/\" imports\n"
+          ++ codes " active activated \"http://127.9.0.1:99/f39/sw67.js\" classic 9\n"
+          ++ codes "caches 0\n";
     }
 unfolding digits escape_byte grammar_on_literals steps_on_literals
 row_162 = refl
@@ -457,15 +457,15 @@ row_180 :
     (codes "{\"lane\":0,\"do\":\"registrations\",\"client\":5}\n")
     ≡ record {
       transcript =
-    codes "- restarted -> 0 registrations 0 caches\n"
-    ++ codes "L0.0 registrations -> NoClient\n"
-    ++ codes "end done\n";
+          codes "- restarted -> 0 registrations 0 caches\n"
+          ++ codes "L0.0 registrations -> NoClient\n"
+          ++ codes "end done\n";
       shown =
-    codes "registrations 0\n"
-    ++ codes "caches 0\n";
+          codes "registrations 0\n"
+          ++ codes "caches 0\n";
       durable =
-    codes "registrations 0\n"
-    ++ codes "caches 0\n";
+          codes "registrations 0\n"
+          ++ codes "caches 0\n";
     }
 unfolding digits escape_byte grammar_on_literals steps_on_literals
 row_180 = refl
@@ -476,16 +476,16 @@ row_199 :
     ++ codes "{\"lane\":1,\"do\":\"registration\",\"client\":6,\"url\":\"http://[\"}\n")
     ≡ record {
       transcript =
-    codes "- restarted -> 0 registrations 0 caches\n"
-    ++ codes "L1.0 open -> none\n"
-    ++ codes "L1.1 registration -> TypeError unparsed\n"
-    ++ codes "end done\n";
+          codes "- restarted -> 0 registrations 0 caches\n"
+          ++ codes "L1.0 open -> none\n"
+          ++ codes "L1.1 registration -> TypeError unparsed\n"
+          ++ codes "end done\n";
       shown =
-    codes "registrations 0\n"
-    ++ codes "caches 0\n";
+          codes "registrations 0\n"
+          ++ codes "caches 0\n";
       durable =
-    codes "registrations 0\n"
-    ++ codes "caches 0\n";
+          codes "registrations 0\n"
+          ++ codes "caches 0\n";
     }
 unfolding digits escape_byte grammar_on_literals steps_on_literals
 row_199 = refl
@@ -502,31 +502,31 @@ row_253 :
     ++ codes "{\"lane\":0,\"do\":\"begin\",\"client\":7,\"event\":4}\n")
     ≡ record {
       transcript =
-    codes "- restarted -> 0 registrations 0 caches\n"
-    ++ codes "L0.0 open -> none\n"
-    ++ codes "L0.1 register -> j0\n"
-    ++ codes "- run j0 -> fetch 0 | mapped r0\n"
-    ++ codes "- fetched j0 -> changed | w0 parsed\n"
-    ++ codes "- evaluated j0 -> installing | w0 installing | settled j0 r0 | updatefound r0\n"
-    ++ codes "- installed j0 -> ok | w0 installed\n"
-    ++ codes "- tryactivate r0 -> w0 | w0 activating\n"
-    ++ codes "L0.2 ready -> r0\n"
-    ++ codes "L0.3 open -> w0\n"
-    ++ codes "- activated w0 -> ok | w0 activated\n"
-    ++ codes "L0.4 begin -> w0\n"
-    ++ codes "L0.5 open -> w0\n"
-    ++ codes "L0.6 begin -> InUse\n"
-    ++ codes "end done\n";
+          codes "- restarted -> 0 registrations 0 caches\n"
+          ++ codes "L0.0 open -> none\n"
+          ++ codes "L0.1 register -> j0\n"
+          ++ codes "- run j0 -> fetch 0 | mapped r0\n"
+          ++ codes "- fetched j0 -> changed | w0 parsed\n"
+          ++ codes "- evaluated j0 -> installing | w0 installing | settled j0 r0 | updatefound r0\n"
+          ++ codes "- installed j0 -> ok | w0 installed\n"
+          ++ codes "- tryactivate r0 -> w0 | w0 activating\n"
+          ++ codes "L0.2 ready -> r0\n"
+          ++ codes "L0.3 open -> w0\n"
+          ++ codes "- activated w0 -> ok | w0 activated\n"
+          ++ codes "L0.4 begin -> w0\n"
+          ++ codes "L0.5 open -> w0\n"
+          ++ codes "L0.6 begin -> InUse\n"
+          ++ codes "end done\n";
       shown =
-    codes "registrations 1\n"
-    ++ codes "registration \"https://a.test:8443\" \"https://a.test:8443/\" none\n"
-    ++ codes " active activated \"https://a.test:8443/sw.js\" classic 5\n"
-    ++ codes "caches 0\n";
+          codes "registrations 1\n"
+          ++ codes "registration \"https://a.test:8443\" \"https://a.test:8443/\" none\n"
+          ++ codes " active activated \"https://a.test:8443/sw.js\" classic 5\n"
+          ++ codes "caches 0\n";
       durable =
-    codes "registrations 1\n"
-    ++ codes "registration \"https://a.test:8443\" \"https://a.test:8443/\" none\n"
-    ++ codes " active activated \"https://a.test:8443/sw.js\" classic 5\n"
-    ++ codes "caches 0\n";
+          codes "registrations 1\n"
+          ++ codes "registration \"https://a.test:8443\" \"https://a.test:8443/\" none\n"
+          ++ codes " active activated \"https://a.test:8443/sw.js\" classic 5\n"
+          ++ codes "caches 0\n";
     }
 unfolding digits escape_byte grammar_on_literals steps_on_literals
 row_253 = refl
@@ -556,54 +556,54 @@ row_278 :
     ++ codes "{\"lane\":0,\"do\":\"close\",\"client\":32}\n")
     ≡ record {
       transcript =
-    codes "- restarted -> 0 registrations 0 caches\n"
-    ++ codes "L0.0 open -> none\n"
-    ++ codes "L0.1 register -> j0\n"
-    ++ codes "L0.2 open -> none\n"
-    ++ codes "- run j0 -> fetch 0 | mapped r0\n"
-    ++ codes "- fetched j0 -> changed | w0 parsed\n"
-    ++ codes "- evaluated j0 -> installing | w0 installing | settled j0 r0 | updatefound r0\n"
-    ++ codes "- installed j0 -> ok | w0 installed\n"
-    ++ codes "- tryactivate r0 -> w0 | w0 activating\n"
-    ++ codes "L0.3 ready -> r0\n"
-    ++ codes "L0.4 close -> ok\n"
-    ++ codes "L0.5 open -> w0\n"
-    ++ codes "- activated w0 -> ok | w0 activated\n"
-    ++ codes "L0.6 begin -> w0\n"
-    ++ codes "L0.7 open -> none\n"
-    ++ codes "L0.8 register -> j1\n"
-    ++ codes "L0.9 open -> none\n"
-    ++ codes "- run j1 -> fetch 0 | mapped r1\n"
-    ++ codes "- fetched j1 -> changed | w1 parsed\n"
-    ++ codes "- evaluated j1 -> installing | w1 installing | settled j1 r1 | updatefound r1\n"
-    ++ codes "- installed j1 -> ok | w1 installed\n"
-    ++ codes "- tryactivate r1 -> w1 | w1 activating\n"
-    ++ codes "L0.10 ready -> r1\n"
-    ++ codes "L0.11 close -> ok\n"
-    ++ codes "L0.12 open -> w1\n"
-    ++ codes "L0.13 update -> j2\n"
-    ++ codes "- run j2 -> fetch 1\n"
-    ++ codes "- fetched j2 -> changed | w2 parsed\n"
-    ++ codes "- evaluated j2 -> installing | w2 installing | settled j2 r1 | updatefound r1\n"
-    ++ codes "- installed j2 -> ok | w2 installed\n"
-    ++ codes "- tryactivate r1 -> none\n"
-    ++ codes "- activated w1 -> ok | w1 activated\n"
-    ++ codes "L0.14 begin -> InUse\n"
-    ++ codes "L0.15 unregister -> j3\n"
-    ++ codes "- run j3 -> finished | unmapped r1 | settled j3 true\n"
-    ++ codes "L0.16 await -> true\n"
-    ++ codes "L0.17 close -> ok | w2 redundant | w1 redundant\n"
-    ++ codes "end done\n";
+          codes "- restarted -> 0 registrations 0 caches\n"
+          ++ codes "L0.0 open -> none\n"
+          ++ codes "L0.1 register -> j0\n"
+          ++ codes "L0.2 open -> none\n"
+          ++ codes "- run j0 -> fetch 0 | mapped r0\n"
+          ++ codes "- fetched j0 -> changed | w0 parsed\n"
+          ++ codes "- evaluated j0 -> installing | w0 installing | settled j0 r0 | updatefound r0\n"
+          ++ codes "- installed j0 -> ok | w0 installed\n"
+          ++ codes "- tryactivate r0 -> w0 | w0 activating\n"
+          ++ codes "L0.3 ready -> r0\n"
+          ++ codes "L0.4 close -> ok\n"
+          ++ codes "L0.5 open -> w0\n"
+          ++ codes "- activated w0 -> ok | w0 activated\n"
+          ++ codes "L0.6 begin -> w0\n"
+          ++ codes "L0.7 open -> none\n"
+          ++ codes "L0.8 register -> j1\n"
+          ++ codes "L0.9 open -> none\n"
+          ++ codes "- run j1 -> fetch 0 | mapped r1\n"
+          ++ codes "- fetched j1 -> changed | w1 parsed\n"
+          ++ codes "- evaluated j1 -> installing | w1 installing | settled j1 r1 | updatefound r1\n"
+          ++ codes "- installed j1 -> ok | w1 installed\n"
+          ++ codes "- tryactivate r1 -> w1 | w1 activating\n"
+          ++ codes "L0.10 ready -> r1\n"
+          ++ codes "L0.11 close -> ok\n"
+          ++ codes "L0.12 open -> w1\n"
+          ++ codes "L0.13 update -> j2\n"
+          ++ codes "- run j2 -> fetch 1\n"
+          ++ codes "- fetched j2 -> changed | w2 parsed\n"
+          ++ codes "- evaluated j2 -> installing | w2 installing | settled j2 r1 | updatefound r1\n"
+          ++ codes "- installed j2 -> ok | w2 installed\n"
+          ++ codes "- tryactivate r1 -> none\n"
+          ++ codes "- activated w1 -> ok | w1 activated\n"
+          ++ codes "L0.14 begin -> InUse\n"
+          ++ codes "L0.15 unregister -> j3\n"
+          ++ codes "- run j3 -> finished | unmapped r1 | settled j3 true\n"
+          ++ codes "L0.16 await -> true\n"
+          ++ codes "L0.17 close -> ok | w2 redundant | w1 redundant\n"
+          ++ codes "end done\n";
       shown =
-    codes "registrations 1\n"
-    ++ codes "registration \"https://a.test:8443\" \"https://a.test:8443/f97/\" imports\n"
-    ++ codes " active activated \"https://a.test:8443/f97/sw90.js\" classic 9\n"
-    ++ codes "caches 0\n";
+          codes "registrations 1\n"
+          ++ codes "registration \"https://a.test:8443\" \"https://a.test:8443/f97/\" imports\n"
+          ++ codes " active activated \"https://a.test:8443/f97/sw90.js\" classic 9\n"
+          ++ codes "caches 0\n";
       durable =
-    codes "registrations 1\n"
-    ++ codes "registration \"https://a.test:8443\" \"https://a.test:8443/f97/\" imports\n"
-    ++ codes " active activated \"https://a.test:8443/f97/sw90.js\" classic 9\n"
-    ++ codes "caches 0\n";
+          codes "registrations 1\n"
+          ++ codes "registration \"https://a.test:8443\" \"https://a.test:8443/f97/\" imports\n"
+          ++ codes " active activated \"https://a.test:8443/f97/sw90.js\" classic 9\n"
+          ++ codes "caches 0\n";
     }
 unfolding digits escape_byte grammar_on_literals steps_on_literals
 row_278 = refl

@@ -12,18 +12,18 @@ row_012 :
     ++ codes "{\"lane\":2,\"do\":\"register\",\"client\":5,\"script\":\"/app/claim.js\"}\n")
     ≡ record {
       transcript =
-    codes "- restarted -> 0 registrations 0 caches\n"
-    ++ codes "L2.0 open -> none\n"
-    ++ codes "L2.1 register -> j0\n"
-    ++ codes "- run j0 -> fetch 0 | mapped r0\n"
-    ++ codes "- fetched j0 -> rejected | settled j0 TypeError network | unmapped r0\n"
-    ++ codes "end done\n";
+          codes "- restarted -> 0 registrations 0 caches\n"
+          ++ codes "L2.0 open -> none\n"
+          ++ codes "L2.1 register -> j0\n"
+          ++ codes "- run j0 -> fetch 0 | mapped r0\n"
+          ++ codes "- fetched j0 -> rejected | settled j0 TypeError network | unmapped r0\n"
+          ++ codes "end done\n";
       shown =
-    codes "registrations 0\n"
-    ++ codes "caches 0\n";
+          codes "registrations 0\n"
+          ++ codes "caches 0\n";
       durable =
-    codes "registrations 0\n"
-    ++ codes "caches 0\n";
+          codes "registrations 0\n"
+          ++ codes "caches 0\n";
     }
 unfolding digits escape_byte grammar_on_literals steps_on_literals
 row_012 = refl
@@ -37,22 +37,22 @@ row_015 :
     ++ codes "{\"lane\":1,\"do\":\"softUpdate\",\"client\":8,\"scope\":\"/app/x/\"}\n")
     ≡ record {
       transcript =
-    codes "- restarted -> 0 registrations 0 caches\n"
-    ++ codes "L1.0 open -> none\n"
-    ++ codes "L1.1 register -> j0\n"
-    ++ codes "L1.2 register -> j1\n"
-    ++ codes "- run j0 -> fetch 0 | mapped r0\n"
-    ++ codes "- run j1 -> finished | settled j1 SecurityError script-origin\n"
-    ++ codes "L1.3 await -> SecurityError script-origin\n"
-    ++ codes "L1.4 softUpdate -> none\n"
-    ++ codes "- fetched j0 -> rejected | settled j0 TypeError network | unmapped r0\n"
-    ++ codes "end done\n";
+          codes "- restarted -> 0 registrations 0 caches\n"
+          ++ codes "L1.0 open -> none\n"
+          ++ codes "L1.1 register -> j0\n"
+          ++ codes "L1.2 register -> j1\n"
+          ++ codes "- run j0 -> fetch 0 | mapped r0\n"
+          ++ codes "- run j1 -> finished | settled j1 SecurityError script-origin\n"
+          ++ codes "L1.3 await -> SecurityError script-origin\n"
+          ++ codes "L1.4 softUpdate -> none\n"
+          ++ codes "- fetched j0 -> rejected | settled j0 TypeError network | unmapped r0\n"
+          ++ codes "end done\n";
       shown =
-    codes "registrations 0\n"
-    ++ codes "caches 0\n";
+          codes "registrations 0\n"
+          ++ codes "caches 0\n";
       durable =
-    codes "registrations 0\n"
-    ++ codes "caches 0\n";
+          codes "registrations 0\n"
+          ++ codes "caches 0\n";
     }
 unfolding digits escape_byte grammar_on_literals steps_on_literals
 row_015 = refl
@@ -66,22 +66,22 @@ row_016 :
     ++ codes "{\"lane\":1,\"do\":\"update\",\"client\":8,\"scope\":\"/app/x/\"}\n")
     ≡ record {
       transcript =
-    codes "- restarted -> 0 registrations 0 caches\n"
-    ++ codes "L1.0 open -> none\n"
-    ++ codes "L1.1 register -> j0\n"
-    ++ codes "L1.2 register -> j1\n"
-    ++ codes "- run j0 -> fetch 0 | mapped r0\n"
-    ++ codes "- run j1 -> finished | settled j1 SecurityError script-origin\n"
-    ++ codes "L1.3 await -> SecurityError script-origin\n"
-    ++ codes "L1.4 update -> InvalidStateError no-worker\n"
-    ++ codes "- fetched j0 -> rejected | settled j0 TypeError network | unmapped r0\n"
-    ++ codes "end done\n";
+          codes "- restarted -> 0 registrations 0 caches\n"
+          ++ codes "L1.0 open -> none\n"
+          ++ codes "L1.1 register -> j0\n"
+          ++ codes "L1.2 register -> j1\n"
+          ++ codes "- run j0 -> fetch 0 | mapped r0\n"
+          ++ codes "- run j1 -> finished | settled j1 SecurityError script-origin\n"
+          ++ codes "L1.3 await -> SecurityError script-origin\n"
+          ++ codes "L1.4 update -> InvalidStateError no-worker\n"
+          ++ codes "- fetched j0 -> rejected | settled j0 TypeError network | unmapped r0\n"
+          ++ codes "end done\n";
       shown =
-    codes "registrations 0\n"
-    ++ codes "caches 0\n";
+          codes "registrations 0\n"
+          ++ codes "caches 0\n";
       durable =
-    codes "registrations 0\n"
-    ++ codes "caches 0\n";
+          codes "registrations 0\n"
+          ++ codes "caches 0\n";
     }
 unfolding digits escape_byte grammar_on_literals steps_on_literals
 row_016 = refl
@@ -96,23 +96,23 @@ row_017 :
     ++ codes "{\"lane\":1,\"do\":\"await\",\"of\":4}\n")
     ≡ record {
       transcript =
-    codes "- restarted -> 0 registrations 0 caches\n"
-    ++ codes "L1.0 open -> none\n"
-    ++ codes "L1.1 register -> j0\n"
-    ++ codes "L1.2 register -> j1\n"
-    ++ codes "- run j0 -> fetch 0 | mapped r0\n"
-    ++ codes "- run j1 -> finished | settled j1 SecurityError script-origin\n"
-    ++ codes "L1.3 await -> SecurityError script-origin\n"
-    ++ codes "L1.4 update -> InvalidStateError no-worker\n"
-    ++ codes "L1.5 await -> InvalidStateError no-worker\n"
-    ++ codes "- fetched j0 -> rejected | settled j0 TypeError network | unmapped r0\n"
-    ++ codes "end done\n";
+          codes "- restarted -> 0 registrations 0 caches\n"
+          ++ codes "L1.0 open -> none\n"
+          ++ codes "L1.1 register -> j0\n"
+          ++ codes "L1.2 register -> j1\n"
+          ++ codes "- run j0 -> fetch 0 | mapped r0\n"
+          ++ codes "- run j1 -> finished | settled j1 SecurityError script-origin\n"
+          ++ codes "L1.3 await -> SecurityError script-origin\n"
+          ++ codes "L1.4 update -> InvalidStateError no-worker\n"
+          ++ codes "L1.5 await -> InvalidStateError no-worker\n"
+          ++ codes "- fetched j0 -> rejected | settled j0 TypeError network | unmapped r0\n"
+          ++ codes "end done\n";
       shown =
-    codes "registrations 0\n"
-    ++ codes "caches 0\n";
+          codes "registrations 0\n"
+          ++ codes "caches 0\n";
       durable =
-    codes "registrations 0\n"
-    ++ codes "caches 0\n";
+          codes "registrations 0\n"
+          ++ codes "caches 0\n";
     }
 unfolding digits escape_byte grammar_on_literals steps_on_literals
 row_017 = refl
@@ -124,18 +124,18 @@ row_030 :
     ++ codes "{\"lane\":0,\"do\":\"register\",\"client\":7,\"script\":\"/sw.js\",\"scope\":\"/\"}\n")
     ≡ record {
       transcript =
-    codes "- restarted -> 0 registrations 0 caches\n"
-    ++ codes "L0.0 open -> none\n"
-    ++ codes "L0.1 register -> j0\n"
-    ++ codes "- run j0 -> fetch 0 | mapped r0\n"
-    ++ codes "- fetched j0 -> rejected | settled j0 SecurityError scope | unmapped r0\n"
-    ++ codes "end done\n";
+          codes "- restarted -> 0 registrations 0 caches\n"
+          ++ codes "L0.0 open -> none\n"
+          ++ codes "L0.1 register -> j0\n"
+          ++ codes "- run j0 -> fetch 0 | mapped r0\n"
+          ++ codes "- fetched j0 -> rejected | settled j0 SecurityError scope | unmapped r0\n"
+          ++ codes "end done\n";
       shown =
-    codes "registrations 0\n"
-    ++ codes "caches 0\n";
+          codes "registrations 0\n"
+          ++ codes "caches 0\n";
       durable =
-    codes "registrations 0\n"
-    ++ codes "caches 0\n";
+          codes "registrations 0\n"
+          ++ codes "caches 0\n";
     }
 unfolding digits escape_byte grammar_on_literals steps_on_literals
 row_030 = refl
@@ -147,18 +147,18 @@ row_033 :
     ++ codes "{\"lane\":0,\"do\":\"register\",\"client\":7,\"script\":\"/other.js\",\"scope\":\"/\"}\n")
     ≡ record {
       transcript =
-    codes "- restarted -> 0 registrations 0 caches\n"
-    ++ codes "L0.0 open -> none\n"
-    ++ codes "L0.1 register -> j0\n"
-    ++ codes "- run j0 -> fetch 0 | mapped r0\n"
-    ++ codes "- fetched j0 -> rejected | settled j0 SecurityError mime | unmapped r0\n"
-    ++ codes "end done\n";
+          codes "- restarted -> 0 registrations 0 caches\n"
+          ++ codes "L0.0 open -> none\n"
+          ++ codes "L0.1 register -> j0\n"
+          ++ codes "- run j0 -> fetch 0 | mapped r0\n"
+          ++ codes "- fetched j0 -> rejected | settled j0 SecurityError mime | unmapped r0\n"
+          ++ codes "end done\n";
       shown =
-    codes "registrations 0\n"
-    ++ codes "caches 0\n";
+          codes "registrations 0\n"
+          ++ codes "caches 0\n";
       durable =
-    codes "registrations 0\n"
-    ++ codes "caches 0\n";
+          codes "registrations 0\n"
+          ++ codes "caches 0\n";
     }
 unfolding digits escape_byte grammar_on_literals steps_on_literals
 row_033 = refl
@@ -174,24 +174,24 @@ row_064 :
     ++ codes "{\"lane\":2,\"do\":\"registrations\",\"client\":9}\n")
     ≡ record {
       transcript =
-    codes "- restarted -> 0 registrations 0 caches\n"
-    ++ codes "L0.0 open -> none\n"
-    ++ codes "L0.1 register -> j0\n"
-    ++ codes "L2.0 open -> none\n"
-    ++ codes "L2.1 open -> none\n"
-    ++ codes "L2.2 unregister -> j1\n"
-    ++ codes "- run j0 -> fetch 0 | mapped r0\n"
-    ++ codes "- run j1 -> finished | settled j1 false\n"
-    ++ codes "L2.3 await -> false\n"
-    ++ codes "L2.4 registrations -> 1 r0\n"
-    ++ codes "- fetched j0 -> rejected | settled j0 TypeError network | unmapped r0\n"
-    ++ codes "end done\n";
+          codes "- restarted -> 0 registrations 0 caches\n"
+          ++ codes "L0.0 open -> none\n"
+          ++ codes "L0.1 register -> j0\n"
+          ++ codes "L2.0 open -> none\n"
+          ++ codes "L2.1 open -> none\n"
+          ++ codes "L2.2 unregister -> j1\n"
+          ++ codes "- run j0 -> fetch 0 | mapped r0\n"
+          ++ codes "- run j1 -> finished | settled j1 false\n"
+          ++ codes "L2.3 await -> false\n"
+          ++ codes "L2.4 registrations -> 1 r0\n"
+          ++ codes "- fetched j0 -> rejected | settled j0 TypeError network | unmapped r0\n"
+          ++ codes "end done\n";
       shown =
-    codes "registrations 0\n"
-    ++ codes "caches 0\n";
+          codes "registrations 0\n"
+          ++ codes "caches 0\n";
       durable =
-    codes "registrations 0\n"
-    ++ codes "caches 0\n";
+          codes "registrations 0\n"
+          ++ codes "caches 0\n";
     }
 unfolding digits escape_byte grammar_on_literals steps_on_literals
 row_064 = refl
@@ -203,18 +203,18 @@ row_083 :
     ++ codes "{\"lane\":0,\"do\":\"register\",\"client\":6,\"script\":\"/sw.js\",\"scope\":\"/\",\"type\":\"module\"}\n")
     ≡ record {
       transcript =
-    codes "- restarted -> 0 registrations 0 caches\n"
-    ++ codes "L0.0 open -> none\n"
-    ++ codes "L0.1 register -> j0\n"
-    ++ codes "- run j0 -> fetch 0 | mapped r0\n"
-    ++ codes "- fetched j0 -> rejected | settled j0 TypeError status | unmapped r0\n"
-    ++ codes "end done\n";
+          codes "- restarted -> 0 registrations 0 caches\n"
+          ++ codes "L0.0 open -> none\n"
+          ++ codes "L0.1 register -> j0\n"
+          ++ codes "- run j0 -> fetch 0 | mapped r0\n"
+          ++ codes "- fetched j0 -> rejected | settled j0 TypeError status | unmapped r0\n"
+          ++ codes "end done\n";
       shown =
-    codes "registrations 0\n"
-    ++ codes "caches 0\n";
+          codes "registrations 0\n"
+          ++ codes "caches 0\n";
       durable =
-    codes "registrations 0\n"
-    ++ codes "caches 0\n";
+          codes "registrations 0\n"
+          ++ codes "caches 0\n";
     }
 unfolding digits escape_byte grammar_on_literals steps_on_literals
 row_083 = refl
@@ -226,19 +226,19 @@ row_128 :
     ++ codes "{\"lane\":1,\"do\":\"register\",\"client\":1,\"script\":\"/sw.js\",\"scope\":\"/\"}\n")
     ≡ record {
       transcript =
-    codes "- restarted -> 0 registrations 0 caches\n"
-    ++ codes "L1.0 open -> none\n"
-    ++ codes "L1.1 register -> j0\n"
-    ++ codes "L1.2 register -> j1 joined j0\n"
-    ++ codes "- run j0 -> fetch 0 | mapped r0\n"
-    ++ codes "- fetched j0 -> rejected | settled j0 TypeError network | settled j1 TypeError network | unmapped r0\n"
-    ++ codes "end done\n";
+          codes "- restarted -> 0 registrations 0 caches\n"
+          ++ codes "L1.0 open -> none\n"
+          ++ codes "L1.1 register -> j0\n"
+          ++ codes "L1.2 register -> j1 joined j0\n"
+          ++ codes "- run j0 -> fetch 0 | mapped r0\n"
+          ++ codes "- fetched j0 -> rejected | settled j0 TypeError network | settled j1 TypeError network | unmapped r0\n"
+          ++ codes "end done\n";
       shown =
-    codes "registrations 0\n"
-    ++ codes "caches 0\n";
+          codes "registrations 0\n"
+          ++ codes "caches 0\n";
       durable =
-    codes "registrations 0\n"
-    ++ codes "caches 0\n";
+          codes "registrations 0\n"
+          ++ codes "caches 0\n";
     }
 unfolding digits escape_byte grammar_on_literals steps_on_literals
 row_128 = refl
@@ -251,20 +251,20 @@ row_134 :
     ++ codes "{\"lane\":1,\"do\":\"register\",\"client\":3,\"script\":\"/sw.js\",\"scope\":\"/\"}\n")
     ≡ record {
       transcript =
-    codes "- restarted -> 0 registrations 0 caches\n"
-    ++ codes "L1.0 open -> none\n"
-    ++ codes "L1.1 register -> j0\n"
-    ++ codes "L1.2 register -> j1 joined j0\n"
-    ++ codes "- run j0 -> fetch 0 | mapped r0\n"
-    ++ codes "- fetched j0 -> changed | w0 parsed\n"
-    ++ codes "- evaluated j0 -> threw | w0 redundant | settled j0 TypeError threw | settled j1 TypeError threw | unmapped r0\n"
-    ++ codes "end done\n";
+          codes "- restarted -> 0 registrations 0 caches\n"
+          ++ codes "L1.0 open -> none\n"
+          ++ codes "L1.1 register -> j0\n"
+          ++ codes "L1.2 register -> j1 joined j0\n"
+          ++ codes "- run j0 -> fetch 0 | mapped r0\n"
+          ++ codes "- fetched j0 -> changed | w0 parsed\n"
+          ++ codes "- evaluated j0 -> threw | w0 redundant | settled j0 TypeError threw | settled j1 TypeError threw | unmapped r0\n"
+          ++ codes "end done\n";
       shown =
-    codes "registrations 0\n"
-    ++ codes "caches 0\n";
+          codes "registrations 0\n"
+          ++ codes "caches 0\n";
       durable =
-    codes "registrations 0\n"
-    ++ codes "caches 0\n";
+          codes "registrations 0\n"
+          ++ codes "caches 0\n";
     }
 unfolding digits escape_byte grammar_on_literals steps_on_literals
 row_134 = refl
@@ -278,20 +278,20 @@ row_184 :
     ++ codes "{\"lane\":0,\"do\":\"register\",\"client\":3,\"script\":\"/sw.js\",\"scope\":\"/\"}\n")
     ≡ record {
       transcript =
-    codes "- restarted -> 0 registrations 0 caches\n"
-    ++ codes "L0.0 open -> none\n"
-    ++ codes "L0.1 register -> j0\n"
-    ++ codes "L0.2 register -> j1 joined j0\n"
-    ++ codes "L0.3 register -> j2 joined j0\n"
-    ++ codes "- run j0 -> fetch 0 | mapped r0\n"
-    ++ codes "- fetched j0 -> rejected | settled j0 SecurityError scope | settled j1 SecurityError scope | settled j2 SecurityError scope | unmapped r0\n"
-    ++ codes "end done\n";
+          codes "- restarted -> 0 registrations 0 caches\n"
+          ++ codes "L0.0 open -> none\n"
+          ++ codes "L0.1 register -> j0\n"
+          ++ codes "L0.2 register -> j1 joined j0\n"
+          ++ codes "L0.3 register -> j2 joined j0\n"
+          ++ codes "- run j0 -> fetch 0 | mapped r0\n"
+          ++ codes "- fetched j0 -> rejected | settled j0 SecurityError scope | settled j1 SecurityError scope | settled j2 SecurityError scope | unmapped r0\n"
+          ++ codes "end done\n";
       shown =
-    codes "registrations 0\n"
-    ++ codes "caches 0\n";
+          codes "registrations 0\n"
+          ++ codes "caches 0\n";
       durable =
-    codes "registrations 0\n"
-    ++ codes "caches 0\n";
+          codes "registrations 0\n"
+          ++ codes "caches 0\n";
     }
 unfolding digits escape_byte grammar_on_literals steps_on_literals
 row_184 = refl
@@ -304,19 +304,19 @@ row_191 :
     ++ codes "{\"lane\":0,\"do\":\"register\",\"client\":1,\"script\":\"/sw.js\",\"scope\":\"/\"}\n")
     ≡ record {
       transcript =
-    codes "- restarted -> 0 registrations 0 caches\n"
-    ++ codes "L0.0 open -> none\n"
-    ++ codes "L0.1 register -> j0\n"
-    ++ codes "L0.2 register -> j1 joined j0\n"
-    ++ codes "- run j0 -> fetch 0 | mapped r0\n"
-    ++ codes "- fetched j0 -> rejected | settled j0 SecurityError scope | settled j1 SecurityError scope | unmapped r0\n"
-    ++ codes "end done\n";
+          codes "- restarted -> 0 registrations 0 caches\n"
+          ++ codes "L0.0 open -> none\n"
+          ++ codes "L0.1 register -> j0\n"
+          ++ codes "L0.2 register -> j1 joined j0\n"
+          ++ codes "- run j0 -> fetch 0 | mapped r0\n"
+          ++ codes "- fetched j0 -> rejected | settled j0 SecurityError scope | settled j1 SecurityError scope | unmapped r0\n"
+          ++ codes "end done\n";
       shown =
-    codes "registrations 0\n"
-    ++ codes "caches 0\n";
+          codes "registrations 0\n"
+          ++ codes "caches 0\n";
       durable =
-    codes "registrations 0\n"
-    ++ codes "caches 0\n";
+          codes "registrations 0\n"
+          ++ codes "caches 0\n";
     }
 unfolding digits escape_byte grammar_on_literals steps_on_literals
 row_191 = refl
@@ -330,21 +330,21 @@ row_202 :
     ++ codes "{\"lane\":0,\"do\":\"register\",\"client\":5,\"script\":\"/sw.js\",\"scope\":\"/\"}\n")
     ≡ record {
       transcript =
-    codes "- restarted -> 0 registrations 0 caches\n"
-    ++ codes "L0.0 open -> none\n"
-    ++ codes "L0.1 register -> j0\n"
-    ++ codes "L0.2 register -> j1 joined j0\n"
-    ++ codes "L0.3 register -> j2 joined j0\n"
-    ++ codes "- run j0 -> fetch 0 | mapped r0\n"
-    ++ codes "- fetched j0 -> changed | w0 parsed\n"
-    ++ codes "- evaluated j0 -> threw | w0 redundant | settled j0 TypeError threw | settled j1 TypeError threw | settled j2 TypeError threw | unmapped r0\n"
-    ++ codes "end done\n";
+          codes "- restarted -> 0 registrations 0 caches\n"
+          ++ codes "L0.0 open -> none\n"
+          ++ codes "L0.1 register -> j0\n"
+          ++ codes "L0.2 register -> j1 joined j0\n"
+          ++ codes "L0.3 register -> j2 joined j0\n"
+          ++ codes "- run j0 -> fetch 0 | mapped r0\n"
+          ++ codes "- fetched j0 -> changed | w0 parsed\n"
+          ++ codes "- evaluated j0 -> threw | w0 redundant | settled j0 TypeError threw | settled j1 TypeError threw | settled j2 TypeError threw | unmapped r0\n"
+          ++ codes "end done\n";
       shown =
-    codes "registrations 0\n"
-    ++ codes "caches 0\n";
+          codes "registrations 0\n"
+          ++ codes "caches 0\n";
       durable =
-    codes "registrations 0\n"
-    ++ codes "caches 0\n";
+          codes "registrations 0\n"
+          ++ codes "caches 0\n";
     }
 unfolding digits escape_byte grammar_on_literals steps_on_literals
 row_202 = refl
@@ -357,20 +357,20 @@ row_228 :
     ++ codes "{\"lane\":0,\"do\":\"register\",\"client\":7,\"script\":\"/sw.js\",\"scope\":\"/\"}\n")
     ≡ record {
       transcript =
-    codes "- restarted -> 0 registrations 0 caches\n"
-    ++ codes "L0.0 open -> none\n"
-    ++ codes "L0.1 register -> j0\n"
-    ++ codes "L0.2 register -> j1 joined j0\n"
-    ++ codes "L0.3 register -> j2 joined j0\n"
-    ++ codes "- run j0 -> fetch 0 | mapped r0\n"
-    ++ codes "- fetched j0 -> rejected | settled j0 TypeError network | settled j1 TypeError network | settled j2 TypeError network | unmapped r0\n"
-    ++ codes "end done\n";
+          codes "- restarted -> 0 registrations 0 caches\n"
+          ++ codes "L0.0 open -> none\n"
+          ++ codes "L0.1 register -> j0\n"
+          ++ codes "L0.2 register -> j1 joined j0\n"
+          ++ codes "L0.3 register -> j2 joined j0\n"
+          ++ codes "- run j0 -> fetch 0 | mapped r0\n"
+          ++ codes "- fetched j0 -> rejected | settled j0 TypeError network | settled j1 TypeError network | settled j2 TypeError network | unmapped r0\n"
+          ++ codes "end done\n";
       shown =
-    codes "registrations 0\n"
-    ++ codes "caches 0\n";
+          codes "registrations 0\n"
+          ++ codes "caches 0\n";
       durable =
-    codes "registrations 0\n"
-    ++ codes "caches 0\n";
+          codes "registrations 0\n"
+          ++ codes "caches 0\n";
     }
 unfolding digits escape_byte grammar_on_literals steps_on_literals
 row_228 = refl
@@ -383,19 +383,19 @@ row_247 :
     ++ codes "{\"lane\":1,\"do\":\"register\",\"client\":8,\"script\":\"/sw.js\",\"scope\":\"/\",\"type\":\"classic\"}\n")
     ≡ record {
       transcript =
-    codes "- restarted -> 0 registrations 0 caches\n"
-    ++ codes "L1.0 open -> none\n"
-    ++ codes "L1.1 register -> j0\n"
-    ++ codes "L1.2 register -> j1 joined j0\n"
-    ++ codes "- run j0 -> fetch 0 | mapped r0\n"
-    ++ codes "- fetched j0 -> rejected | settled j0 TypeError status | settled j1 TypeError status | unmapped r0\n"
-    ++ codes "end done\n";
+          codes "- restarted -> 0 registrations 0 caches\n"
+          ++ codes "L1.0 open -> none\n"
+          ++ codes "L1.1 register -> j0\n"
+          ++ codes "L1.2 register -> j1 joined j0\n"
+          ++ codes "- run j0 -> fetch 0 | mapped r0\n"
+          ++ codes "- fetched j0 -> rejected | settled j0 TypeError status | settled j1 TypeError status | unmapped r0\n"
+          ++ codes "end done\n";
       shown =
-    codes "registrations 0\n"
-    ++ codes "caches 0\n";
+          codes "registrations 0\n"
+          ++ codes "caches 0\n";
       durable =
-    codes "registrations 0\n"
-    ++ codes "caches 0\n";
+          codes "registrations 0\n"
+          ++ codes "caches 0\n";
     }
 unfolding digits escape_byte grammar_on_literals steps_on_literals
 row_247 = refl
@@ -409,20 +409,20 @@ row_248 :
     ++ codes "{\"lane\":1,\"do\":\"register\",\"client\":1,\"script\":\"/sw.js\",\"scope\":\"/\",\"cache\":\"imports\"}\n")
     ≡ record {
       transcript =
-    codes "- restarted -> 0 registrations 0 caches\n"
-    ++ codes "L1.0 open -> none\n"
-    ++ codes "L1.1 register -> j0\n"
-    ++ codes "L1.2 register -> j1 joined j0\n"
-    ++ codes "L1.3 register -> j2 joined j0\n"
-    ++ codes "- run j0 -> fetch 0 | mapped r0\n"
-    ++ codes "- fetched j0 -> rejected | settled j0 SecurityError mime | settled j1 SecurityError mime | settled j2 SecurityError mime | unmapped r0\n"
-    ++ codes "end done\n";
+          codes "- restarted -> 0 registrations 0 caches\n"
+          ++ codes "L1.0 open -> none\n"
+          ++ codes "L1.1 register -> j0\n"
+          ++ codes "L1.2 register -> j1 joined j0\n"
+          ++ codes "L1.3 register -> j2 joined j0\n"
+          ++ codes "- run j0 -> fetch 0 | mapped r0\n"
+          ++ codes "- fetched j0 -> rejected | settled j0 SecurityError mime | settled j1 SecurityError mime | settled j2 SecurityError mime | unmapped r0\n"
+          ++ codes "end done\n";
       shown =
-    codes "registrations 0\n"
-    ++ codes "caches 0\n";
+          codes "registrations 0\n"
+          ++ codes "caches 0\n";
       durable =
-    codes "registrations 0\n"
-    ++ codes "caches 0\n";
+          codes "registrations 0\n"
+          ++ codes "caches 0\n";
     }
 unfolding digits escape_byte grammar_on_literals steps_on_literals
 row_248 = refl
@@ -436,20 +436,20 @@ row_272 :
     ++ codes "{\"lane\":0,\"do\":\"register\",\"client\":2,\"script\":\"/sw.js\",\"scope\":\"/\"}\n")
     ≡ record {
       transcript =
-    codes "- restarted -> 0 registrations 0 caches\n"
-    ++ codes "L0.0 open -> none\n"
-    ++ codes "L0.1 register -> j0\n"
-    ++ codes "L0.2 register -> j1 joined j0\n"
-    ++ codes "L0.3 register -> j2 joined j0\n"
-    ++ codes "- run j0 -> fetch 0 | mapped r0\n"
-    ++ codes "- fetched j0 -> rejected | settled j0 TypeError status | settled j1 TypeError status | settled j2 TypeError status | unmapped r0\n"
-    ++ codes "end done\n";
+          codes "- restarted -> 0 registrations 0 caches\n"
+          ++ codes "L0.0 open -> none\n"
+          ++ codes "L0.1 register -> j0\n"
+          ++ codes "L0.2 register -> j1 joined j0\n"
+          ++ codes "L0.3 register -> j2 joined j0\n"
+          ++ codes "- run j0 -> fetch 0 | mapped r0\n"
+          ++ codes "- fetched j0 -> rejected | settled j0 TypeError status | settled j1 TypeError status | settled j2 TypeError status | unmapped r0\n"
+          ++ codes "end done\n";
       shown =
-    codes "registrations 0\n"
-    ++ codes "caches 0\n";
+          codes "registrations 0\n"
+          ++ codes "caches 0\n";
       durable =
-    codes "registrations 0\n"
-    ++ codes "caches 0\n";
+          codes "registrations 0\n"
+          ++ codes "caches 0\n";
     }
 unfolding digits escape_byte grammar_on_literals steps_on_literals
 row_272 = refl
@@ -465,22 +465,22 @@ row_280 :
     ++ codes "{\"lane\":2,\"do\":\"register\",\"client\":7,\"script\":\"/sw.js\",\"scope\":\"/\"}\n")
     ≡ record {
       transcript =
-    codes "- restarted -> 0 registrations 0 caches\n"
-    ++ codes "L1.0 open -> none\n"
-    ++ codes "L1.1 register -> j0\n"
-    ++ codes "L2.0 open -> none\n"
-    ++ codes "L2.1 register -> j1 joined j0\n"
-    ++ codes "L2.2 register -> j2 joined j0\n"
-    ++ codes "L2.3 register -> j3 joined j0\n"
-    ++ codes "- run j0 -> fetch 0 | mapped r0\n"
-    ++ codes "- fetched j0 -> rejected | settled j0 TypeError status | settled j1 TypeError status | settled j2 TypeError status | settled j3 TypeError status | unmapped r0\n"
-    ++ codes "end done\n";
+          codes "- restarted -> 0 registrations 0 caches\n"
+          ++ codes "L1.0 open -> none\n"
+          ++ codes "L1.1 register -> j0\n"
+          ++ codes "L2.0 open -> none\n"
+          ++ codes "L2.1 register -> j1 joined j0\n"
+          ++ codes "L2.2 register -> j2 joined j0\n"
+          ++ codes "L2.3 register -> j3 joined j0\n"
+          ++ codes "- run j0 -> fetch 0 | mapped r0\n"
+          ++ codes "- fetched j0 -> rejected | settled j0 TypeError status | settled j1 TypeError status | settled j2 TypeError status | settled j3 TypeError status | unmapped r0\n"
+          ++ codes "end done\n";
       shown =
-    codes "registrations 0\n"
-    ++ codes "caches 0\n";
+          codes "registrations 0\n"
+          ++ codes "caches 0\n";
       durable =
-    codes "registrations 0\n"
-    ++ codes "caches 0\n";
+          codes "registrations 0\n"
+          ++ codes "caches 0\n";
     }
 unfolding digits escape_byte grammar_on_literals steps_on_literals
 row_280 = refl
@@ -493,19 +493,19 @@ row_288 :
     ++ codes "{\"lane\":0,\"do\":\"register\",\"client\":7,\"script\":\"/sw.js\",\"scope\":\"/\",\"type\":\"classic\"}\n")
     ≡ record {
       transcript =
-    codes "- restarted -> 0 registrations 0 caches\n"
-    ++ codes "L0.0 open -> none\n"
-    ++ codes "L0.1 register -> j0\n"
-    ++ codes "L0.2 register -> j1 joined j0\n"
-    ++ codes "- run j0 -> fetch 0 | mapped r0\n"
-    ++ codes "- fetched j0 -> rejected | settled j0 SecurityError mime | settled j1 SecurityError mime | unmapped r0\n"
-    ++ codes "end done\n";
+          codes "- restarted -> 0 registrations 0 caches\n"
+          ++ codes "L0.0 open -> none\n"
+          ++ codes "L0.1 register -> j0\n"
+          ++ codes "L0.2 register -> j1 joined j0\n"
+          ++ codes "- run j0 -> fetch 0 | mapped r0\n"
+          ++ codes "- fetched j0 -> rejected | settled j0 SecurityError mime | settled j1 SecurityError mime | unmapped r0\n"
+          ++ codes "end done\n";
       shown =
-    codes "registrations 0\n"
-    ++ codes "caches 0\n";
+          codes "registrations 0\n"
+          ++ codes "caches 0\n";
       durable =
-    codes "registrations 0\n"
-    ++ codes "caches 0\n";
+          codes "registrations 0\n"
+          ++ codes "caches 0\n";
     }
 unfolding digits escape_byte grammar_on_literals steps_on_literals
 row_288 = refl
@@ -519,21 +519,21 @@ row_292 :
     ++ codes "{\"lane\":1,\"do\":\"register\",\"client\":1,\"script\":\"/sw.js\",\"scope\":\"/\"}\n")
     ≡ record {
       transcript =
-    codes "- restarted -> 0 registrations 0 caches\n"
-    ++ codes "L0.0 open -> none\n"
-    ++ codes "L0.1 register -> j0\n"
-    ++ codes "L1.0 register -> j1 joined j0\n"
-    ++ codes "L1.1 register -> j2 joined j0\n"
-    ++ codes "L1.2 register -> j3 joined j0\n"
-    ++ codes "- run j0 -> fetch 0 | mapped r0\n"
-    ++ codes "- fetched j0 -> rejected | settled j0 TypeError network | settled j1 TypeError network | settled j2 TypeError network | settled j3 TypeError network | unmapped r0\n"
-    ++ codes "end done\n";
+          codes "- restarted -> 0 registrations 0 caches\n"
+          ++ codes "L0.0 open -> none\n"
+          ++ codes "L0.1 register -> j0\n"
+          ++ codes "L1.0 register -> j1 joined j0\n"
+          ++ codes "L1.1 register -> j2 joined j0\n"
+          ++ codes "L1.2 register -> j3 joined j0\n"
+          ++ codes "- run j0 -> fetch 0 | mapped r0\n"
+          ++ codes "- fetched j0 -> rejected | settled j0 TypeError network | settled j1 TypeError network | settled j2 TypeError network | settled j3 TypeError network | unmapped r0\n"
+          ++ codes "end done\n";
       shown =
-    codes "registrations 0\n"
-    ++ codes "caches 0\n";
+          codes "registrations 0\n"
+          ++ codes "caches 0\n";
       durable =
-    codes "registrations 0\n"
-    ++ codes "caches 0\n";
+          codes "registrations 0\n"
+          ++ codes "caches 0\n";
     }
 unfolding digits escape_byte grammar_on_literals steps_on_literals
 row_292 = refl
@@ -549,23 +549,23 @@ row_312 :
     ++ codes "{\"lane\":0,\"do\":\"register\",\"client\":6,\"script\":\"/sw.js\",\"scope\":\"/\"}\n")
     ≡ record {
       transcript =
-    codes "- restarted -> 0 registrations 0 caches\n"
-    ++ codes "L0.0 open -> none\n"
-    ++ codes "L0.1 register -> j0\n"
-    ++ codes "L0.2 open -> none\n"
-    ++ codes "L0.3 register -> j1 joined j0\n"
-    ++ codes "L0.4 register -> j2 joined j0\n"
-    ++ codes "L0.5 register -> j3 joined j0\n"
-    ++ codes "- run j0 -> fetch 0 | mapped r0\n"
-    ++ codes "- fetched j0 -> changed | w0 parsed\n"
-    ++ codes "- evaluated j0 -> threw | w0 redundant | settled j0 TypeError threw | settled j1 TypeError threw | settled j2 TypeError threw | settled j3 TypeError threw | unmapped r0\n"
-    ++ codes "end done\n";
+          codes "- restarted -> 0 registrations 0 caches\n"
+          ++ codes "L0.0 open -> none\n"
+          ++ codes "L0.1 register -> j0\n"
+          ++ codes "L0.2 open -> none\n"
+          ++ codes "L0.3 register -> j1 joined j0\n"
+          ++ codes "L0.4 register -> j2 joined j0\n"
+          ++ codes "L0.5 register -> j3 joined j0\n"
+          ++ codes "- run j0 -> fetch 0 | mapped r0\n"
+          ++ codes "- fetched j0 -> changed | w0 parsed\n"
+          ++ codes "- evaluated j0 -> threw | w0 redundant | settled j0 TypeError threw | settled j1 TypeError threw | settled j2 TypeError threw | settled j3 TypeError threw | unmapped r0\n"
+          ++ codes "end done\n";
       shown =
-    codes "registrations 0\n"
-    ++ codes "caches 0\n";
+          codes "registrations 0\n"
+          ++ codes "caches 0\n";
       durable =
-    codes "registrations 0\n"
-    ++ codes "caches 0\n";
+          codes "registrations 0\n"
+          ++ codes "caches 0\n";
     }
 unfolding digits escape_byte grammar_on_literals steps_on_literals
 row_312 = refl
@@ -581,22 +581,22 @@ row_314 :
     ++ codes "{\"lane\":0,\"do\":\"register\",\"client\":7,\"script\":\"/sw.js\",\"scope\":\"/\"}\n")
     ≡ record {
       transcript =
-    codes "- restarted -> 0 registrations 0 caches\n"
-    ++ codes "L0.0 open -> none\n"
-    ++ codes "L0.1 register -> j0\n"
-    ++ codes "L0.2 register -> j1 joined j0\n"
-    ++ codes "L0.3 register -> j2 joined j0\n"
-    ++ codes "L1.0 open -> none\n"
-    ++ codes "L1.1 register -> j3 joined j0\n"
-    ++ codes "- run j0 -> fetch 0 | mapped r0\n"
-    ++ codes "- fetched j0 -> rejected | settled j0 SecurityError mime | settled j1 SecurityError mime | settled j2 SecurityError mime | settled j3 SecurityError mime | unmapped r0\n"
-    ++ codes "end done\n";
+          codes "- restarted -> 0 registrations 0 caches\n"
+          ++ codes "L0.0 open -> none\n"
+          ++ codes "L0.1 register -> j0\n"
+          ++ codes "L0.2 register -> j1 joined j0\n"
+          ++ codes "L0.3 register -> j2 joined j0\n"
+          ++ codes "L1.0 open -> none\n"
+          ++ codes "L1.1 register -> j3 joined j0\n"
+          ++ codes "- run j0 -> fetch 0 | mapped r0\n"
+          ++ codes "- fetched j0 -> rejected | settled j0 SecurityError mime | settled j1 SecurityError mime | settled j2 SecurityError mime | settled j3 SecurityError mime | unmapped r0\n"
+          ++ codes "end done\n";
       shown =
-    codes "registrations 0\n"
-    ++ codes "caches 0\n";
+          codes "registrations 0\n"
+          ++ codes "caches 0\n";
       durable =
-    codes "registrations 0\n"
-    ++ codes "caches 0\n";
+          codes "registrations 0\n"
+          ++ codes "caches 0\n";
     }
 unfolding digits escape_byte grammar_on_literals steps_on_literals
 row_314 = refl
@@ -613,23 +613,23 @@ row_317 :
     ++ codes "{\"lane\":1,\"do\":\"register\",\"client\":2,\"script\":\"/sw.js\",\"scope\":\"/\"}\n")
     ≡ record {
       transcript =
-    codes "- restarted -> 0 registrations 0 caches\n"
-    ++ codes "L1.0 open -> none\n"
-    ++ codes "L1.1 register -> j0\n"
-    ++ codes "L1.2 register -> j1 joined j0\n"
-    ++ codes "L2.0 open -> none\n"
-    ++ codes "L2.1 register -> j2 joined j0\n"
-    ++ codes "L2.2 register -> j3 joined j0\n"
-    ++ codes "L2.3 register -> j4 joined j0\n"
-    ++ codes "- run j0 -> fetch 0 | mapped r0\n"
-    ++ codes "- fetched j0 -> rejected | settled j0 SecurityError mime | settled j1 SecurityError mime | settled j2 SecurityError mime | settled j3 SecurityError mime | settled j4 SecurityError mime | unmapped r0\n"
-    ++ codes "end done\n";
+          codes "- restarted -> 0 registrations 0 caches\n"
+          ++ codes "L1.0 open -> none\n"
+          ++ codes "L1.1 register -> j0\n"
+          ++ codes "L1.2 register -> j1 joined j0\n"
+          ++ codes "L2.0 open -> none\n"
+          ++ codes "L2.1 register -> j2 joined j0\n"
+          ++ codes "L2.2 register -> j3 joined j0\n"
+          ++ codes "L2.3 register -> j4 joined j0\n"
+          ++ codes "- run j0 -> fetch 0 | mapped r0\n"
+          ++ codes "- fetched j0 -> rejected | settled j0 SecurityError mime | settled j1 SecurityError mime | settled j2 SecurityError mime | settled j3 SecurityError mime | settled j4 SecurityError mime | unmapped r0\n"
+          ++ codes "end done\n";
       shown =
-    codes "registrations 0\n"
-    ++ codes "caches 0\n";
+          codes "registrations 0\n"
+          ++ codes "caches 0\n";
       durable =
-    codes "registrations 0\n"
-    ++ codes "caches 0\n";
+          codes "registrations 0\n"
+          ++ codes "caches 0\n";
     }
 unfolding digits escape_byte grammar_on_literals steps_on_literals
 row_317 = refl

@@ -13,26 +13,26 @@ row_018 :
     ++ codes "{\"lane\":2,\"do\":\"register\",\"client\":5,\"script\":\"/app/claim.js\"}\n")
     ≡ record {
       transcript =
-    codes "- restarted -> 0 registrations 0 caches\n"
-    ++ codes "L2.0 open -> none\n"
-    ++ codes "L2.1 register -> j0\n"
-    ++ codes "- run j0 -> fetch 0 | mapped r0\n"
-    ++ codes "- fetched j0 -> changed | w0 parsed\n"
-    ++ codes "- evaluated j0 -> installing | w0 installing | settled j0 r0 | updatefound r0\n"
-    ++ codes "- installed j0 -> ok | w0 installed\n"
-    ++ codes "- tryactivate r0 -> w0 | w0 activating\n"
-    ++ codes "- activated w0 -> ok | w0 activated\n"
-    ++ codes "end done\n";
+          codes "- restarted -> 0 registrations 0 caches\n"
+          ++ codes "L2.0 open -> none\n"
+          ++ codes "L2.1 register -> j0\n"
+          ++ codes "- run j0 -> fetch 0 | mapped r0\n"
+          ++ codes "- fetched j0 -> changed | w0 parsed\n"
+          ++ codes "- evaluated j0 -> installing | w0 installing | settled j0 r0 | updatefound r0\n"
+          ++ codes "- installed j0 -> ok | w0 installed\n"
+          ++ codes "- tryactivate r0 -> w0 | w0 activating\n"
+          ++ codes "- activated w0 -> ok | w0 activated\n"
+          ++ codes "end done\n";
       shown =
-    codes "registrations 1\n"
-    ++ codes "registration \"https://a.test^q.top\" \"https://a.test/app/\" imports\n"
-    ++ codes " active activated \"https://a.test/app/claim.js\" classic 8\n"
-    ++ codes "caches 0\n";
+          codes "registrations 1\n"
+          ++ codes "registration \"https://a.test^q.top\" \"https://a.test/app/\" imports\n"
+          ++ codes " active activated \"https://a.test/app/claim.js\" classic 8\n"
+          ++ codes "caches 0\n";
       durable =
-    codes "registrations 1\n"
-    ++ codes "registration \"https://a.test^q.top\" \"https://a.test/app/\" imports\n"
-    ++ codes " active activated \"https://a.test/app/claim.js\" classic 8\n"
-    ++ codes "caches 0\n";
+          codes "registrations 1\n"
+          ++ codes "registration \"https://a.test^q.top\" \"https://a.test/app/\" imports\n"
+          ++ codes " active activated \"https://a.test/app/claim.js\" classic 8\n"
+          ++ codes "caches 0\n";
     }
 unfolding digits escape_byte grammar_on_literals steps_on_literals
 row_018 = refl
@@ -44,27 +44,27 @@ row_022 :
     ++ codes "{\"lane\":2,\"do\":\"register\",\"client\":5,\"script\":\"/app/claim.js\"}\n")
     ≡ record {
       transcript =
-    codes "- restarted -> 0 registrations 0 caches\n"
-    ++ codes "L2.0 open -> none\n"
-    ++ codes "L2.1 register -> j0\n"
-    ++ codes "- run j0 -> fetch 0 | mapped r0\n"
-    ++ codes "- fetched j0 -> changed | w0 parsed\n"
-    ++ codes "- evaluated j0 -> installing | w0 installing | settled j0 r0 | updatefound r0\n"
-    ++ codes "w0.install.0 skipWaiting -> ok\n"
-    ++ codes "- installed j0 -> ok | w0 installed\n"
-    ++ codes "- tryactivate r0 -> w0 | w0 activating\n"
-    ++ codes "- activated w0 -> ok | w0 activated\n"
-    ++ codes "end done\n";
+          codes "- restarted -> 0 registrations 0 caches\n"
+          ++ codes "L2.0 open -> none\n"
+          ++ codes "L2.1 register -> j0\n"
+          ++ codes "- run j0 -> fetch 0 | mapped r0\n"
+          ++ codes "- fetched j0 -> changed | w0 parsed\n"
+          ++ codes "- evaluated j0 -> installing | w0 installing | settled j0 r0 | updatefound r0\n"
+          ++ codes "w0.install.0 skipWaiting -> ok\n"
+          ++ codes "- installed j0 -> ok | w0 installed\n"
+          ++ codes "- tryactivate r0 -> w0 | w0 activating\n"
+          ++ codes "- activated w0 -> ok | w0 activated\n"
+          ++ codes "end done\n";
       shown =
-    codes "registrations 1\n"
-    ++ codes "registration \"https://a.test^q.top\" \"https://a.test/app/\" imports\n"
-    ++ codes " active activated \"https://a.test/app/claim.js\" classic 8\n"
-    ++ codes "caches 0\n";
+          codes "registrations 1\n"
+          ++ codes "registration \"https://a.test^q.top\" \"https://a.test/app/\" imports\n"
+          ++ codes " active activated \"https://a.test/app/claim.js\" classic 8\n"
+          ++ codes "caches 0\n";
       durable =
-    codes "registrations 1\n"
-    ++ codes "registration \"https://a.test^q.top\" \"https://a.test/app/\" imports\n"
-    ++ codes " active activated \"https://a.test/app/claim.js\" classic 8\n"
-    ++ codes "caches 0\n";
+          codes "registrations 1\n"
+          ++ codes "registration \"https://a.test^q.top\" \"https://a.test/app/\" imports\n"
+          ++ codes " active activated \"https://a.test/app/claim.js\" classic 8\n"
+          ++ codes "caches 0\n";
     }
 unfolding digits escape_byte grammar_on_literals steps_on_literals
 row_022 = refl
@@ -76,27 +76,27 @@ row_028 :
     ++ codes "{\"lane\":2,\"do\":\"register\",\"client\":5,\"script\":\"/app/claim.js\"}\n")
     ≡ record {
       transcript =
-    codes "- restarted -> 0 registrations 0 caches\n"
-    ++ codes "L2.0 open -> none\n"
-    ++ codes "L2.1 register -> j0\n"
-    ++ codes "- run j0 -> fetch 0 | mapped r0\n"
-    ++ codes "- fetched j0 -> changed | w0 parsed\n"
-    ++ codes "- evaluated j0 -> installing | w0 installing | settled j0 r0 | updatefound r0\n"
-    ++ codes "- installed j0 -> ok | w0 installed\n"
-    ++ codes "- tryactivate r0 -> w0 | w0 activating\n"
-    ++ codes "w0.activate.0 claim -> ok | controllerchange c5\n"
-    ++ codes "- activated w0 -> ok | w0 activated\n"
-    ++ codes "end done\n";
+          codes "- restarted -> 0 registrations 0 caches\n"
+          ++ codes "L2.0 open -> none\n"
+          ++ codes "L2.1 register -> j0\n"
+          ++ codes "- run j0 -> fetch 0 | mapped r0\n"
+          ++ codes "- fetched j0 -> changed | w0 parsed\n"
+          ++ codes "- evaluated j0 -> installing | w0 installing | settled j0 r0 | updatefound r0\n"
+          ++ codes "- installed j0 -> ok | w0 installed\n"
+          ++ codes "- tryactivate r0 -> w0 | w0 activating\n"
+          ++ codes "w0.activate.0 claim -> ok | controllerchange c5\n"
+          ++ codes "- activated w0 -> ok | w0 activated\n"
+          ++ codes "end done\n";
       shown =
-    codes "registrations 1\n"
-    ++ codes "registration \"https://a.test^q.top\" \"https://a.test/app/\" imports\n"
-    ++ codes " active activated \"https://a.test/app/claim.js\" classic 8\n"
-    ++ codes "caches 0\n";
+          codes "registrations 1\n"
+          ++ codes "registration \"https://a.test^q.top\" \"https://a.test/app/\" imports\n"
+          ++ codes " active activated \"https://a.test/app/claim.js\" classic 8\n"
+          ++ codes "caches 0\n";
       durable =
-    codes "registrations 1\n"
-    ++ codes "registration \"https://a.test^q.top\" \"https://a.test/app/\" imports\n"
-    ++ codes " active activated \"https://a.test/app/claim.js\" classic 8\n"
-    ++ codes "caches 0\n";
+          codes "registrations 1\n"
+          ++ codes "registration \"https://a.test^q.top\" \"https://a.test/app/\" imports\n"
+          ++ codes " active activated \"https://a.test/app/claim.js\" classic 8\n"
+          ++ codes "caches 0\n";
     }
 unfolding digits escape_byte grammar_on_literals steps_on_literals
 row_028 = refl
@@ -108,27 +108,27 @@ row_057 :
     ++ codes "{\"lane\":1,\"do\":\"register\",\"client\":7,\"script\":\"/sw.js\",\"scope\":\"/app/x/\"}\n")
     ≡ record {
       transcript =
-    codes "- restarted -> 0 registrations 0 caches\n"
-    ++ codes "L1.0 open -> none\n"
-    ++ codes "L1.1 register -> j0\n"
-    ++ codes "- run j0 -> fetch 0 | mapped r0\n"
-    ++ codes "- fetched j0 -> changed | w0 parsed\n"
-    ++ codes "- evaluated j0 -> installing | w0 installing | settled j0 r0 | updatefound r0\n"
-    ++ codes "w0.install.0 cacheDelete -> false\n"
-    ++ codes "- installed j0 -> ok | w0 installed\n"
-    ++ codes "- tryactivate r0 -> w0 | w0 activating\n"
-    ++ codes "- activated w0 -> ok | w0 activated\n"
-    ++ codes "end done\n";
+          codes "- restarted -> 0 registrations 0 caches\n"
+          ++ codes "L1.0 open -> none\n"
+          ++ codes "L1.1 register -> j0\n"
+          ++ codes "- run j0 -> fetch 0 | mapped r0\n"
+          ++ codes "- fetched j0 -> changed | w0 parsed\n"
+          ++ codes "- evaluated j0 -> installing | w0 installing | settled j0 r0 | updatefound r0\n"
+          ++ codes "w0.install.0 cacheDelete -> false\n"
+          ++ codes "- installed j0 -> ok | w0 installed\n"
+          ++ codes "- tryactivate r0 -> w0 | w0 activating\n"
+          ++ codes "- activated w0 -> ok | w0 activated\n"
+          ++ codes "end done\n";
       shown =
-    codes "registrations 1\n"
-    ++ codes "registration \"https://a.test\" \"https://a.test/app/x/\" imports\n"
-    ++ codes " active activated \"https://a.test/sw.js\" classic 5\n"
-    ++ codes "caches 0\n";
+          codes "registrations 1\n"
+          ++ codes "registration \"https://a.test\" \"https://a.test/app/x/\" imports\n"
+          ++ codes " active activated \"https://a.test/sw.js\" classic 5\n"
+          ++ codes "caches 0\n";
       durable =
-    codes "registrations 1\n"
-    ++ codes "registration \"https://a.test\" \"https://a.test/app/x/\" imports\n"
-    ++ codes " active activated \"https://a.test/sw.js\" classic 5\n"
-    ++ codes "caches 0\n";
+          codes "registrations 1\n"
+          ++ codes "registration \"https://a.test\" \"https://a.test/app/x/\" imports\n"
+          ++ codes " active activated \"https://a.test/sw.js\" classic 5\n"
+          ++ codes "caches 0\n";
     }
 unfolding digits escape_byte grammar_on_literals steps_on_literals
 row_057 = refl
@@ -140,29 +140,29 @@ row_081 :
     ++ codes "{\"lane\":0,\"do\":\"register\",\"client\":6,\"script\":\"/sw.js\",\"scope\":\"/\",\"type\":\"module\"}\n")
     ≡ record {
       transcript =
-    codes "- restarted -> 0 registrations 0 caches\n"
-    ++ codes "L0.0 open -> none\n"
-    ++ codes "L0.1 register -> j0\n"
-    ++ codes "- run j0 -> fetch 0 | mapped r0\n"
-    ++ codes "- fetched j0 -> changed | w0 parsed\n"
-    ++ codes "- evaluated j0 -> installing | w0 installing | settled j0 r0 | updatefound r0\n"
-    ++ codes "w0.install.0 cacheOpen -> made\n"
-    ++ codes "- installed j0 -> ok | w0 installed\n"
-    ++ codes "- tryactivate r0 -> w0 | w0 activating\n"
-    ++ codes "- activated w0 -> ok | w0 activated\n"
-    ++ codes "end done\n";
+          codes "- restarted -> 0 registrations 0 caches\n"
+          ++ codes "L0.0 open -> none\n"
+          ++ codes "L0.1 register -> j0\n"
+          ++ codes "- run j0 -> fetch 0 | mapped r0\n"
+          ++ codes "- fetched j0 -> changed | w0 parsed\n"
+          ++ codes "- evaluated j0 -> installing | w0 installing | settled j0 r0 | updatefound r0\n"
+          ++ codes "w0.install.0 cacheOpen -> made\n"
+          ++ codes "- installed j0 -> ok | w0 installed\n"
+          ++ codes "- tryactivate r0 -> w0 | w0 activating\n"
+          ++ codes "- activated w0 -> ok | w0 activated\n"
+          ++ codes "end done\n";
       shown =
-    codes "registrations 1\n"
-    ++ codes "registration \"https://b.test\" \"https://b.test/\" imports\n"
-    ++ codes " active activated \"https://b.test/sw.js\" module 5\n"
-    ++ codes "caches 1\n"
-    ++ codes "cache \"https://b.test\" \"v\" 0\n";
+          codes "registrations 1\n"
+          ++ codes "registration \"https://b.test\" \"https://b.test/\" imports\n"
+          ++ codes " active activated \"https://b.test/sw.js\" module 5\n"
+          ++ codes "caches 1\n"
+          ++ codes "cache \"https://b.test\" \"v\" 0\n";
       durable =
-    codes "registrations 1\n"
-    ++ codes "registration \"https://b.test\" \"https://b.test/\" imports\n"
-    ++ codes " active activated \"https://b.test/sw.js\" module 5\n"
-    ++ codes "caches 1\n"
-    ++ codes "cache \"https://b.test\" \"v\" 0\n";
+          codes "registrations 1\n"
+          ++ codes "registration \"https://b.test\" \"https://b.test/\" imports\n"
+          ++ codes " active activated \"https://b.test/sw.js\" module 5\n"
+          ++ codes "caches 1\n"
+          ++ codes "cache \"https://b.test\" \"v\" 0\n";
     }
 unfolding digits escape_byte grammar_on_literals steps_on_literals
 row_081 = refl
@@ -174,30 +174,30 @@ row_096 :
     ++ codes "{\"lane\":0,\"do\":\"register\",\"client\":1,\"script\":\"/app/sw.js\"}\n")
     ≡ record {
       transcript =
-    codes "- restarted -> 0 registrations 0 caches\n"
-    ++ codes "L0.0 open -> none\n"
-    ++ codes "L0.1 register -> j0\n"
-    ++ codes "- run j0 -> fetch 0 | mapped r0\n"
-    ++ codes "- fetched j0 -> changed | w0 parsed\n"
-    ++ codes "- evaluated j0 -> installing | w0 installing | settled j0 r0 | updatefound r0\n"
-    ++ codes "w0.install.0 cacheOpen -> made\n"
-    ++ codes "w0.install.1 batch -> ok\n"
-    ++ codes "- installed j0 -> ok | w0 installed\n"
-    ++ codes "- tryactivate r0 -> w0 | w0 activating\n"
-    ++ codes "- activated w0 -> ok | w0 activated\n"
-    ++ codes "end done\n";
+          codes "- restarted -> 0 registrations 0 caches\n"
+          ++ codes "L0.0 open -> none\n"
+          ++ codes "L0.1 register -> j0\n"
+          ++ codes "- run j0 -> fetch 0 | mapped r0\n"
+          ++ codes "- fetched j0 -> changed | w0 parsed\n"
+          ++ codes "- evaluated j0 -> installing | w0 installing | settled j0 r0 | updatefound r0\n"
+          ++ codes "w0.install.0 cacheOpen -> made\n"
+          ++ codes "w0.install.1 batch -> ok\n"
+          ++ codes "- installed j0 -> ok | w0 installed\n"
+          ++ codes "- tryactivate r0 -> w0 | w0 activating\n"
+          ++ codes "- activated w0 -> ok | w0 activated\n"
+          ++ codes "end done\n";
       shown =
-    codes "registrations 1\n"
-    ++ codes "registration \"https://xn--nxa.test\" \"https://xn--nxa.test/app/\" imports\n"
-    ++ codes " active activated \"https://xn--nxa.test/app/sw.js\" classic 5\n"
-    ++ codes "caches 1\n"
-    ++ codes "cache \"https://xn--nxa.test\" \"v\" 2\n";
+          codes "registrations 1\n"
+          ++ codes "registration \"https://xn--nxa.test\" \"https://xn--nxa.test/app/\" imports\n"
+          ++ codes " active activated \"https://xn--nxa.test/app/sw.js\" classic 5\n"
+          ++ codes "caches 1\n"
+          ++ codes "cache \"https://xn--nxa.test\" \"v\" 2\n";
       durable =
-    codes "registrations 1\n"
-    ++ codes "registration \"https://xn--nxa.test\" \"https://xn--nxa.test/app/\" imports\n"
-    ++ codes " active activated \"https://xn--nxa.test/app/sw.js\" classic 5\n"
-    ++ codes "caches 1\n"
-    ++ codes "cache \"https://xn--nxa.test\" \"v\" 2\n";
+          codes "registrations 1\n"
+          ++ codes "registration \"https://xn--nxa.test\" \"https://xn--nxa.test/app/\" imports\n"
+          ++ codes " active activated \"https://xn--nxa.test/app/sw.js\" classic 5\n"
+          ++ codes "caches 1\n"
+          ++ codes "cache \"https://xn--nxa.test\" \"v\" 2\n";
     }
 unfolding digits escape_byte grammar_on_literals steps_on_literals
 row_096 = refl
@@ -209,30 +209,30 @@ row_097 :
     ++ codes "{\"lane\":0,\"do\":\"register\",\"client\":1,\"script\":\"/app/sw.js\"}\n")
     ≡ record {
       transcript =
-    codes "- restarted -> 0 registrations 0 caches\n"
-    ++ codes "L0.0 open -> none\n"
-    ++ codes "L0.1 register -> j0\n"
-    ++ codes "- run j0 -> fetch 0 | mapped r0\n"
-    ++ codes "- fetched j0 -> changed | w0 parsed\n"
-    ++ codes "- evaluated j0 -> installing | w0 installing | settled j0 r0 | updatefound r0\n"
-    ++ codes "w0.install.0 cacheOpen -> made\n"
-    ++ codes "w0.install.1 put -> ok\n"
-    ++ codes "- installed j0 -> ok | w0 installed\n"
-    ++ codes "- tryactivate r0 -> w0 | w0 activating\n"
-    ++ codes "- activated w0 -> ok | w0 activated\n"
-    ++ codes "end done\n";
+          codes "- restarted -> 0 registrations 0 caches\n"
+          ++ codes "L0.0 open -> none\n"
+          ++ codes "L0.1 register -> j0\n"
+          ++ codes "- run j0 -> fetch 0 | mapped r0\n"
+          ++ codes "- fetched j0 -> changed | w0 parsed\n"
+          ++ codes "- evaluated j0 -> installing | w0 installing | settled j0 r0 | updatefound r0\n"
+          ++ codes "w0.install.0 cacheOpen -> made\n"
+          ++ codes "w0.install.1 put -> ok\n"
+          ++ codes "- installed j0 -> ok | w0 installed\n"
+          ++ codes "- tryactivate r0 -> w0 | w0 activating\n"
+          ++ codes "- activated w0 -> ok | w0 activated\n"
+          ++ codes "end done\n";
       shown =
-    codes "registrations 1\n"
-    ++ codes "registration \"https://xn--nxa.test\" \"https://xn--nxa.test/app/\" imports\n"
-    ++ codes " active activated \"https://xn--nxa.test/app/sw.js\" classic 5\n"
-    ++ codes "caches 1\n"
-    ++ codes "cache \"https://xn--nxa.test\" \"v\" 1\n";
+          codes "registrations 1\n"
+          ++ codes "registration \"https://xn--nxa.test\" \"https://xn--nxa.test/app/\" imports\n"
+          ++ codes " active activated \"https://xn--nxa.test/app/sw.js\" classic 5\n"
+          ++ codes "caches 1\n"
+          ++ codes "cache \"https://xn--nxa.test\" \"v\" 1\n";
       durable =
-    codes "registrations 1\n"
-    ++ codes "registration \"https://xn--nxa.test\" \"https://xn--nxa.test/app/\" imports\n"
-    ++ codes " active activated \"https://xn--nxa.test/app/sw.js\" classic 5\n"
-    ++ codes "caches 1\n"
-    ++ codes "cache \"https://xn--nxa.test\" \"v\" 1\n";
+          codes "registrations 1\n"
+          ++ codes "registration \"https://xn--nxa.test\" \"https://xn--nxa.test/app/\" imports\n"
+          ++ codes " active activated \"https://xn--nxa.test/app/sw.js\" classic 5\n"
+          ++ codes "caches 1\n"
+          ++ codes "cache \"https://xn--nxa.test\" \"v\" 1\n";
     }
 unfolding digits escape_byte grammar_on_literals steps_on_literals
 row_097 = refl
@@ -244,30 +244,30 @@ row_112 :
     ++ codes "{\"lane\":0,\"do\":\"register\",\"client\":1,\"script\":\"/other.js\",\"scope\":\"/\"}\n")
     ≡ record {
       transcript =
-    codes "- restarted -> 0 registrations 0 caches\n"
-    ++ codes "L0.0 open -> none\n"
-    ++ codes "L0.1 register -> j0\n"
-    ++ codes "- run j0 -> fetch 0 | mapped r0\n"
-    ++ codes "- fetched j0 -> changed | w0 parsed\n"
-    ++ codes "- evaluated j0 -> installing | w0 installing | settled j0 r0 | updatefound r0\n"
-    ++ codes "w0.install.0 cacheOpen -> made\n"
-    ++ codes "- installed j0 -> ok | w0 installed\n"
-    ++ codes "- tryactivate r0 -> w0 | w0 activating\n"
-    ++ codes "w0.activate.0 cacheOpen -> found\n"
-    ++ codes "- activated w0 -> ok | w0 activated\n"
-    ++ codes "end done\n";
+          codes "- restarted -> 0 registrations 0 caches\n"
+          ++ codes "L0.0 open -> none\n"
+          ++ codes "L0.1 register -> j0\n"
+          ++ codes "- run j0 -> fetch 0 | mapped r0\n"
+          ++ codes "- fetched j0 -> changed | w0 parsed\n"
+          ++ codes "- evaluated j0 -> installing | w0 installing | settled j0 r0 | updatefound r0\n"
+          ++ codes "w0.install.0 cacheOpen -> made\n"
+          ++ codes "- installed j0 -> ok | w0 installed\n"
+          ++ codes "- tryactivate r0 -> w0 | w0 activating\n"
+          ++ codes "w0.activate.0 cacheOpen -> found\n"
+          ++ codes "- activated w0 -> ok | w0 activated\n"
+          ++ codes "end done\n";
       shown =
-    codes "registrations 1\n"
-    ++ codes "registration \"http://127.9.0.1:99\" \"http://127.9.0.1:99/\" imports\n"
-    ++ codes " active activated \"http://127.9.0.1:99/other.js\" classic 5\n"
-    ++ codes "caches 1\n"
-    ++ codes "cache \"http://127.9.0.1:99\" \"v\" 0\n";
+          codes "registrations 1\n"
+          ++ codes "registration \"http://127.9.0.1:99\" \"http://127.9.0.1:99/\" imports\n"
+          ++ codes " active activated \"http://127.9.0.1:99/other.js\" classic 5\n"
+          ++ codes "caches 1\n"
+          ++ codes "cache \"http://127.9.0.1:99\" \"v\" 0\n";
       durable =
-    codes "registrations 1\n"
-    ++ codes "registration \"http://127.9.0.1:99\" \"http://127.9.0.1:99/\" imports\n"
-    ++ codes " active activated \"http://127.9.0.1:99/other.js\" classic 5\n"
-    ++ codes "caches 1\n"
-    ++ codes "cache \"http://127.9.0.1:99\" \"v\" 0\n";
+          codes "registrations 1\n"
+          ++ codes "registration \"http://127.9.0.1:99\" \"http://127.9.0.1:99/\" imports\n"
+          ++ codes " active activated \"http://127.9.0.1:99/other.js\" classic 5\n"
+          ++ codes "caches 1\n"
+          ++ codes "cache \"http://127.9.0.1:99\" \"v\" 0\n";
     }
 unfolding digits escape_byte grammar_on_literals steps_on_literals
 row_112 = refl
@@ -281,28 +281,28 @@ row_129 :
     ++ codes "{\"lane\":1,\"do\":\"register\",\"client\":1,\"script\":\"/sw.js\",\"scope\":\"/\"}\n")
     ≡ record {
       transcript =
-    codes "- restarted -> 0 registrations 0 caches\n"
-    ++ codes "L1.0 open -> none\n"
-    ++ codes "L1.1 register -> j0\n"
-    ++ codes "L1.2 register -> j1 joined j0\n"
-    ++ codes "L1.3 register -> j2 joined j0\n"
-    ++ codes "- run j0 -> fetch 0 | mapped r0\n"
-    ++ codes "- fetched j0 -> changed | w0 parsed\n"
-    ++ codes "- evaluated j0 -> installing | w0 installing | settled j0 r0 | settled j1 r0 | settled j2 r0 | updatefound r0\n"
-    ++ codes "- installed j0 -> ok | w0 installed\n"
-    ++ codes "- tryactivate r0 -> w0 | w0 activating\n"
-    ++ codes "- activated w0 -> ok | w0 activated\n"
-    ++ codes "end done\n";
+          codes "- restarted -> 0 registrations 0 caches\n"
+          ++ codes "L1.0 open -> none\n"
+          ++ codes "L1.1 register -> j0\n"
+          ++ codes "L1.2 register -> j1 joined j0\n"
+          ++ codes "L1.3 register -> j2 joined j0\n"
+          ++ codes "- run j0 -> fetch 0 | mapped r0\n"
+          ++ codes "- fetched j0 -> changed | w0 parsed\n"
+          ++ codes "- evaluated j0 -> installing | w0 installing | settled j0 r0 | settled j1 r0 | settled j2 r0 | updatefound r0\n"
+          ++ codes "- installed j0 -> ok | w0 installed\n"
+          ++ codes "- tryactivate r0 -> w0 | w0 activating\n"
+          ++ codes "- activated w0 -> ok | w0 activated\n"
+          ++ codes "end done\n";
       shown =
-    codes "registrations 1\n"
-    ++ codes "registration \"http://localhost:8080\" \"http://localhost:8080/\" imports\n"
-    ++ codes " active activated \"http://localhost:8080/sw.js\" classic 5\n"
-    ++ codes "caches 0\n";
+          codes "registrations 1\n"
+          ++ codes "registration \"http://localhost:8080\" \"http://localhost:8080/\" imports\n"
+          ++ codes " active activated \"http://localhost:8080/sw.js\" classic 5\n"
+          ++ codes "caches 0\n";
       durable =
-    codes "registrations 1\n"
-    ++ codes "registration \"http://localhost:8080\" \"http://localhost:8080/\" imports\n"
-    ++ codes " active activated \"http://localhost:8080/sw.js\" classic 5\n"
-    ++ codes "caches 0\n";
+          codes "registrations 1\n"
+          ++ codes "registration \"http://localhost:8080\" \"http://localhost:8080/\" imports\n"
+          ++ codes " active activated \"http://localhost:8080/sw.js\" classic 5\n"
+          ++ codes "caches 0\n";
     }
 unfolding digits escape_byte grammar_on_literals steps_on_literals
 row_129 = refl
@@ -314,31 +314,31 @@ row_144 :
     ++ codes "{\"lane\":0,\"do\":\"register\",\"client\":2,\"script\":\"/sw.js\",\"scope\":\"/app/\"}\n")
     ≡ record {
       transcript =
-    codes "- restarted -> 0 registrations 0 caches\n"
-    ++ codes "L0.0 open -> none\n"
-    ++ codes "L0.1 register -> j0\n"
-    ++ codes "- run j0 -> fetch 0 | mapped r0\n"
-    ++ codes "- fetched j0 -> changed | w0 parsed\n"
-    ++ codes "- evaluated j0 -> installing | w0 installing | settled j0 r0 | updatefound r0\n"
-    ++ codes "w0.install.0 cacheOpen -> made\n"
-    ++ codes "w0.install.1 cacheDelete -> true\n"
-    ++ codes "w0.install.2 cacheOpen -> made\n"
-    ++ codes "- installed j0 -> ok | w0 installed\n"
-    ++ codes "- tryactivate r0 -> w0 | w0 activating\n"
-    ++ codes "- activated w0 -> ok | w0 activated\n"
-    ++ codes "end done\n";
+          codes "- restarted -> 0 registrations 0 caches\n"
+          ++ codes "L0.0 open -> none\n"
+          ++ codes "L0.1 register -> j0\n"
+          ++ codes "- run j0 -> fetch 0 | mapped r0\n"
+          ++ codes "- fetched j0 -> changed | w0 parsed\n"
+          ++ codes "- evaluated j0 -> installing | w0 installing | settled j0 r0 | updatefound r0\n"
+          ++ codes "w0.install.0 cacheOpen -> made\n"
+          ++ codes "w0.install.1 cacheDelete -> true\n"
+          ++ codes "w0.install.2 cacheOpen -> made\n"
+          ++ codes "- installed j0 -> ok | w0 installed\n"
+          ++ codes "- tryactivate r0 -> w0 | w0 activating\n"
+          ++ codes "- activated w0 -> ok | w0 activated\n"
+          ++ codes "end done\n";
       shown =
-    codes "registrations 1\n"
-    ++ codes "registration \"http://localhost:8080\" \"http://localhost:8080/app/\" imports\n"
-    ++ codes " active activated \"http://localhost:8080/sw.js\" classic 5\n"
-    ++ codes "caches 1\n"
-    ++ codes "cache \"http://localhost:8080\" \"v\" 0\n";
+          codes "registrations 1\n"
+          ++ codes "registration \"http://localhost:8080\" \"http://localhost:8080/app/\" imports\n"
+          ++ codes " active activated \"http://localhost:8080/sw.js\" classic 5\n"
+          ++ codes "caches 1\n"
+          ++ codes "cache \"http://localhost:8080\" \"v\" 0\n";
       durable =
-    codes "registrations 1\n"
-    ++ codes "registration \"http://localhost:8080\" \"http://localhost:8080/app/\" imports\n"
-    ++ codes " active activated \"http://localhost:8080/sw.js\" classic 5\n"
-    ++ codes "caches 1\n"
-    ++ codes "cache \"http://localhost:8080\" \"v\" 0\n";
+          codes "registrations 1\n"
+          ++ codes "registration \"http://localhost:8080\" \"http://localhost:8080/app/\" imports\n"
+          ++ codes " active activated \"http://localhost:8080/sw.js\" classic 5\n"
+          ++ codes "caches 1\n"
+          ++ codes "cache \"http://localhost:8080\" \"v\" 0\n";
     }
 unfolding digits escape_byte grammar_on_literals steps_on_literals
 row_144 = refl
@@ -351,27 +351,27 @@ row_158 :
     ++ codes "{\"lane\":2,\"do\":\"register\",\"client\":2,\"script\":\"/sw.js\",\"scope\":\"/\"}\n")
     ≡ record {
       transcript =
-    codes "- restarted -> 0 registrations 0 caches\n"
-    ++ codes "L2.0 open -> none\n"
-    ++ codes "L2.1 register -> j0\n"
-    ++ codes "L2.2 register -> j1 joined j0\n"
-    ++ codes "- run j0 -> fetch 0 | mapped r0\n"
-    ++ codes "- fetched j0 -> changed | w0 parsed\n"
-    ++ codes "- evaluated j0 -> installing | w0 installing | settled j0 r0 | settled j1 r0 | updatefound r0\n"
-    ++ codes "- installed j0 -> ok | w0 installed\n"
-    ++ codes "- tryactivate r0 -> w0 | w0 activating\n"
-    ++ codes "- activated w0 -> ok | w0 activated\n"
-    ++ codes "end done\n";
+          codes "- restarted -> 0 registrations 0 caches\n"
+          ++ codes "L2.0 open -> none\n"
+          ++ codes "L2.1 register -> j0\n"
+          ++ codes "L2.2 register -> j1 joined j0\n"
+          ++ codes "- run j0 -> fetch 0 | mapped r0\n"
+          ++ codes "- fetched j0 -> changed | w0 parsed\n"
+          ++ codes "- evaluated j0 -> installing | w0 installing | settled j0 r0 | settled j1 r0 | updatefound r0\n"
+          ++ codes "- installed j0 -> ok | w0 installed\n"
+          ++ codes "- tryactivate r0 -> w0 | w0 activating\n"
+          ++ codes "- activated w0 -> ok | w0 activated\n"
+          ++ codes "end done\n";
       shown =
-    codes "registrations 1\n"
-    ++ codes "registration \"http://x.localhost\" \"http://x.localhost/\" imports\n"
-    ++ codes " active activated \"http://x.localhost/sw.js\" classic 5\n"
-    ++ codes "caches 0\n";
+          codes "registrations 1\n"
+          ++ codes "registration \"http://x.localhost\" \"http://x.localhost/\" imports\n"
+          ++ codes " active activated \"http://x.localhost/sw.js\" classic 5\n"
+          ++ codes "caches 0\n";
       durable =
-    codes "registrations 1\n"
-    ++ codes "registration \"http://x.localhost\" \"http://x.localhost/\" imports\n"
-    ++ codes " active activated \"http://x.localhost/sw.js\" classic 5\n"
-    ++ codes "caches 0\n";
+          codes "registrations 1\n"
+          ++ codes "registration \"http://x.localhost\" \"http://x.localhost/\" imports\n"
+          ++ codes " active activated \"http://x.localhost/sw.js\" classic 5\n"
+          ++ codes "caches 0\n";
     }
 unfolding digits escape_byte grammar_on_literals steps_on_literals
 row_158 = refl
@@ -383,30 +383,30 @@ row_159 :
     ++ codes "{\"lane\":2,\"do\":\"register\",\"client\":2,\"script\":\"/sw.js\",\"scope\":\"/\"}\n")
     ≡ record {
       transcript =
-    codes "- restarted -> 0 registrations 0 caches\n"
-    ++ codes "L2.0 open -> none\n"
-    ++ codes "L2.1 register -> j0\n"
-    ++ codes "- run j0 -> fetch 0 | mapped r0\n"
-    ++ codes "- fetched j0 -> changed | w0 parsed\n"
-    ++ codes "- evaluated j0 -> installing | w0 installing | settled j0 r0 | updatefound r0\n"
-    ++ codes "w0.install.0 cacheOpen -> made\n"
-    ++ codes "w0.install.1 delete -> false\n"
-    ++ codes "- installed j0 -> ok | w0 installed\n"
-    ++ codes "- tryactivate r0 -> w0 | w0 activating\n"
-    ++ codes "- activated w0 -> ok | w0 activated\n"
-    ++ codes "end done\n";
+          codes "- restarted -> 0 registrations 0 caches\n"
+          ++ codes "L2.0 open -> none\n"
+          ++ codes "L2.1 register -> j0\n"
+          ++ codes "- run j0 -> fetch 0 | mapped r0\n"
+          ++ codes "- fetched j0 -> changed | w0 parsed\n"
+          ++ codes "- evaluated j0 -> installing | w0 installing | settled j0 r0 | updatefound r0\n"
+          ++ codes "w0.install.0 cacheOpen -> made\n"
+          ++ codes "w0.install.1 delete -> false\n"
+          ++ codes "- installed j0 -> ok | w0 installed\n"
+          ++ codes "- tryactivate r0 -> w0 | w0 activating\n"
+          ++ codes "- activated w0 -> ok | w0 activated\n"
+          ++ codes "end done\n";
       shown =
-    codes "registrations 1\n"
-    ++ codes "registration \"http://x.localhost\" \"http://x.localhost/\" imports\n"
-    ++ codes " active activated \"http://x.localhost/sw.js\" classic 5\n"
-    ++ codes "caches 1\n"
-    ++ codes "cache \"http://x.localhost\" \"v\" 0\n";
+          codes "registrations 1\n"
+          ++ codes "registration \"http://x.localhost\" \"http://x.localhost/\" imports\n"
+          ++ codes " active activated \"http://x.localhost/sw.js\" classic 5\n"
+          ++ codes "caches 1\n"
+          ++ codes "cache \"http://x.localhost\" \"v\" 0\n";
       durable =
-    codes "registrations 1\n"
-    ++ codes "registration \"http://x.localhost\" \"http://x.localhost/\" imports\n"
-    ++ codes " active activated \"http://x.localhost/sw.js\" classic 5\n"
-    ++ codes "caches 1\n"
-    ++ codes "cache \"http://x.localhost\" \"v\" 0\n";
+          codes "registrations 1\n"
+          ++ codes "registration \"http://x.localhost\" \"http://x.localhost/\" imports\n"
+          ++ codes " active activated \"http://x.localhost/sw.js\" classic 5\n"
+          ++ codes "caches 1\n"
+          ++ codes "cache \"http://x.localhost\" \"v\" 0\n";
     }
 unfolding digits escape_byte grammar_on_literals steps_on_literals
 row_159 = refl
@@ -418,30 +418,30 @@ row_170 :
     ++ codes "{\"lane\":1,\"do\":\"register\",\"client\":5,\"script\":\"/sw.js\",\"scope\":\"/\",\"type\":\"classic\"}\n")
     ≡ record {
       transcript =
-    codes "- restarted -> 0 registrations 0 caches\n"
-    ++ codes "L1.0 open -> none\n"
-    ++ codes "L1.1 register -> j0\n"
-    ++ codes "- run j0 -> fetch 0 | mapped r0\n"
-    ++ codes "- fetched j0 -> changed | w0 parsed\n"
-    ++ codes "- evaluated j0 -> installing | w0 installing | settled j0 r0 | updatefound r0\n"
-    ++ codes "- installed j0 -> ok | w0 installed\n"
-    ++ codes "- tryactivate r0 -> w0 | w0 activating\n"
-    ++ codes "w0.activate.0 cacheOpen -> made\n"
-    ++ codes "w0.activate.1 addAll -> TypeError method\n"
-    ++ codes "- activated w0 -> ok | w0 activated\n"
-    ++ codes "end done\n";
+          codes "- restarted -> 0 registrations 0 caches\n"
+          ++ codes "L1.0 open -> none\n"
+          ++ codes "L1.1 register -> j0\n"
+          ++ codes "- run j0 -> fetch 0 | mapped r0\n"
+          ++ codes "- fetched j0 -> changed | w0 parsed\n"
+          ++ codes "- evaluated j0 -> installing | w0 installing | settled j0 r0 | updatefound r0\n"
+          ++ codes "- installed j0 -> ok | w0 installed\n"
+          ++ codes "- tryactivate r0 -> w0 | w0 activating\n"
+          ++ codes "w0.activate.0 cacheOpen -> made\n"
+          ++ codes "w0.activate.1 addAll -> TypeError method\n"
+          ++ codes "- activated w0 -> ok | w0 activated\n"
+          ++ codes "end done\n";
       shown =
-    codes "registrations 1\n"
-    ++ codes "registration \"https://b.test\" \"https://b.test/\" imports\n"
-    ++ codes " active activated \"https://b.test/sw.js\" classic 5\n"
-    ++ codes "caches 1\n"
-    ++ codes "cache \"https://b.test\" \"v\" 0\n";
+          codes "registrations 1\n"
+          ++ codes "registration \"https://b.test\" \"https://b.test/\" imports\n"
+          ++ codes " active activated \"https://b.test/sw.js\" classic 5\n"
+          ++ codes "caches 1\n"
+          ++ codes "cache \"https://b.test\" \"v\" 0\n";
       durable =
-    codes "registrations 1\n"
-    ++ codes "registration \"https://b.test\" \"https://b.test/\" imports\n"
-    ++ codes " active activated \"https://b.test/sw.js\" classic 5\n"
-    ++ codes "caches 1\n"
-    ++ codes "cache \"https://b.test\" \"v\" 0\n";
+          codes "registrations 1\n"
+          ++ codes "registration \"https://b.test\" \"https://b.test/\" imports\n"
+          ++ codes " active activated \"https://b.test/sw.js\" classic 5\n"
+          ++ codes "caches 1\n"
+          ++ codes "cache \"https://b.test\" \"v\" 0\n";
     }
 unfolding digits escape_byte grammar_on_literals steps_on_literals
 row_170 = refl
@@ -453,27 +453,27 @@ row_171 :
     ++ codes "{\"lane\":1,\"do\":\"register\",\"client\":5,\"script\":\"/sw.js\",\"scope\":\"/\",\"type\":\"classic\"}\n")
     ≡ record {
       transcript =
-    codes "- restarted -> 0 registrations 0 caches\n"
-    ++ codes "L1.0 open -> none\n"
-    ++ codes "L1.1 register -> j0\n"
-    ++ codes "- run j0 -> fetch 0 | mapped r0\n"
-    ++ codes "- fetched j0 -> changed | w0 parsed\n"
-    ++ codes "- evaluated j0 -> installing | w0 installing | settled j0 r0 | updatefound r0\n"
-    ++ codes "- installed j0 -> ok | w0 installed\n"
-    ++ codes "- tryactivate r0 -> w0 | w0 activating\n"
-    ++ codes "w0.activate.0 addAll -> CacheGone\n"
-    ++ codes "- activated w0 -> ok | w0 activated\n"
-    ++ codes "end done\n";
+          codes "- restarted -> 0 registrations 0 caches\n"
+          ++ codes "L1.0 open -> none\n"
+          ++ codes "L1.1 register -> j0\n"
+          ++ codes "- run j0 -> fetch 0 | mapped r0\n"
+          ++ codes "- fetched j0 -> changed | w0 parsed\n"
+          ++ codes "- evaluated j0 -> installing | w0 installing | settled j0 r0 | updatefound r0\n"
+          ++ codes "- installed j0 -> ok | w0 installed\n"
+          ++ codes "- tryactivate r0 -> w0 | w0 activating\n"
+          ++ codes "w0.activate.0 addAll -> CacheGone\n"
+          ++ codes "- activated w0 -> ok | w0 activated\n"
+          ++ codes "end done\n";
       shown =
-    codes "registrations 1\n"
-    ++ codes "registration \"https://b.test\" \"https://b.test/\" imports\n"
-    ++ codes " active activated \"https://b.test/sw.js\" classic 5\n"
-    ++ codes "caches 0\n";
+          codes "registrations 1\n"
+          ++ codes "registration \"https://b.test\" \"https://b.test/\" imports\n"
+          ++ codes " active activated \"https://b.test/sw.js\" classic 5\n"
+          ++ codes "caches 0\n";
       durable =
-    codes "registrations 1\n"
-    ++ codes "registration \"https://b.test\" \"https://b.test/\" imports\n"
-    ++ codes " active activated \"https://b.test/sw.js\" classic 5\n"
-    ++ codes "caches 0\n";
+          codes "registrations 1\n"
+          ++ codes "registration \"https://b.test\" \"https://b.test/\" imports\n"
+          ++ codes " active activated \"https://b.test/sw.js\" classic 5\n"
+          ++ codes "caches 0\n";
     }
 unfolding digits escape_byte grammar_on_literals steps_on_literals
 row_171 = refl
@@ -486,28 +486,28 @@ row_176 :
     ++ codes "{\"lane\":0,\"do\":\"register\",\"client\":8,\"script\":\"/app/sw.js\",\"cache\":\"all\"}\n")
     ≡ record {
       transcript =
-    codes "- restarted -> 0 registrations 0 caches\n"
-    ++ codes "L0.0 open -> none\n"
-    ++ codes "L0.1 cacheOpen -> made\n"
-    ++ codes "L0.2 register -> j0\n"
-    ++ codes "- run j0 -> fetch 0 | mapped r0\n"
-    ++ codes "- fetched j0 -> changed | w0 parsed\n"
-    ++ codes "- evaluated j0 -> installing | w0 installing | settled j0 r0 | updatefound r0\n"
-    ++ codes "- installed j0 -> ok | w0 installed\n"
-    ++ codes "- tryactivate r0 -> w0 | w0 activating\n"
-    ++ codes "w0.activate.0 cacheDelete -> true\n"
-    ++ codes "- activated w0 -> ok | w0 activated\n"
-    ++ codes "end done\n";
+          codes "- restarted -> 0 registrations 0 caches\n"
+          ++ codes "L0.0 open -> none\n"
+          ++ codes "L0.1 cacheOpen -> made\n"
+          ++ codes "L0.2 register -> j0\n"
+          ++ codes "- run j0 -> fetch 0 | mapped r0\n"
+          ++ codes "- fetched j0 -> changed | w0 parsed\n"
+          ++ codes "- evaluated j0 -> installing | w0 installing | settled j0 r0 | updatefound r0\n"
+          ++ codes "- installed j0 -> ok | w0 installed\n"
+          ++ codes "- tryactivate r0 -> w0 | w0 activating\n"
+          ++ codes "w0.activate.0 cacheDelete -> true\n"
+          ++ codes "- activated w0 -> ok | w0 activated\n"
+          ++ codes "end done\n";
       shown =
-    codes "registrations 1\n"
-    ++ codes "registration \"https://a.test\" \"https://a.test/app/\" all\n"
-    ++ codes " active activated \"https://a.test/app/sw.js\" classic 5\n"
-    ++ codes "caches 0\n";
+          codes "registrations 1\n"
+          ++ codes "registration \"https://a.test\" \"https://a.test/app/\" all\n"
+          ++ codes " active activated \"https://a.test/app/sw.js\" classic 5\n"
+          ++ codes "caches 0\n";
       durable =
-    codes "registrations 1\n"
-    ++ codes "registration \"https://a.test\" \"https://a.test/app/\" all\n"
-    ++ codes " active activated \"https://a.test/app/sw.js\" classic 5\n"
-    ++ codes "caches 0\n";
+          codes "registrations 1\n"
+          ++ codes "registration \"https://a.test\" \"https://a.test/app/\" all\n"
+          ++ codes " active activated \"https://a.test/app/sw.js\" classic 5\n"
+          ++ codes "caches 0\n";
     }
 unfolding digits escape_byte grammar_on_literals steps_on_literals
 row_176 = refl
@@ -520,30 +520,30 @@ row_177 :
     ++ codes "{\"lane\":0,\"do\":\"register\",\"client\":8,\"script\":\"/app/sw.js\",\"cache\":\"all\"}\n")
     ≡ record {
       transcript =
-    codes "- restarted -> 0 registrations 0 caches\n"
-    ++ codes "L0.0 open -> none\n"
-    ++ codes "L0.1 cacheOpen -> made\n"
-    ++ codes "L0.2 register -> j0\n"
-    ++ codes "- run j0 -> fetch 0 | mapped r0\n"
-    ++ codes "- fetched j0 -> changed | w0 parsed\n"
-    ++ codes "- evaluated j0 -> installing | w0 installing | settled j0 r0 | updatefound r0\n"
-    ++ codes "- installed j0 -> ok | w0 installed\n"
-    ++ codes "- tryactivate r0 -> w0 | w0 activating\n"
-    ++ codes "w0.activate.0 put -> ok\n"
-    ++ codes "- activated w0 -> ok | w0 activated\n"
-    ++ codes "end done\n";
+          codes "- restarted -> 0 registrations 0 caches\n"
+          ++ codes "L0.0 open -> none\n"
+          ++ codes "L0.1 cacheOpen -> made\n"
+          ++ codes "L0.2 register -> j0\n"
+          ++ codes "- run j0 -> fetch 0 | mapped r0\n"
+          ++ codes "- fetched j0 -> changed | w0 parsed\n"
+          ++ codes "- evaluated j0 -> installing | w0 installing | settled j0 r0 | updatefound r0\n"
+          ++ codes "- installed j0 -> ok | w0 installed\n"
+          ++ codes "- tryactivate r0 -> w0 | w0 activating\n"
+          ++ codes "w0.activate.0 put -> ok\n"
+          ++ codes "- activated w0 -> ok | w0 activated\n"
+          ++ codes "end done\n";
       shown =
-    codes "registrations 1\n"
-    ++ codes "registration \"https://a.test\" \"https://a.test/app/\" all\n"
-    ++ codes " active activated \"https://a.test/app/sw.js\" classic 5\n"
-    ++ codes "caches 1\n"
-    ++ codes "cache \"https://a.test\" \"v\" 1\n";
+          codes "registrations 1\n"
+          ++ codes "registration \"https://a.test\" \"https://a.test/app/\" all\n"
+          ++ codes " active activated \"https://a.test/app/sw.js\" classic 5\n"
+          ++ codes "caches 1\n"
+          ++ codes "cache \"https://a.test\" \"v\" 1\n";
       durable =
-    codes "registrations 1\n"
-    ++ codes "registration \"https://a.test\" \"https://a.test/app/\" all\n"
-    ++ codes " active activated \"https://a.test/app/sw.js\" classic 5\n"
-    ++ codes "caches 1\n"
-    ++ codes "cache \"https://a.test\" \"v\" 1\n";
+          codes "registrations 1\n"
+          ++ codes "registration \"https://a.test\" \"https://a.test/app/\" all\n"
+          ++ codes " active activated \"https://a.test/app/sw.js\" classic 5\n"
+          ++ codes "caches 1\n"
+          ++ codes "cache \"https://a.test\" \"v\" 1\n";
     }
 unfolding digits escape_byte grammar_on_literals steps_on_literals
 row_177 = refl
@@ -556,30 +556,30 @@ row_178 :
     ++ codes "{\"lane\":0,\"do\":\"register\",\"client\":8,\"script\":\"/app/sw.js\",\"cache\":\"all\"}\n")
     ≡ record {
       transcript =
-    codes "- restarted -> 0 registrations 0 caches\n"
-    ++ codes "L0.0 open -> none\n"
-    ++ codes "L0.1 cacheOpen -> made\n"
-    ++ codes "L0.2 register -> j0\n"
-    ++ codes "- run j0 -> fetch 0 | mapped r0\n"
-    ++ codes "- fetched j0 -> changed | w0 parsed\n"
-    ++ codes "- evaluated j0 -> installing | w0 installing | settled j0 r0 | updatefound r0\n"
-    ++ codes "- installed j0 -> ok | w0 installed\n"
-    ++ codes "- tryactivate r0 -> w0 | w0 activating\n"
-    ++ codes "w0.activate.0 batch -> TypeError partial 1\n"
-    ++ codes "- activated w0 -> ok | w0 activated\n"
-    ++ codes "end done\n";
+          codes "- restarted -> 0 registrations 0 caches\n"
+          ++ codes "L0.0 open -> none\n"
+          ++ codes "L0.1 cacheOpen -> made\n"
+          ++ codes "L0.2 register -> j0\n"
+          ++ codes "- run j0 -> fetch 0 | mapped r0\n"
+          ++ codes "- fetched j0 -> changed | w0 parsed\n"
+          ++ codes "- evaluated j0 -> installing | w0 installing | settled j0 r0 | updatefound r0\n"
+          ++ codes "- installed j0 -> ok | w0 installed\n"
+          ++ codes "- tryactivate r0 -> w0 | w0 activating\n"
+          ++ codes "w0.activate.0 batch -> TypeError partial 1\n"
+          ++ codes "- activated w0 -> ok | w0 activated\n"
+          ++ codes "end done\n";
       shown =
-    codes "registrations 1\n"
-    ++ codes "registration \"https://a.test\" \"https://a.test/app/\" all\n"
-    ++ codes " active activated \"https://a.test/app/sw.js\" classic 5\n"
-    ++ codes "caches 1\n"
-    ++ codes "cache \"https://a.test\" \"v\" 0\n";
+          codes "registrations 1\n"
+          ++ codes "registration \"https://a.test\" \"https://a.test/app/\" all\n"
+          ++ codes " active activated \"https://a.test/app/sw.js\" classic 5\n"
+          ++ codes "caches 1\n"
+          ++ codes "cache \"https://a.test\" \"v\" 0\n";
       durable =
-    codes "registrations 1\n"
-    ++ codes "registration \"https://a.test\" \"https://a.test/app/\" all\n"
-    ++ codes " active activated \"https://a.test/app/sw.js\" classic 5\n"
-    ++ codes "caches 1\n"
-    ++ codes "cache \"https://a.test\" \"v\" 0\n";
+          codes "registrations 1\n"
+          ++ codes "registration \"https://a.test\" \"https://a.test/app/\" all\n"
+          ++ codes " active activated \"https://a.test/app/sw.js\" classic 5\n"
+          ++ codes "caches 1\n"
+          ++ codes "cache \"https://a.test\" \"v\" 0\n";
     }
 unfolding digits escape_byte grammar_on_literals steps_on_literals
 row_178 = refl
@@ -591,30 +591,30 @@ row_204 :
     ++ codes "{\"lane\":2,\"do\":\"register\",\"client\":1,\"script\":\"/sw.js\",\"scope\":\"/\",\"cache\":\"all\"}\n")
     ≡ record {
       transcript =
-    codes "- restarted -> 0 registrations 0 caches\n"
-    ++ codes "L2.0 open -> none\n"
-    ++ codes "L2.1 register -> j0\n"
-    ++ codes "- run j0 -> fetch 0 | mapped r0\n"
-    ++ codes "- fetched j0 -> changed | w0 parsed\n"
-    ++ codes "- evaluated j0 -> installing | w0 installing | settled j0 r0 | updatefound r0\n"
-    ++ codes "w0.install.0 cacheOpen -> made\n"
-    ++ codes "- installed j0 -> ok | w0 installed\n"
-    ++ codes "- tryactivate r0 -> w0 | w0 activating\n"
-    ++ codes "w0.activate.0 put -> TypeError scheme\n"
-    ++ codes "- activated w0 -> ok | w0 activated\n"
-    ++ codes "end done\n";
+          codes "- restarted -> 0 registrations 0 caches\n"
+          ++ codes "L2.0 open -> none\n"
+          ++ codes "L2.1 register -> j0\n"
+          ++ codes "- run j0 -> fetch 0 | mapped r0\n"
+          ++ codes "- fetched j0 -> changed | w0 parsed\n"
+          ++ codes "- evaluated j0 -> installing | w0 installing | settled j0 r0 | updatefound r0\n"
+          ++ codes "w0.install.0 cacheOpen -> made\n"
+          ++ codes "- installed j0 -> ok | w0 installed\n"
+          ++ codes "- tryactivate r0 -> w0 | w0 activating\n"
+          ++ codes "w0.activate.0 put -> TypeError scheme\n"
+          ++ codes "- activated w0 -> ok | w0 activated\n"
+          ++ codes "end done\n";
       shown =
-    codes "registrations 1\n"
-    ++ codes "registration \"http://127.0.0.1\" \"http://127.0.0.1/\" all\n"
-    ++ codes " active activated \"http://127.0.0.1/sw.js\" classic 5\n"
-    ++ codes "caches 1\n"
-    ++ codes "cache \"http://127.0.0.1\" \"v\" 0\n";
+          codes "registrations 1\n"
+          ++ codes "registration \"http://127.0.0.1\" \"http://127.0.0.1/\" all\n"
+          ++ codes " active activated \"http://127.0.0.1/sw.js\" classic 5\n"
+          ++ codes "caches 1\n"
+          ++ codes "cache \"http://127.0.0.1\" \"v\" 0\n";
       durable =
-    codes "registrations 1\n"
-    ++ codes "registration \"http://127.0.0.1\" \"http://127.0.0.1/\" all\n"
-    ++ codes " active activated \"http://127.0.0.1/sw.js\" classic 5\n"
-    ++ codes "caches 1\n"
-    ++ codes "cache \"http://127.0.0.1\" \"v\" 0\n";
+          codes "registrations 1\n"
+          ++ codes "registration \"http://127.0.0.1\" \"http://127.0.0.1/\" all\n"
+          ++ codes " active activated \"http://127.0.0.1/sw.js\" classic 5\n"
+          ++ codes "caches 1\n"
+          ++ codes "cache \"http://127.0.0.1\" \"v\" 0\n";
     }
 unfolding digits escape_byte grammar_on_literals steps_on_literals
 row_204 = refl
@@ -626,30 +626,30 @@ row_214 :
     ++ codes "{\"lane\":0,\"do\":\"register\",\"client\":6,\"script\":\"/sw.js\",\"scope\":\"/\"}\n")
     ≡ record {
       transcript =
-    codes "- restarted -> 0 registrations 0 caches\n"
-    ++ codes "L0.0 open -> none\n"
-    ++ codes "L0.1 register -> j0\n"
-    ++ codes "- run j0 -> fetch 0 | mapped r0\n"
-    ++ codes "- fetched j0 -> changed | w0 parsed\n"
-    ++ codes "- evaluated j0 -> installing | w0 installing | settled j0 r0 | updatefound r0\n"
-    ++ codes "- installed j0 -> ok | w0 installed\n"
-    ++ codes "- tryactivate r0 -> w0 | w0 activating\n"
-    ++ codes "w0.activate.0 cacheOpen -> made\n"
-    ++ codes "w0.activate.1 batch -> TypeError scheme 1\n"
-    ++ codes "- activated w0 -> ok | w0 activated\n"
-    ++ codes "end done\n";
+          codes "- restarted -> 0 registrations 0 caches\n"
+          ++ codes "L0.0 open -> none\n"
+          ++ codes "L0.1 register -> j0\n"
+          ++ codes "- run j0 -> fetch 0 | mapped r0\n"
+          ++ codes "- fetched j0 -> changed | w0 parsed\n"
+          ++ codes "- evaluated j0 -> installing | w0 installing | settled j0 r0 | updatefound r0\n"
+          ++ codes "- installed j0 -> ok | w0 installed\n"
+          ++ codes "- tryactivate r0 -> w0 | w0 activating\n"
+          ++ codes "w0.activate.0 cacheOpen -> made\n"
+          ++ codes "w0.activate.1 batch -> TypeError scheme 1\n"
+          ++ codes "- activated w0 -> ok | w0 activated\n"
+          ++ codes "end done\n";
       shown =
-    codes "registrations 1\n"
-    ++ codes "registration \"https://a.test:8443\" \"https://a.test:8443/\" imports\n"
-    ++ codes " active activated \"https://a.test:8443/sw.js\" classic 5\n"
-    ++ codes "caches 1\n"
-    ++ codes "cache \"https://a.test:8443\" \"v\" 0\n";
+          codes "registrations 1\n"
+          ++ codes "registration \"https://a.test:8443\" \"https://a.test:8443/\" imports\n"
+          ++ codes " active activated \"https://a.test:8443/sw.js\" classic 5\n"
+          ++ codes "caches 1\n"
+          ++ codes "cache \"https://a.test:8443\" \"v\" 0\n";
       durable =
-    codes "registrations 1\n"
-    ++ codes "registration \"https://a.test:8443\" \"https://a.test:8443/\" imports\n"
-    ++ codes " active activated \"https://a.test:8443/sw.js\" classic 5\n"
-    ++ codes "caches 1\n"
-    ++ codes "cache \"https://a.test:8443\" \"v\" 0\n";
+          codes "registrations 1\n"
+          ++ codes "registration \"https://a.test:8443\" \"https://a.test:8443/\" imports\n"
+          ++ codes " active activated \"https://a.test:8443/sw.js\" classic 5\n"
+          ++ codes "caches 1\n"
+          ++ codes "cache \"https://a.test:8443\" \"v\" 0\n";
     }
 unfolding digits escape_byte grammar_on_literals steps_on_literals
 row_214 = refl
@@ -661,33 +661,33 @@ row_246 :
     ++ codes "{\"lane\":0,\"do\":\"register\",\"client\":2,\"script\":\"/sw.js\",\"scope\":\"/\",\"type\":\"classic\"}\n")
     ≡ record {
       transcript =
-    codes "- restarted -> 0 registrations 0 caches\n"
-    ++ codes "L0.0 open -> none\n"
-    ++ codes "L0.1 register -> j0\n"
-    ++ codes "- run j0 -> fetch 0 | mapped r0\n"
-    ++ codes "- fetched j0 -> changed | w0 parsed\n"
-    ++ codes "- evaluated j0 -> installing | w0 installing | settled j0 r0 | updatefound r0\n"
-    ++ codes "w0.install.0 cacheOpen -> made\n"
-    ++ codes "w0.install.1 batch -> ok\n"
-    ++ codes "w0.install.2 cacheOpen -> found\n"
-    ++ codes "w0.install.3 cacheOpen -> found\n"
-    ++ codes "w0.install.4 delete -> true\n"
-    ++ codes "- installed j0 -> ok | w0 installed\n"
-    ++ codes "- tryactivate r0 -> w0 | w0 activating\n"
-    ++ codes "- activated w0 -> ok | w0 activated\n"
-    ++ codes "end done\n";
+          codes "- restarted -> 0 registrations 0 caches\n"
+          ++ codes "L0.0 open -> none\n"
+          ++ codes "L0.1 register -> j0\n"
+          ++ codes "- run j0 -> fetch 0 | mapped r0\n"
+          ++ codes "- fetched j0 -> changed | w0 parsed\n"
+          ++ codes "- evaluated j0 -> installing | w0 installing | settled j0 r0 | updatefound r0\n"
+          ++ codes "w0.install.0 cacheOpen -> made\n"
+          ++ codes "w0.install.1 batch -> ok\n"
+          ++ codes "w0.install.2 cacheOpen -> found\n"
+          ++ codes "w0.install.3 cacheOpen -> found\n"
+          ++ codes "w0.install.4 delete -> true\n"
+          ++ codes "- installed j0 -> ok | w0 installed\n"
+          ++ codes "- tryactivate r0 -> w0 | w0 activating\n"
+          ++ codes "- activated w0 -> ok | w0 activated\n"
+          ++ codes "end done\n";
       shown =
-    codes "registrations 1\n"
-    ++ codes "registration \"https://xn--nxa.test\" \"https://xn--nxa.test/\" imports\n"
-    ++ codes " active activated \"https://xn--nxa.test/sw.js\" classic 5\n"
-    ++ codes "caches 1\n"
-    ++ codes "cache \"https://xn--nxa.test\" \"v\" 1\n";
+          codes "registrations 1\n"
+          ++ codes "registration \"https://xn--nxa.test\" \"https://xn--nxa.test/\" imports\n"
+          ++ codes " active activated \"https://xn--nxa.test/sw.js\" classic 5\n"
+          ++ codes "caches 1\n"
+          ++ codes "cache \"https://xn--nxa.test\" \"v\" 1\n";
       durable =
-    codes "registrations 1\n"
-    ++ codes "registration \"https://xn--nxa.test\" \"https://xn--nxa.test/\" imports\n"
-    ++ codes " active activated \"https://xn--nxa.test/sw.js\" classic 5\n"
-    ++ codes "caches 1\n"
-    ++ codes "cache \"https://xn--nxa.test\" \"v\" 1\n";
+          codes "registrations 1\n"
+          ++ codes "registration \"https://xn--nxa.test\" \"https://xn--nxa.test/\" imports\n"
+          ++ codes " active activated \"https://xn--nxa.test/sw.js\" classic 5\n"
+          ++ codes "caches 1\n"
+          ++ codes "cache \"https://xn--nxa.test\" \"v\" 1\n";
     }
 unfolding digits escape_byte grammar_on_literals steps_on_literals
 row_246 = refl
@@ -699,30 +699,30 @@ row_261 :
     ++ codes "{\"lane\":1,\"do\":\"register\",\"client\":1,\"script\":\"/sw.js\",\"scope\":\"/\"}\n")
     ≡ record {
       transcript =
-    codes "- restarted -> 0 registrations 0 caches\n"
-    ++ codes "L1.0 open -> none\n"
-    ++ codes "L1.1 register -> j0\n"
-    ++ codes "- run j0 -> fetch 0 | mapped r0\n"
-    ++ codes "- fetched j0 -> changed | w0 parsed\n"
-    ++ codes "- evaluated j0 -> installing | w0 installing | settled j0 r0 | updatefound r0\n"
-    ++ codes "- installed j0 -> ok | w0 installed\n"
-    ++ codes "- tryactivate r0 -> w0 | w0 activating\n"
-    ++ codes "w0.activate.0 cacheOpen -> made\n"
-    ++ codes "w0.activate.1 batch -> ok\n"
-    ++ codes "- activated w0 -> ok | w0 activated\n"
-    ++ codes "end done\n";
+          codes "- restarted -> 0 registrations 0 caches\n"
+          ++ codes "L1.0 open -> none\n"
+          ++ codes "L1.1 register -> j0\n"
+          ++ codes "- run j0 -> fetch 0 | mapped r0\n"
+          ++ codes "- fetched j0 -> changed | w0 parsed\n"
+          ++ codes "- evaluated j0 -> installing | w0 installing | settled j0 r0 | updatefound r0\n"
+          ++ codes "- installed j0 -> ok | w0 installed\n"
+          ++ codes "- tryactivate r0 -> w0 | w0 activating\n"
+          ++ codes "w0.activate.0 cacheOpen -> made\n"
+          ++ codes "w0.activate.1 batch -> ok\n"
+          ++ codes "- activated w0 -> ok | w0 activated\n"
+          ++ codes "end done\n";
       shown =
-    codes "registrations 1\n"
-    ++ codes "registration \"https://a.test\" \"https://a.test/\" imports\n"
-    ++ codes " active activated \"https://a.test/sw.js\" classic 5\n"
-    ++ codes "caches 1\n"
-    ++ codes "cache \"https://a.test\" \"v\" 1\n";
+          codes "registrations 1\n"
+          ++ codes "registration \"https://a.test\" \"https://a.test/\" imports\n"
+          ++ codes " active activated \"https://a.test/sw.js\" classic 5\n"
+          ++ codes "caches 1\n"
+          ++ codes "cache \"https://a.test\" \"v\" 1\n";
       durable =
-    codes "registrations 1\n"
-    ++ codes "registration \"https://a.test\" \"https://a.test/\" imports\n"
-    ++ codes " active activated \"https://a.test/sw.js\" classic 5\n"
-    ++ codes "caches 1\n"
-    ++ codes "cache \"https://a.test\" \"v\" 1\n";
+          codes "registrations 1\n"
+          ++ codes "registration \"https://a.test\" \"https://a.test/\" imports\n"
+          ++ codes " active activated \"https://a.test/sw.js\" classic 5\n"
+          ++ codes "caches 1\n"
+          ++ codes "cache \"https://a.test\" \"v\" 1\n";
     }
 unfolding digits escape_byte grammar_on_literals steps_on_literals
 row_261 = refl
@@ -734,30 +734,30 @@ row_262 :
     ++ codes "{\"lane\":1,\"do\":\"register\",\"client\":1,\"script\":\"/sw.js\",\"scope\":\"/\"}\n")
     ≡ record {
       transcript =
-    codes "- restarted -> 0 registrations 0 caches\n"
-    ++ codes "L1.0 open -> none\n"
-    ++ codes "L1.1 register -> j0\n"
-    ++ codes "- run j0 -> fetch 0 | mapped r0\n"
-    ++ codes "- fetched j0 -> changed | w0 parsed\n"
-    ++ codes "- evaluated j0 -> installing | w0 installing | settled j0 r0 | updatefound r0\n"
-    ++ codes "- installed j0 -> ok | w0 installed\n"
-    ++ codes "- tryactivate r0 -> w0 | w0 activating\n"
-    ++ codes "w0.activate.0 cacheOpen -> made\n"
-    ++ codes "w0.activate.1 delete -> TypeError unparsed\n"
-    ++ codes "- activated w0 -> ok | w0 activated\n"
-    ++ codes "end done\n";
+          codes "- restarted -> 0 registrations 0 caches\n"
+          ++ codes "L1.0 open -> none\n"
+          ++ codes "L1.1 register -> j0\n"
+          ++ codes "- run j0 -> fetch 0 | mapped r0\n"
+          ++ codes "- fetched j0 -> changed | w0 parsed\n"
+          ++ codes "- evaluated j0 -> installing | w0 installing | settled j0 r0 | updatefound r0\n"
+          ++ codes "- installed j0 -> ok | w0 installed\n"
+          ++ codes "- tryactivate r0 -> w0 | w0 activating\n"
+          ++ codes "w0.activate.0 cacheOpen -> made\n"
+          ++ codes "w0.activate.1 delete -> TypeError unparsed\n"
+          ++ codes "- activated w0 -> ok | w0 activated\n"
+          ++ codes "end done\n";
       shown =
-    codes "registrations 1\n"
-    ++ codes "registration \"https://a.test\" \"https://a.test/\" imports\n"
-    ++ codes " active activated \"https://a.test/sw.js\" classic 5\n"
-    ++ codes "caches 1\n"
-    ++ codes "cache \"https://a.test\" \"v\" 0\n";
+          codes "registrations 1\n"
+          ++ codes "registration \"https://a.test\" \"https://a.test/\" imports\n"
+          ++ codes " active activated \"https://a.test/sw.js\" classic 5\n"
+          ++ codes "caches 1\n"
+          ++ codes "cache \"https://a.test\" \"v\" 0\n";
       durable =
-    codes "registrations 1\n"
-    ++ codes "registration \"https://a.test\" \"https://a.test/\" imports\n"
-    ++ codes " active activated \"https://a.test/sw.js\" classic 5\n"
-    ++ codes "caches 1\n"
-    ++ codes "cache \"https://a.test\" \"v\" 0\n";
+          codes "registrations 1\n"
+          ++ codes "registration \"https://a.test\" \"https://a.test/\" imports\n"
+          ++ codes " active activated \"https://a.test/sw.js\" classic 5\n"
+          ++ codes "caches 1\n"
+          ++ codes "cache \"https://a.test\" \"v\" 0\n";
     }
 unfolding digits escape_byte grammar_on_literals steps_on_literals
 row_262 = refl
@@ -769,31 +769,31 @@ row_282 :
     ++ codes "{\"lane\":0,\"do\":\"open\",\"client\":0,\"url\":\"http://127.0.0.1/other\"}\n")
     ≡ record {
       transcript =
-    codes "- restarted -> 0 registrations 0 caches\n"
-    ++ codes "L0.0 open -> none\n"
-    ++ codes "L2.0 register -> j0\n"
-    ++ codes "- run j0 -> fetch 0 | mapped r0\n"
-    ++ codes "- fetched j0 -> changed | w0 parsed\n"
-    ++ codes "- evaluated j0 -> installing | w0 installing | settled j0 r0 | updatefound r0\n"
-    ++ codes "w0.install.0 cacheOpen -> made\n"
-    ++ codes "w0.install.1 put -> ok\n"
-    ++ codes "- installed j0 -> ok | w0 installed\n"
-    ++ codes "- tryactivate r0 -> w0 | w0 activating\n"
-    ++ codes "w0.activate.0 delete -> true\n"
-    ++ codes "- activated w0 -> ok | w0 activated\n"
-    ++ codes "end done\n";
+          codes "- restarted -> 0 registrations 0 caches\n"
+          ++ codes "L0.0 open -> none\n"
+          ++ codes "L2.0 register -> j0\n"
+          ++ codes "- run j0 -> fetch 0 | mapped r0\n"
+          ++ codes "- fetched j0 -> changed | w0 parsed\n"
+          ++ codes "- evaluated j0 -> installing | w0 installing | settled j0 r0 | updatefound r0\n"
+          ++ codes "w0.install.0 cacheOpen -> made\n"
+          ++ codes "w0.install.1 put -> ok\n"
+          ++ codes "- installed j0 -> ok | w0 installed\n"
+          ++ codes "- tryactivate r0 -> w0 | w0 activating\n"
+          ++ codes "w0.activate.0 delete -> true\n"
+          ++ codes "- activated w0 -> ok | w0 activated\n"
+          ++ codes "end done\n";
       shown =
-    codes "registrations 1\n"
-    ++ codes "registration \"http://127.0.0.1\" \"http://127.0.0.1/\" imports\n"
-    ++ codes " active activated \"http://127.0.0.1/sw.js\" classic 5\n"
-    ++ codes "caches 1\n"
-    ++ codes "cache \"http://127.0.0.1\" \"v\" 0\n";
+          codes "registrations 1\n"
+          ++ codes "registration \"http://127.0.0.1\" \"http://127.0.0.1/\" imports\n"
+          ++ codes " active activated \"http://127.0.0.1/sw.js\" classic 5\n"
+          ++ codes "caches 1\n"
+          ++ codes "cache \"http://127.0.0.1\" \"v\" 0\n";
       durable =
-    codes "registrations 1\n"
-    ++ codes "registration \"http://127.0.0.1\" \"http://127.0.0.1/\" imports\n"
-    ++ codes " active activated \"http://127.0.0.1/sw.js\" classic 5\n"
-    ++ codes "caches 1\n"
-    ++ codes "cache \"http://127.0.0.1\" \"v\" 0\n";
+          codes "registrations 1\n"
+          ++ codes "registration \"http://127.0.0.1\" \"http://127.0.0.1/\" imports\n"
+          ++ codes " active activated \"http://127.0.0.1/sw.js\" classic 5\n"
+          ++ codes "caches 1\n"
+          ++ codes "cache \"http://127.0.0.1\" \"v\" 0\n";
     }
 unfolding digits escape_byte grammar_on_literals steps_on_literals
 row_282 = refl
@@ -809,31 +809,31 @@ row_291 :
     ++ codes "{\"lane\":0,\"do\":\"register\",\"client\":9,\"script\":\"/sw.js\",\"scope\":\"/\"}\n")
     ≡ record {
       transcript =
-    codes "- restarted -> 0 registrations 0 caches\n"
-    ++ codes "L0.0 open -> none\n"
-    ++ codes "L0.1 register -> j0\n"
-    ++ codes "- run j0 -> fetch 0 | mapped r0\n"
-    ++ codes "- fetched j0 -> changed | w0 parsed\n"
-    ++ codes "- evaluated j0 -> installing | w0 installing | settled j0 r0 | updatefound r0\n"
-    ++ codes "L0.2 await -> r0\n"
-    ++ codes "L0.3 open -> none\n"
-    ++ codes "L0.4 register -> j1\n"
-    ++ codes "L0.5 register -> j2 joined j1\n"
-    ++ codes "- installed j0 -> ok | w0 installed\n"
-    ++ codes "- run j1 -> finished | settled j1 r0 | settled j2 r0\n"
-    ++ codes "- tryactivate r0 -> w0 | w0 activating\n"
-    ++ codes "- activated w0 -> ok | w0 activated\n"
-    ++ codes "end done\n";
+          codes "- restarted -> 0 registrations 0 caches\n"
+          ++ codes "L0.0 open -> none\n"
+          ++ codes "L0.1 register -> j0\n"
+          ++ codes "- run j0 -> fetch 0 | mapped r0\n"
+          ++ codes "- fetched j0 -> changed | w0 parsed\n"
+          ++ codes "- evaluated j0 -> installing | w0 installing | settled j0 r0 | updatefound r0\n"
+          ++ codes "L0.2 await -> r0\n"
+          ++ codes "L0.3 open -> none\n"
+          ++ codes "L0.4 register -> j1\n"
+          ++ codes "L0.5 register -> j2 joined j1\n"
+          ++ codes "- installed j0 -> ok | w0 installed\n"
+          ++ codes "- run j1 -> finished | settled j1 r0 | settled j2 r0\n"
+          ++ codes "- tryactivate r0 -> w0 | w0 activating\n"
+          ++ codes "- activated w0 -> ok | w0 activated\n"
+          ++ codes "end done\n";
       shown =
-    codes "registrations 1\n"
-    ++ codes "registration \"http://127.0.0.1\" \"http://127.0.0.1/\" imports\n"
-    ++ codes " active activated \"http://127.0.0.1/sw.js\" classic 5\n"
-    ++ codes "caches 0\n";
+          codes "registrations 1\n"
+          ++ codes "registration \"http://127.0.0.1\" \"http://127.0.0.1/\" imports\n"
+          ++ codes " active activated \"http://127.0.0.1/sw.js\" classic 5\n"
+          ++ codes "caches 0\n";
       durable =
-    codes "registrations 1\n"
-    ++ codes "registration \"http://127.0.0.1\" \"http://127.0.0.1/\" imports\n"
-    ++ codes " active activated \"http://127.0.0.1/sw.js\" classic 5\n"
-    ++ codes "caches 0\n";
+          codes "registrations 1\n"
+          ++ codes "registration \"http://127.0.0.1\" \"http://127.0.0.1/\" imports\n"
+          ++ codes " active activated \"http://127.0.0.1/sw.js\" classic 5\n"
+          ++ codes "caches 0\n";
     }
 unfolding digits escape_byte grammar_on_literals steps_on_literals
 row_291 = refl

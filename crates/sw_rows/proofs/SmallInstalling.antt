@@ -12,17 +12,17 @@ row_013 :
     ++ codes "{\"lane\":1,\"do\":\"register\",\"client\":8,\"script\":\"https://zz.test/sw.js\",\"scope\":\"/zz/\",\"cache\":\"all\"}\n")
     ≡ record {
       transcript =
-    codes "- restarted -> 0 registrations 0 caches\n"
-    ++ codes "L1.0 open -> none\n"
-    ++ codes "L1.1 register -> j0\n"
-    ++ codes "- run j0 -> finished | settled j0 SecurityError script-origin\n"
-    ++ codes "end done\n";
+          codes "- restarted -> 0 registrations 0 caches\n"
+          ++ codes "L1.0 open -> none\n"
+          ++ codes "L1.1 register -> j0\n"
+          ++ codes "- run j0 -> finished | settled j0 SecurityError script-origin\n"
+          ++ codes "end done\n";
       shown =
-    codes "registrations 0\n"
-    ++ codes "caches 0\n";
+          codes "registrations 0\n"
+          ++ codes "caches 0\n";
       durable =
-    codes "registrations 0\n"
-    ++ codes "caches 0\n";
+          codes "registrations 0\n"
+          ++ codes "caches 0\n";
     }
 unfolding digits escape_byte grammar_on_literals steps_on_literals
 row_013 = refl
@@ -33,17 +33,17 @@ row_040 :
     ++ codes "{\"lane\":0,\"do\":\"unregister\",\"client\":27,\"scope\":\"/nowhere\"}\n")
     ≡ record {
       transcript =
-    codes "- restarted -> 0 registrations 0 caches\n"
-    ++ codes "L0.0 open -> none\n"
-    ++ codes "L0.1 unregister -> j0\n"
-    ++ codes "- run j0 -> finished | settled j0 false\n"
-    ++ codes "end done\n";
+          codes "- restarted -> 0 registrations 0 caches\n"
+          ++ codes "L0.0 open -> none\n"
+          ++ codes "L0.1 unregister -> j0\n"
+          ++ codes "- run j0 -> finished | settled j0 false\n"
+          ++ codes "end done\n";
       shown =
-    codes "registrations 0\n"
-    ++ codes "caches 0\n";
+          codes "registrations 0\n"
+          ++ codes "caches 0\n";
       durable =
-    codes "registrations 0\n"
-    ++ codes "caches 0\n";
+          codes "registrations 0\n"
+          ++ codes "caches 0\n";
     }
 unfolding digits escape_byte grammar_on_literals steps_on_literals
 row_040 = refl
@@ -54,17 +54,17 @@ row_054 :
     ++ codes "{\"lane\":0,\"do\":\"unregister\",\"client\":8,\"scope\":\"mailto:x\"}\n")
     ≡ record {
       transcript =
-    codes "- restarted -> 0 registrations 0 caches\n"
-    ++ codes "L0.0 open -> none\n"
-    ++ codes "L0.1 unregister -> j0\n"
-    ++ codes "- run j0 -> finished | settled j0 SecurityError scope-origin\n"
-    ++ codes "end done\n";
+          codes "- restarted -> 0 registrations 0 caches\n"
+          ++ codes "L0.0 open -> none\n"
+          ++ codes "L0.1 unregister -> j0\n"
+          ++ codes "- run j0 -> finished | settled j0 SecurityError scope-origin\n"
+          ++ codes "end done\n";
       shown =
-    codes "registrations 0\n"
-    ++ codes "caches 0\n";
+          codes "registrations 0\n"
+          ++ codes "caches 0\n";
       durable =
-    codes "registrations 0\n"
-    ++ codes "caches 0\n";
+          codes "registrations 0\n"
+          ++ codes "caches 0\n";
     }
 unfolding digits escape_byte grammar_on_literals steps_on_literals
 row_054 = refl
@@ -76,25 +76,25 @@ row_082 :
     ++ codes "{\"lane\":0,\"do\":\"register\",\"client\":6,\"script\":\"/sw.js\",\"scope\":\"/\",\"type\":\"module\"}\n")
     ≡ record {
       transcript =
-    codes "- restarted -> 0 registrations 0 caches\n"
-    ++ codes "L0.0 open -> none\n"
-    ++ codes "L0.1 register -> j0\n"
-    ++ codes "- run j0 -> fetch 0 | mapped r0\n"
-    ++ codes "- fetched j0 -> changed | w0 parsed\n"
-    ++ codes "- evaluated j0 -> installing | w0 installing | settled j0 r0 | updatefound r0\n"
-    ++ codes "w0.install.0 cacheOpen -> made\n"
-    ++ codes "w0.install.1 addAll -> a0\n"
-    ++ codes "- added a0 -> TypeError network 0\n"
-    ++ codes "- installed j0 -> failed | w0 redundant | unmapped r0\n"
-    ++ codes "end done\n";
+          codes "- restarted -> 0 registrations 0 caches\n"
+          ++ codes "L0.0 open -> none\n"
+          ++ codes "L0.1 register -> j0\n"
+          ++ codes "- run j0 -> fetch 0 | mapped r0\n"
+          ++ codes "- fetched j0 -> changed | w0 parsed\n"
+          ++ codes "- evaluated j0 -> installing | w0 installing | settled j0 r0 | updatefound r0\n"
+          ++ codes "w0.install.0 cacheOpen -> made\n"
+          ++ codes "w0.install.1 addAll -> a0\n"
+          ++ codes "- added a0 -> TypeError network 0\n"
+          ++ codes "- installed j0 -> failed | w0 redundant | unmapped r0\n"
+          ++ codes "end done\n";
       shown =
-    codes "registrations 0\n"
-    ++ codes "caches 1\n"
-    ++ codes "cache \"https://b.test\" \"v\" 0\n";
+          codes "registrations 0\n"
+          ++ codes "caches 1\n"
+          ++ codes "cache \"https://b.test\" \"v\" 0\n";
       durable =
-    codes "registrations 0\n"
-    ++ codes "caches 1\n"
-    ++ codes "cache \"https://b.test\" \"v\" 0\n";
+          codes "registrations 0\n"
+          ++ codes "caches 1\n"
+          ++ codes "cache \"https://b.test\" \"v\" 0\n";
     }
 unfolding digits escape_byte grammar_on_literals steps_on_literals
 row_082 = refl
@@ -106,21 +106,21 @@ row_092 :
     ++ codes "{\"lane\":0,\"do\":\"register\",\"client\":29,\"script\":\"/d/e/sw.js\",\"scope\":\"/d/e/\",\"type\":\"classic\"}\n")
     ≡ record {
       transcript =
-    codes "- restarted -> 0 registrations 0 caches\n"
-    ++ codes "L0.0 open -> none\n"
-    ++ codes "L0.1 register -> j0\n"
-    ++ codes "- run j0 -> fetch 0 | mapped r0\n"
-    ++ codes "- fetched j0 -> changed | w0 parsed\n"
-    ++ codes "- evaluated j0 -> installing | w0 installing | settled j0 r0 | updatefound r0\n"
-    ++ codes "w0.install.0 delete -> CacheGone\n"
-    ++ codes "- installed j0 -> failed | w0 redundant | unmapped r0\n"
-    ++ codes "end done\n";
+          codes "- restarted -> 0 registrations 0 caches\n"
+          ++ codes "L0.0 open -> none\n"
+          ++ codes "L0.1 register -> j0\n"
+          ++ codes "- run j0 -> fetch 0 | mapped r0\n"
+          ++ codes "- fetched j0 -> changed | w0 parsed\n"
+          ++ codes "- evaluated j0 -> installing | w0 installing | settled j0 r0 | updatefound r0\n"
+          ++ codes "w0.install.0 delete -> CacheGone\n"
+          ++ codes "- installed j0 -> failed | w0 redundant | unmapped r0\n"
+          ++ codes "end done\n";
       shown =
-    codes "registrations 0\n"
-    ++ codes "caches 0\n";
+          codes "registrations 0\n"
+          ++ codes "caches 0\n";
       durable =
-    codes "registrations 0\n"
-    ++ codes "caches 0\n";
+          codes "registrations 0\n"
+          ++ codes "caches 0\n";
     }
 unfolding digits escape_byte grammar_on_literals steps_on_literals
 row_092 = refl
@@ -132,21 +132,21 @@ row_095 :
     ++ codes "{\"lane\":0,\"do\":\"register\",\"client\":1,\"script\":\"/app/sw.js\"}\n")
     ≡ record {
       transcript =
-    codes "- restarted -> 0 registrations 0 caches\n"
-    ++ codes "L0.0 open -> none\n"
-    ++ codes "L0.1 register -> j0\n"
-    ++ codes "- run j0 -> fetch 0 | mapped r0\n"
-    ++ codes "- fetched j0 -> changed | w0 parsed\n"
-    ++ codes "- evaluated j0 -> installing | w0 installing | settled j0 r0 | updatefound r0\n"
-    ++ codes "w0.install.0 batch -> CacheGone\n"
-    ++ codes "- installed j0 -> failed | w0 redundant | unmapped r0\n"
-    ++ codes "end done\n";
+          codes "- restarted -> 0 registrations 0 caches\n"
+          ++ codes "L0.0 open -> none\n"
+          ++ codes "L0.1 register -> j0\n"
+          ++ codes "- run j0 -> fetch 0 | mapped r0\n"
+          ++ codes "- fetched j0 -> changed | w0 parsed\n"
+          ++ codes "- evaluated j0 -> installing | w0 installing | settled j0 r0 | updatefound r0\n"
+          ++ codes "w0.install.0 batch -> CacheGone\n"
+          ++ codes "- installed j0 -> failed | w0 redundant | unmapped r0\n"
+          ++ codes "end done\n";
       shown =
-    codes "registrations 0\n"
-    ++ codes "caches 0\n";
+          codes "registrations 0\n"
+          ++ codes "caches 0\n";
       durable =
-    codes "registrations 0\n"
-    ++ codes "caches 0\n";
+          codes "registrations 0\n"
+          ++ codes "caches 0\n";
     }
 unfolding digits escape_byte grammar_on_literals steps_on_literals
 row_095 = refl
@@ -157,17 +157,17 @@ row_110 :
     ++ codes "{\"lane\":1,\"do\":\"register\",\"client\":6,\"script\":\"/sw.js\",\"scope\":\"/app/x/\"}\n")
     ≡ record {
       transcript =
-    codes "- restarted -> 0 registrations 0 caches\n"
-    ++ codes "L1.0 open -> none\n"
-    ++ codes "L1.1 register -> j0\n"
-    ++ codes "- run j0 -> finished | settled j0 SecurityError untrusted\n"
-    ++ codes "end done\n";
+          codes "- restarted -> 0 registrations 0 caches\n"
+          ++ codes "L1.0 open -> none\n"
+          ++ codes "L1.1 register -> j0\n"
+          ++ codes "- run j0 -> finished | settled j0 SecurityError untrusted\n"
+          ++ codes "end done\n";
       shown =
-    codes "registrations 0\n"
-    ++ codes "caches 0\n";
+          codes "registrations 0\n"
+          ++ codes "caches 0\n";
       durable =
-    codes "registrations 0\n"
-    ++ codes "caches 0\n";
+          codes "registrations 0\n"
+          ++ codes "caches 0\n";
     }
 unfolding digits escape_byte grammar_on_literals steps_on_literals
 row_110 = refl
@@ -179,21 +179,21 @@ row_125 :
     ++ codes "{\"lane\":0,\"do\":\"register\",\"client\":0,\"script\":\"/sw.js\",\"cache\":\"all\"}\n")
     ≡ record {
       transcript =
-    codes "- restarted -> 0 registrations 0 caches\n"
-    ++ codes "L0.0 open -> none\n"
-    ++ codes "L0.1 register -> j0\n"
-    ++ codes "- run j0 -> fetch 0 | mapped r0\n"
-    ++ codes "- fetched j0 -> changed | w0 parsed\n"
-    ++ codes "- evaluated j0 -> installing | w0 installing | settled j0 r0 | updatefound r0\n"
-    ++ codes "w0.install.0 claim -> InvalidStateError not-active\n"
-    ++ codes "- installed j0 -> failed | w0 redundant | unmapped r0\n"
-    ++ codes "end done\n";
+          codes "- restarted -> 0 registrations 0 caches\n"
+          ++ codes "L0.0 open -> none\n"
+          ++ codes "L0.1 register -> j0\n"
+          ++ codes "- run j0 -> fetch 0 | mapped r0\n"
+          ++ codes "- fetched j0 -> changed | w0 parsed\n"
+          ++ codes "- evaluated j0 -> installing | w0 installing | settled j0 r0 | updatefound r0\n"
+          ++ codes "w0.install.0 claim -> InvalidStateError not-active\n"
+          ++ codes "- installed j0 -> failed | w0 redundant | unmapped r0\n"
+          ++ codes "end done\n";
       shown =
-    codes "registrations 0\n"
-    ++ codes "caches 0\n";
+          codes "registrations 0\n"
+          ++ codes "caches 0\n";
       durable =
-    codes "registrations 0\n"
-    ++ codes "caches 0\n";
+          codes "registrations 0\n"
+          ++ codes "caches 0\n";
     }
 unfolding digits escape_byte grammar_on_literals steps_on_literals
 row_125 = refl
@@ -205,18 +205,18 @@ row_133 :
     ++ codes "{\"lane\":1,\"do\":\"unregister\",\"client\":3,\"scope\":\"/\"}\n")
     ≡ record {
       transcript =
-    codes "- restarted -> 0 registrations 0 caches\n"
-    ++ codes "L1.0 open -> none\n"
-    ++ codes "L1.1 unregister -> j0\n"
-    ++ codes "L1.2 unregister -> j1 joined j0\n"
-    ++ codes "- run j0 -> finished | settled j0 false | settled j1 false\n"
-    ++ codes "end done\n";
+          codes "- restarted -> 0 registrations 0 caches\n"
+          ++ codes "L1.0 open -> none\n"
+          ++ codes "L1.1 unregister -> j0\n"
+          ++ codes "L1.2 unregister -> j1 joined j0\n"
+          ++ codes "- run j0 -> finished | settled j0 false | settled j1 false\n"
+          ++ codes "end done\n";
       shown =
-    codes "registrations 0\n"
-    ++ codes "caches 0\n";
+          codes "registrations 0\n"
+          ++ codes "caches 0\n";
       durable =
-    codes "registrations 0\n"
-    ++ codes "caches 0\n";
+          codes "registrations 0\n"
+          ++ codes "caches 0\n";
     }
 unfolding digits escape_byte grammar_on_literals steps_on_literals
 row_133 = refl
@@ -228,18 +228,18 @@ row_183 :
     ++ codes "{\"lane\":1,\"do\":\"register\",\"client\":6,\"script\":\"/sw.js\",\"scope\":\"/\"}\n")
     ≡ record {
       transcript =
-    codes "- restarted -> 0 registrations 0 caches\n"
-    ++ codes "L1.0 open -> none\n"
-    ++ codes "L1.1 register -> j0\n"
-    ++ codes "L1.2 register -> j1 joined j0\n"
-    ++ codes "- run j0 -> finished | settled j0 SecurityError untrusted | settled j1 SecurityError untrusted\n"
-    ++ codes "end done\n";
+          codes "- restarted -> 0 registrations 0 caches\n"
+          ++ codes "L1.0 open -> none\n"
+          ++ codes "L1.1 register -> j0\n"
+          ++ codes "L1.2 register -> j1 joined j0\n"
+          ++ codes "- run j0 -> finished | settled j0 SecurityError untrusted | settled j1 SecurityError untrusted\n"
+          ++ codes "end done\n";
       shown =
-    codes "registrations 0\n"
-    ++ codes "caches 0\n";
+          codes "registrations 0\n"
+          ++ codes "caches 0\n";
       durable =
-    codes "registrations 0\n"
-    ++ codes "caches 0\n";
+          codes "registrations 0\n"
+          ++ codes "caches 0\n";
     }
 unfolding digits escape_byte grammar_on_literals steps_on_literals
 row_183 = refl
@@ -253,20 +253,20 @@ row_195 :
     ++ codes "{\"lane\":2,\"do\":\"unregister\",\"client\":3,\"scope\":\"/\"}\n")
     ≡ record {
       transcript =
-    codes "- restarted -> 0 registrations 0 caches\n"
-    ++ codes "L2.0 open -> none\n"
-    ++ codes "L2.1 unregister -> j0\n"
-    ++ codes "L2.2 unregister -> j1 joined j0\n"
-    ++ codes "L2.3 unregister -> j2 joined j0\n"
-    ++ codes "L2.4 unregister -> j3 joined j0\n"
-    ++ codes "- run j0 -> finished | settled j0 false | settled j1 false | settled j2 false | settled j3 false\n"
-    ++ codes "end done\n";
+          codes "- restarted -> 0 registrations 0 caches\n"
+          ++ codes "L2.0 open -> none\n"
+          ++ codes "L2.1 unregister -> j0\n"
+          ++ codes "L2.2 unregister -> j1 joined j0\n"
+          ++ codes "L2.3 unregister -> j2 joined j0\n"
+          ++ codes "L2.4 unregister -> j3 joined j0\n"
+          ++ codes "- run j0 -> finished | settled j0 false | settled j1 false | settled j2 false | settled j3 false\n"
+          ++ codes "end done\n";
       shown =
-    codes "registrations 0\n"
-    ++ codes "caches 0\n";
+          codes "registrations 0\n"
+          ++ codes "caches 0\n";
       durable =
-    codes "registrations 0\n"
-    ++ codes "caches 0\n";
+          codes "registrations 0\n"
+          ++ codes "caches 0\n";
     }
 unfolding digits escape_byte grammar_on_literals steps_on_literals
 row_195 = refl
@@ -280,22 +280,22 @@ row_208 :
     ++ codes "{\"lane\":0,\"do\":\"skipWaiting\",\"client\":7,\"scope\":\"/\",\"slot\":\"installing\"}\n")
     ≡ record {
       transcript =
-    codes "- restarted -> 0 registrations 0 caches\n"
-    ++ codes "L0.0 open -> none\n"
-    ++ codes "L0.1 register -> j0\n"
-    ++ codes "- run j0 -> fetch 0 | mapped r0\n"
-    ++ codes "- fetched j0 -> changed | w0 parsed\n"
-    ++ codes "- evaluated j0 -> installing | w0 installing | settled j0 r0 | updatefound r0\n"
-    ++ codes "L0.2 await -> r0\n"
-    ++ codes "L0.3 skipWaiting -> ok\n"
-    ++ codes "- installed j0 -> failed | w0 redundant | unmapped r0\n"
-    ++ codes "end done\n";
+          codes "- restarted -> 0 registrations 0 caches\n"
+          ++ codes "L0.0 open -> none\n"
+          ++ codes "L0.1 register -> j0\n"
+          ++ codes "- run j0 -> fetch 0 | mapped r0\n"
+          ++ codes "- fetched j0 -> changed | w0 parsed\n"
+          ++ codes "- evaluated j0 -> installing | w0 installing | settled j0 r0 | updatefound r0\n"
+          ++ codes "L0.2 await -> r0\n"
+          ++ codes "L0.3 skipWaiting -> ok\n"
+          ++ codes "- installed j0 -> failed | w0 redundant | unmapped r0\n"
+          ++ codes "end done\n";
       shown =
-    codes "registrations 0\n"
-    ++ codes "caches 0\n";
+          codes "registrations 0\n"
+          ++ codes "caches 0\n";
       durable =
-    codes "registrations 0\n"
-    ++ codes "caches 0\n";
+          codes "registrations 0\n"
+          ++ codes "caches 0\n";
     }
 unfolding digits escape_byte grammar_on_literals steps_on_literals
 row_208 = refl
@@ -307,21 +307,21 @@ row_242 :
     ++ codes "{\"lane\":0,\"do\":\"register\",\"client\":3,\"script\":\"/other.js\",\"scope\":\"/\"}\n")
     ≡ record {
       transcript =
-    codes "- restarted -> 0 registrations 0 caches\n"
-    ++ codes "L0.0 open -> none\n"
-    ++ codes "L0.1 register -> j0\n"
-    ++ codes "- run j0 -> fetch 0 | mapped r0\n"
-    ++ codes "- fetched j0 -> changed | w0 parsed\n"
-    ++ codes "- evaluated j0 -> installing | w0 installing | settled j0 r0 | updatefound r0\n"
-    ++ codes "w0.install.0 update -> InvalidStateError installing\n"
-    ++ codes "- installed j0 -> failed | w0 redundant | unmapped r0\n"
-    ++ codes "end done\n";
+          codes "- restarted -> 0 registrations 0 caches\n"
+          ++ codes "L0.0 open -> none\n"
+          ++ codes "L0.1 register -> j0\n"
+          ++ codes "- run j0 -> fetch 0 | mapped r0\n"
+          ++ codes "- fetched j0 -> changed | w0 parsed\n"
+          ++ codes "- evaluated j0 -> installing | w0 installing | settled j0 r0 | updatefound r0\n"
+          ++ codes "w0.install.0 update -> InvalidStateError installing\n"
+          ++ codes "- installed j0 -> failed | w0 redundant | unmapped r0\n"
+          ++ codes "end done\n";
       shown =
-    codes "registrations 0\n"
-    ++ codes "caches 0\n";
+          codes "registrations 0\n"
+          ++ codes "caches 0\n";
       durable =
-    codes "registrations 0\n"
-    ++ codes "caches 0\n";
+          codes "registrations 0\n"
+          ++ codes "caches 0\n";
     }
 unfolding digits escape_byte grammar_on_literals steps_on_literals
 row_242 = refl
@@ -336,25 +336,25 @@ row_250 :
     ++ codes "{\"lane\":1,\"do\":\"update\",\"client\":7,\"scope\":\"/app/\"}\n")
     ≡ record {
       transcript =
-    codes "- restarted -> 0 registrations 0 caches\n"
-    ++ codes "L1.0 open -> none\n"
-    ++ codes "L1.1 register -> j0\n"
-    ++ codes "- run j0 -> fetch 0 | mapped r0\n"
-    ++ codes "- fetched j0 -> changed | w0 parsed\n"
-    ++ codes "- evaluated j0 -> installing | w0 installing | settled j0 r0 | updatefound r0\n"
-    ++ codes "L1.2 await -> r0\n"
-    ++ codes "L1.3 update -> j1\n"
-    ++ codes "L1.4 update -> j2 joined j1\n"
-    ++ codes "w0.install.0 claim -> InvalidStateError not-active\n"
-    ++ codes "- installed j0 -> failed | w0 redundant | unmapped r0\n"
-    ++ codes "- run j1 -> finished | settled j1 TypeError no-registration | settled j2 TypeError no-registration\n"
-    ++ codes "end done\n";
+          codes "- restarted -> 0 registrations 0 caches\n"
+          ++ codes "L1.0 open -> none\n"
+          ++ codes "L1.1 register -> j0\n"
+          ++ codes "- run j0 -> fetch 0 | mapped r0\n"
+          ++ codes "- fetched j0 -> changed | w0 parsed\n"
+          ++ codes "- evaluated j0 -> installing | w0 installing | settled j0 r0 | updatefound r0\n"
+          ++ codes "L1.2 await -> r0\n"
+          ++ codes "L1.3 update -> j1\n"
+          ++ codes "L1.4 update -> j2 joined j1\n"
+          ++ codes "w0.install.0 claim -> InvalidStateError not-active\n"
+          ++ codes "- installed j0 -> failed | w0 redundant | unmapped r0\n"
+          ++ codes "- run j1 -> finished | settled j1 TypeError no-registration | settled j2 TypeError no-registration\n"
+          ++ codes "end done\n";
       shown =
-    codes "registrations 0\n"
-    ++ codes "caches 0\n";
+          codes "registrations 0\n"
+          ++ codes "caches 0\n";
       durable =
-    codes "registrations 0\n"
-    ++ codes "caches 0\n";
+          codes "registrations 0\n"
+          ++ codes "caches 0\n";
     }
 unfolding digits escape_byte grammar_on_literals steps_on_literals
 row_250 = refl
@@ -367,19 +367,19 @@ row_265 :
     ++ codes "{\"lane\":0,\"do\":\"register\",\"client\":4,\"script\":\"/sw.js\",\"scope\":\"/\"}\n")
     ≡ record {
       transcript =
-    codes "- restarted -> 0 registrations 0 caches\n"
-    ++ codes "L0.0 open -> none\n"
-    ++ codes "L0.1 register -> j0\n"
-    ++ codes "L0.2 register -> j1 joined j0\n"
-    ++ codes "L0.3 register -> j2 joined j0\n"
-    ++ codes "- run j0 -> finished | settled j0 SecurityError untrusted | settled j1 SecurityError untrusted | settled j2 SecurityError untrusted\n"
-    ++ codes "end done\n";
+          codes "- restarted -> 0 registrations 0 caches\n"
+          ++ codes "L0.0 open -> none\n"
+          ++ codes "L0.1 register -> j0\n"
+          ++ codes "L0.2 register -> j1 joined j0\n"
+          ++ codes "L0.3 register -> j2 joined j0\n"
+          ++ codes "- run j0 -> finished | settled j0 SecurityError untrusted | settled j1 SecurityError untrusted | settled j2 SecurityError untrusted\n"
+          ++ codes "end done\n";
       shown =
-    codes "registrations 0\n"
-    ++ codes "caches 0\n";
+          codes "registrations 0\n"
+          ++ codes "caches 0\n";
       durable =
-    codes "registrations 0\n"
-    ++ codes "caches 0\n";
+          codes "registrations 0\n"
+          ++ codes "caches 0\n";
     }
 unfolding digits escape_byte grammar_on_literals steps_on_literals
 row_265 = refl
@@ -395,28 +395,28 @@ row_268 :
     ++ codes "{\"lane\":0,\"do\":\"register\",\"client\":4,\"script\":\"/sw.js\",\"scope\":\"/app/x/\",\"cache\":\"none\"}\n")
     ≡ record {
       transcript =
-    codes "- restarted -> 0 registrations 0 caches\n"
-    ++ codes "L0.0 open -> none\n"
-    ++ codes "L0.1 register -> j0\n"
-    ++ codes "L1.0 open -> none\n"
-    ++ codes "L1.1 register -> j1\n"
-    ++ codes "- run j0 -> fetch 0 | mapped r0\n"
-    ++ codes "- run j1 -> fetch 1 | mapped r1\n"
-    ++ codes "- fetched j0 -> changed | w0 parsed\n"
-    ++ codes "- fetched j1 -> changed | w1 parsed\n"
-    ++ codes "- evaluated j0 -> installing | w0 installing | settled j0 r0 | updatefound r0\n"
-    ++ codes "- evaluated j1 -> installing | w1 installing | settled j1 r1 | updatefound r1\n"
-    ++ codes "L1.2 await -> r1\n"
-    ++ codes "L1.3 claim -> InvalidStateError not-active\n"
-    ++ codes "- installed j0 -> failed | w0 redundant | unmapped r0\n"
-    ++ codes "- installed j1 -> failed | w1 redundant | unmapped r1\n"
-    ++ codes "end done\n";
+          codes "- restarted -> 0 registrations 0 caches\n"
+          ++ codes "L0.0 open -> none\n"
+          ++ codes "L0.1 register -> j0\n"
+          ++ codes "L1.0 open -> none\n"
+          ++ codes "L1.1 register -> j1\n"
+          ++ codes "- run j0 -> fetch 0 | mapped r0\n"
+          ++ codes "- run j1 -> fetch 1 | mapped r1\n"
+          ++ codes "- fetched j0 -> changed | w0 parsed\n"
+          ++ codes "- fetched j1 -> changed | w1 parsed\n"
+          ++ codes "- evaluated j0 -> installing | w0 installing | settled j0 r0 | updatefound r0\n"
+          ++ codes "- evaluated j1 -> installing | w1 installing | settled j1 r1 | updatefound r1\n"
+          ++ codes "L1.2 await -> r1\n"
+          ++ codes "L1.3 claim -> InvalidStateError not-active\n"
+          ++ codes "- installed j0 -> failed | w0 redundant | unmapped r0\n"
+          ++ codes "- installed j1 -> failed | w1 redundant | unmapped r1\n"
+          ++ codes "end done\n";
       shown =
-    codes "registrations 0\n"
-    ++ codes "caches 0\n";
+          codes "registrations 0\n"
+          ++ codes "caches 0\n";
       durable =
-    codes "registrations 0\n"
-    ++ codes "caches 0\n";
+          codes "registrations 0\n"
+          ++ codes "caches 0\n";
     }
 unfolding digits escape_byte grammar_on_literals steps_on_literals
 row_268 = refl
@@ -428,26 +428,26 @@ row_276 :
     ++ codes "{\"lane\":2,\"do\":\"register\",\"client\":1,\"script\":\"/app/sw.js\"}\n")
     ≡ record {
       transcript =
-    codes "- restarted -> 0 registrations 0 caches\n"
-    ++ codes "L2.0 open -> none\n"
-    ++ codes "L2.1 register -> j0\n"
-    ++ codes "- run j0 -> fetch 0 | mapped r0\n"
-    ++ codes "- fetched j0 -> changed | w0 parsed\n"
-    ++ codes "- evaluated j0 -> installing | w0 installing | settled j0 r0 | updatefound r0\n"
-    ++ codes "w0.install.0 cacheOpen -> made\n"
-    ++ codes "w0.install.1 put -> TypeError method\n"
-    ++ codes "w0.install.2 cacheOpen -> found\n"
-    ++ codes "w0.install.3 cacheOpen -> found\n"
-    ++ codes "- installed j0 -> failed | w0 redundant | unmapped r0\n"
-    ++ codes "end done\n";
+          codes "- restarted -> 0 registrations 0 caches\n"
+          ++ codes "L2.0 open -> none\n"
+          ++ codes "L2.1 register -> j0\n"
+          ++ codes "- run j0 -> fetch 0 | mapped r0\n"
+          ++ codes "- fetched j0 -> changed | w0 parsed\n"
+          ++ codes "- evaluated j0 -> installing | w0 installing | settled j0 r0 | updatefound r0\n"
+          ++ codes "w0.install.0 cacheOpen -> made\n"
+          ++ codes "w0.install.1 put -> TypeError method\n"
+          ++ codes "w0.install.2 cacheOpen -> found\n"
+          ++ codes "w0.install.3 cacheOpen -> found\n"
+          ++ codes "- installed j0 -> failed | w0 redundant | unmapped r0\n"
+          ++ codes "end done\n";
       shown =
-    codes "registrations 0\n"
-    ++ codes "caches 1\n"
-    ++ codes "cache \"http://127.9.0.1:99\" \"v\" 0\n";
+          codes "registrations 0\n"
+          ++ codes "caches 1\n"
+          ++ codes "cache \"http://127.9.0.1:99\" \"v\" 0\n";
       durable =
-    codes "registrations 0\n"
-    ++ codes "caches 1\n"
-    ++ codes "cache \"http://127.9.0.1:99\" \"v\" 0\n";
+          codes "registrations 0\n"
+          ++ codes "caches 1\n"
+          ++ codes "cache \"http://127.9.0.1:99\" \"v\" 0\n";
     }
 unfolding digits escape_byte grammar_on_literals steps_on_literals
 row_276 = refl
@@ -459,24 +459,24 @@ row_279 :
     ++ codes "{\"lane\":0,\"do\":\"register\",\"client\":1,\"script\":\"/sw.js\",\"scope\":\"/app/x/\"}\n")
     ≡ record {
       transcript =
-    codes "- restarted -> 0 registrations 0 caches\n"
-    ++ codes "L0.0 open -> none\n"
-    ++ codes "L0.1 register -> j0\n"
-    ++ codes "- run j0 -> fetch 0 | mapped r0\n"
-    ++ codes "- fetched j0 -> changed | w0 parsed\n"
-    ++ codes "- evaluated j0 -> installing | w0 installing | settled j0 r0 | updatefound r0\n"
-    ++ codes "w0.install.0 cacheOpen -> made\n"
-    ++ codes "w0.install.1 put -> TypeError scheme\n"
-    ++ codes "- installed j0 -> failed | w0 redundant | unmapped r0\n"
-    ++ codes "end done\n";
+          codes "- restarted -> 0 registrations 0 caches\n"
+          ++ codes "L0.0 open -> none\n"
+          ++ codes "L0.1 register -> j0\n"
+          ++ codes "- run j0 -> fetch 0 | mapped r0\n"
+          ++ codes "- fetched j0 -> changed | w0 parsed\n"
+          ++ codes "- evaluated j0 -> installing | w0 installing | settled j0 r0 | updatefound r0\n"
+          ++ codes "w0.install.0 cacheOpen -> made\n"
+          ++ codes "w0.install.1 put -> TypeError scheme\n"
+          ++ codes "- installed j0 -> failed | w0 redundant | unmapped r0\n"
+          ++ codes "end done\n";
       shown =
-    codes "registrations 0\n"
-    ++ codes "caches 1\n"
-    ++ codes "cache \"https://a.test:8443\" \"v\" 0\n";
+          codes "registrations 0\n"
+          ++ codes "caches 1\n"
+          ++ codes "cache \"https://a.test:8443\" \"v\" 0\n";
       durable =
-    codes "registrations 0\n"
-    ++ codes "caches 1\n"
-    ++ codes "cache \"https://a.test:8443\" \"v\" 0\n";
+          codes "registrations 0\n"
+          ++ codes "caches 1\n"
+          ++ codes "cache \"https://a.test:8443\" \"v\" 0\n";
     }
 unfolding digits escape_byte grammar_on_literals steps_on_literals
 row_279 = refl
@@ -488,24 +488,24 @@ row_283 :
     ++ codes "{\"lane\":0,\"do\":\"register\",\"client\":4,\"script\":\"/d/e/sw.js\"}\n")
     ≡ record {
       transcript =
-    codes "- restarted -> 0 registrations 0 caches\n"
-    ++ codes "L0.0 open -> none\n"
-    ++ codes "L0.1 register -> j0\n"
-    ++ codes "- run j0 -> fetch 0 | mapped r0\n"
-    ++ codes "- fetched j0 -> changed | w0 parsed\n"
-    ++ codes "- evaluated j0 -> installing | w0 installing | settled j0 r0 | updatefound r0\n"
-    ++ codes "w0.install.0 cacheOpen -> made\n"
-    ++ codes "w0.install.1 batch -> TypeError method 1\n"
-    ++ codes "- installed j0 -> failed | w0 redundant | unmapped r0\n"
-    ++ codes "end done\n";
+          codes "- restarted -> 0 registrations 0 caches\n"
+          ++ codes "L0.0 open -> none\n"
+          ++ codes "L0.1 register -> j0\n"
+          ++ codes "- run j0 -> fetch 0 | mapped r0\n"
+          ++ codes "- fetched j0 -> changed | w0 parsed\n"
+          ++ codes "- evaluated j0 -> installing | w0 installing | settled j0 r0 | updatefound r0\n"
+          ++ codes "w0.install.0 cacheOpen -> made\n"
+          ++ codes "w0.install.1 batch -> TypeError method 1\n"
+          ++ codes "- installed j0 -> failed | w0 redundant | unmapped r0\n"
+          ++ codes "end done\n";
       shown =
-    codes "registrations 0\n"
-    ++ codes "caches 1\n"
-    ++ codes "cache \"http://x.localhost\" \"v\" 0\n";
+          codes "registrations 0\n"
+          ++ codes "caches 1\n"
+          ++ codes "cache \"http://x.localhost\" \"v\" 0\n";
       durable =
-    codes "registrations 0\n"
-    ++ codes "caches 1\n"
-    ++ codes "cache \"http://x.localhost\" \"v\" 0\n";
+          codes "registrations 0\n"
+          ++ codes "caches 1\n"
+          ++ codes "cache \"http://x.localhost\" \"v\" 0\n";
     }
 unfolding digits escape_byte grammar_on_literals steps_on_literals
 row_283 = refl
@@ -520,22 +520,22 @@ row_294 :
     ++ codes "{\"lane\":0,\"do\":\"register\",\"client\":5,\"script\":\"https://zz.test/sw.js\",\"scope\":\"/zz/\"}\n")
     ≡ record {
       transcript =
-    codes "- restarted -> 0 registrations 0 caches\n"
-    ++ codes "L0.0 open -> none\n"
-    ++ codes "L0.1 unregister -> j0\n"
-    ++ codes "L2.0 open -> none\n"
-    ++ codes "L2.1 register -> j1\n"
-    ++ codes "- run j0 -> finished | settled j0 false\n"
-    ++ codes "L0.2 await -> false\n"
-    ++ codes "L0.3 register -> j2 joined j1\n"
-    ++ codes "- run j1 -> finished | settled j1 SecurityError script-origin | settled j2 SecurityError script-origin\n"
-    ++ codes "end done\n";
+          codes "- restarted -> 0 registrations 0 caches\n"
+          ++ codes "L0.0 open -> none\n"
+          ++ codes "L0.1 unregister -> j0\n"
+          ++ codes "L2.0 open -> none\n"
+          ++ codes "L2.1 register -> j1\n"
+          ++ codes "- run j0 -> finished | settled j0 false\n"
+          ++ codes "L0.2 await -> false\n"
+          ++ codes "L0.3 register -> j2 joined j1\n"
+          ++ codes "- run j1 -> finished | settled j1 SecurityError script-origin | settled j2 SecurityError script-origin\n"
+          ++ codes "end done\n";
       shown =
-    codes "registrations 0\n"
-    ++ codes "caches 0\n";
+          codes "registrations 0\n"
+          ++ codes "caches 0\n";
       durable =
-    codes "registrations 0\n"
-    ++ codes "caches 0\n";
+          codes "registrations 0\n"
+          ++ codes "caches 0\n";
     }
 unfolding digits escape_byte grammar_on_literals steps_on_literals
 row_294 = refl
@@ -547,24 +547,24 @@ row_300 :
     ++ codes "{\"lane\":0,\"do\":\"register\",\"client\":3,\"script\":\"/app/sw.js\"}\n")
     ≡ record {
       transcript =
-    codes "- restarted -> 0 registrations 0 caches\n"
-    ++ codes "L0.0 open -> none\n"
-    ++ codes "L0.1 register -> j0\n"
-    ++ codes "- run j0 -> fetch 0 | mapped r0\n"
-    ++ codes "- fetched j0 -> changed | w0 parsed\n"
-    ++ codes "- evaluated j0 -> installing | w0 installing | settled j0 r0 | updatefound r0\n"
-    ++ codes "w0.install.0 cacheOpen -> made\n"
-    ++ codes "w0.install.1 batch -> TypeError partial 2\n"
-    ++ codes "- installed j0 -> failed | w0 redundant | unmapped r0\n"
-    ++ codes "end done\n";
+          codes "- restarted -> 0 registrations 0 caches\n"
+          ++ codes "L0.0 open -> none\n"
+          ++ codes "L0.1 register -> j0\n"
+          ++ codes "- run j0 -> fetch 0 | mapped r0\n"
+          ++ codes "- fetched j0 -> changed | w0 parsed\n"
+          ++ codes "- evaluated j0 -> installing | w0 installing | settled j0 r0 | updatefound r0\n"
+          ++ codes "w0.install.0 cacheOpen -> made\n"
+          ++ codes "w0.install.1 batch -> TypeError partial 2\n"
+          ++ codes "- installed j0 -> failed | w0 redundant | unmapped r0\n"
+          ++ codes "end done\n";
       shown =
-    codes "registrations 0\n"
-    ++ codes "caches 1\n"
-    ++ codes "cache \"https://a.test:8443^p-1\" \"v\" 0\n";
+          codes "registrations 0\n"
+          ++ codes "caches 1\n"
+          ++ codes "cache \"https://a.test:8443^p-1\" \"v\" 0\n";
       durable =
-    codes "registrations 0\n"
-    ++ codes "caches 1\n"
-    ++ codes "cache \"https://a.test:8443^p-1\" \"v\" 0\n";
+          codes "registrations 0\n"
+          ++ codes "caches 1\n"
+          ++ codes "cache \"https://a.test:8443^p-1\" \"v\" 0\n";
     }
 unfolding digits escape_byte grammar_on_literals steps_on_literals
 row_300 = refl
@@ -576,24 +576,24 @@ row_303 :
     ++ codes "{\"lane\":2,\"do\":\"register\",\"client\":7,\"script\":\"/app/sw.js\"}\n")
     ≡ record {
       transcript =
-    codes "- restarted -> 0 registrations 0 caches\n"
-    ++ codes "L2.0 open -> none\n"
-    ++ codes "L2.1 register -> j0\n"
-    ++ codes "- run j0 -> fetch 0 | mapped r0\n"
-    ++ codes "- fetched j0 -> changed | w0 parsed\n"
-    ++ codes "- evaluated j0 -> installing | w0 installing | settled j0 r0 | updatefound r0\n"
-    ++ codes "w0.install.0 cacheOpen -> made\n"
-    ++ codes "w0.install.1 put -> TypeError unparsed\n"
-    ++ codes "- installed j0 -> failed | w0 redundant | unmapped r0\n"
-    ++ codes "end done\n";
+          codes "- restarted -> 0 registrations 0 caches\n"
+          ++ codes "L2.0 open -> none\n"
+          ++ codes "L2.1 register -> j0\n"
+          ++ codes "- run j0 -> fetch 0 | mapped r0\n"
+          ++ codes "- fetched j0 -> changed | w0 parsed\n"
+          ++ codes "- evaluated j0 -> installing | w0 installing | settled j0 r0 | updatefound r0\n"
+          ++ codes "w0.install.0 cacheOpen -> made\n"
+          ++ codes "w0.install.1 put -> TypeError unparsed\n"
+          ++ codes "- installed j0 -> failed | w0 redundant | unmapped r0\n"
+          ++ codes "end done\n";
       shown =
-    codes "registrations 0\n"
-    ++ codes "caches 1\n"
-    ++ codes "cache \"http://127.9.0.1:99\" \"v\" 0\n";
+          codes "registrations 0\n"
+          ++ codes "caches 1\n"
+          ++ codes "cache \"http://127.9.0.1:99\" \"v\" 0\n";
       durable =
-    codes "registrations 0\n"
-    ++ codes "caches 1\n"
-    ++ codes "cache \"http://127.9.0.1:99\" \"v\" 0\n";
+          codes "registrations 0\n"
+          ++ codes "caches 1\n"
+          ++ codes "cache \"http://127.9.0.1:99\" \"v\" 0\n";
     }
 unfolding digits escape_byte grammar_on_literals steps_on_literals
 row_303 = refl
@@ -605,24 +605,24 @@ row_305 :
     ++ codes "{\"lane\":1,\"do\":\"register\",\"client\":3,\"script\":\"/sw.js\",\"scope\":\"/\",\"type\":\"module\",\"cache\":\"none\"}\n")
     ≡ record {
       transcript =
-    codes "- restarted -> 0 registrations 0 caches\n"
-    ++ codes "L1.0 open -> none\n"
-    ++ codes "L1.1 register -> j0\n"
-    ++ codes "- run j0 -> fetch 0 | mapped r0\n"
-    ++ codes "- fetched j0 -> changed | w0 parsed\n"
-    ++ codes "- evaluated j0 -> installing | w0 installing | settled j0 r0 | updatefound r0\n"
-    ++ codes "w0.install.0 cacheOpen -> made\n"
-    ++ codes "w0.install.1 batch -> TypeError unparsed 0\n"
-    ++ codes "- installed j0 -> failed | w0 redundant | unmapped r0\n"
-    ++ codes "end done\n";
+          codes "- restarted -> 0 registrations 0 caches\n"
+          ++ codes "L1.0 open -> none\n"
+          ++ codes "L1.1 register -> j0\n"
+          ++ codes "- run j0 -> fetch 0 | mapped r0\n"
+          ++ codes "- fetched j0 -> changed | w0 parsed\n"
+          ++ codes "- evaluated j0 -> installing | w0 installing | settled j0 r0 | updatefound r0\n"
+          ++ codes "w0.install.0 cacheOpen -> made\n"
+          ++ codes "w0.install.1 batch -> TypeError unparsed 0\n"
+          ++ codes "- installed j0 -> failed | w0 redundant | unmapped r0\n"
+          ++ codes "end done\n";
       shown =
-    codes "registrations 0\n"
-    ++ codes "caches 1\n"
-    ++ codes "cache \"https://a.test\" \"v\" 0\n";
+          codes "registrations 0\n"
+          ++ codes "caches 1\n"
+          ++ codes "cache \"https://a.test\" \"v\" 0\n";
       durable =
-    codes "registrations 0\n"
-    ++ codes "caches 1\n"
-    ++ codes "cache \"https://a.test\" \"v\" 0\n";
+          codes "registrations 0\n"
+          ++ codes "caches 1\n"
+          ++ codes "cache \"https://a.test\" \"v\" 0\n";
     }
 unfolding digits escape_byte grammar_on_literals steps_on_literals
 row_305 = refl
@@ -634,24 +634,24 @@ row_307 :
     ++ codes "{\"lane\":2,\"do\":\"register\",\"client\":0,\"script\":\"/sw.js\",\"scope\":\"/\"}\n")
     ≡ record {
       transcript =
-    codes "- restarted -> 0 registrations 0 caches\n"
-    ++ codes "L2.0 open -> none\n"
-    ++ codes "L2.1 register -> j0\n"
-    ++ codes "- run j0 -> fetch 0 | mapped r0\n"
-    ++ codes "- fetched j0 -> changed | w0 parsed\n"
-    ++ codes "- evaluated j0 -> installing | w0 installing | settled j0 r0 | updatefound r0\n"
-    ++ codes "w0.install.0 cacheOpen -> made\n"
-    ++ codes "w0.install.1 batch -> TypeError scheme 2\n"
-    ++ codes "- installed j0 -> failed | w0 redundant | unmapped r0\n"
-    ++ codes "end done\n";
+          codes "- restarted -> 0 registrations 0 caches\n"
+          ++ codes "L2.0 open -> none\n"
+          ++ codes "L2.1 register -> j0\n"
+          ++ codes "- run j0 -> fetch 0 | mapped r0\n"
+          ++ codes "- fetched j0 -> changed | w0 parsed\n"
+          ++ codes "- evaluated j0 -> installing | w0 installing | settled j0 r0 | updatefound r0\n"
+          ++ codes "w0.install.0 cacheOpen -> made\n"
+          ++ codes "w0.install.1 batch -> TypeError scheme 2\n"
+          ++ codes "- installed j0 -> failed | w0 redundant | unmapped r0\n"
+          ++ codes "end done\n";
       shown =
-    codes "registrations 0\n"
-    ++ codes "caches 1\n"
-    ++ codes "cache \"https://a.test^p-1\" \"v\" 0\n";
+          codes "registrations 0\n"
+          ++ codes "caches 1\n"
+          ++ codes "cache \"https://a.test^p-1\" \"v\" 0\n";
       durable =
-    codes "registrations 0\n"
-    ++ codes "caches 1\n"
-    ++ codes "cache \"https://a.test^p-1\" \"v\" 0\n";
+          codes "registrations 0\n"
+          ++ codes "caches 1\n"
+          ++ codes "cache \"https://a.test^p-1\" \"v\" 0\n";
     }
 unfolding digits escape_byte grammar_on_literals steps_on_literals
 row_307 = refl
@@ -666,22 +666,22 @@ row_308 :
     ++ codes "{\"lane\":2,\"do\":\"unregister\",\"client\":9,\"scope\":\"mailto:x\"}\n")
     ≡ record {
       transcript =
-    codes "- restarted -> 0 registrations 0 caches\n"
-    ++ codes "L0.0 open -> none\n"
-    ++ codes "L0.1 unregister -> j0\n"
-    ++ codes "L2.0 open -> none\n"
-    ++ codes "L2.1 unregister -> j1\n"
-    ++ codes "- run j0 -> finished | settled j0 false\n"
-    ++ codes "L0.2 await -> false\n"
-    ++ codes "L0.3 unregister -> j2 joined j1\n"
-    ++ codes "- run j1 -> finished | settled j1 SecurityError scope-origin | settled j2 SecurityError scope-origin\n"
-    ++ codes "end done\n";
+          codes "- restarted -> 0 registrations 0 caches\n"
+          ++ codes "L0.0 open -> none\n"
+          ++ codes "L0.1 unregister -> j0\n"
+          ++ codes "L2.0 open -> none\n"
+          ++ codes "L2.1 unregister -> j1\n"
+          ++ codes "- run j0 -> finished | settled j0 false\n"
+          ++ codes "L0.2 await -> false\n"
+          ++ codes "L0.3 unregister -> j2 joined j1\n"
+          ++ codes "- run j1 -> finished | settled j1 SecurityError scope-origin | settled j2 SecurityError scope-origin\n"
+          ++ codes "end done\n";
       shown =
-    codes "registrations 0\n"
-    ++ codes "caches 0\n";
+          codes "registrations 0\n"
+          ++ codes "caches 0\n";
       durable =
-    codes "registrations 0\n"
-    ++ codes "caches 0\n";
+          codes "registrations 0\n"
+          ++ codes "caches 0\n";
     }
 unfolding digits escape_byte grammar_on_literals steps_on_literals
 row_308 = refl
@@ -696,21 +696,21 @@ row_311 :
     ++ codes "{\"lane\":0,\"do\":\"register\",\"client\":9,\"script\":\"/sw.js\",\"scope\":\"/\"}\n")
     ≡ record {
       transcript =
-    codes "- restarted -> 0 registrations 0 caches\n"
-    ++ codes "L0.0 open -> none\n"
-    ++ codes "L0.1 register -> j0\n"
-    ++ codes "L0.2 register -> j1 joined j0\n"
-    ++ codes "L0.3 register -> j2 joined j0\n"
-    ++ codes "L1.0 open -> none\n"
-    ++ codes "L1.1 register -> j3 joined j0\n"
-    ++ codes "- run j0 -> finished | settled j0 SecurityError untrusted | settled j1 SecurityError untrusted | settled j2 SecurityError untrusted | settled j3 SecurityError untrusted\n"
-    ++ codes "end done\n";
+          codes "- restarted -> 0 registrations 0 caches\n"
+          ++ codes "L0.0 open -> none\n"
+          ++ codes "L0.1 register -> j0\n"
+          ++ codes "L0.2 register -> j1 joined j0\n"
+          ++ codes "L0.3 register -> j2 joined j0\n"
+          ++ codes "L1.0 open -> none\n"
+          ++ codes "L1.1 register -> j3 joined j0\n"
+          ++ codes "- run j0 -> finished | settled j0 SecurityError untrusted | settled j1 SecurityError untrusted | settled j2 SecurityError untrusted | settled j3 SecurityError untrusted\n"
+          ++ codes "end done\n";
       shown =
-    codes "registrations 0\n"
-    ++ codes "caches 0\n";
+          codes "registrations 0\n"
+          ++ codes "caches 0\n";
       durable =
-    codes "registrations 0\n"
-    ++ codes "caches 0\n";
+          codes "registrations 0\n"
+          ++ codes "caches 0\n";
     }
 unfolding digits escape_byte grammar_on_literals steps_on_literals
 row_311 = refl
@@ -727,27 +727,27 @@ row_315 :
     ++ codes "{\"lane\":1,\"do\":\"unregister\",\"client\":3,\"scope\":\"/\"}\n")
     ≡ record {
       transcript =
-    codes "- restarted -> 0 registrations 0 caches\n"
-    ++ codes "L0.0 open -> none\n"
-    ++ codes "L0.1 register -> j0\n"
-    ++ codes "L1.0 register -> j1\n"
-    ++ codes "L1.1 unregister -> j2\n"
-    ++ codes "L1.2 unregister -> j3 joined j2\n"
-    ++ codes "- run j0 -> fetch 0 | mapped r0\n"
-    ++ codes "- run j1 -> fetch 1 | mapped r1\n"
-    ++ codes "- fetched j0 -> rejected | settled j0 TypeError network | unmapped r0\n"
-    ++ codes "L0.2 await -> TypeError network\n"
-    ++ codes "L0.3 open -> none\n"
-    ++ codes "L0.4 unregister -> j4 joined j2\n"
-    ++ codes "- fetched j1 -> rejected | settled j1 TypeError network | unmapped r1\n"
-    ++ codes "- run j2 -> finished | settled j2 false | settled j3 false | settled j4 false\n"
-    ++ codes "end done\n";
+          codes "- restarted -> 0 registrations 0 caches\n"
+          ++ codes "L0.0 open -> none\n"
+          ++ codes "L0.1 register -> j0\n"
+          ++ codes "L1.0 register -> j1\n"
+          ++ codes "L1.1 unregister -> j2\n"
+          ++ codes "L1.2 unregister -> j3 joined j2\n"
+          ++ codes "- run j0 -> fetch 0 | mapped r0\n"
+          ++ codes "- run j1 -> fetch 1 | mapped r1\n"
+          ++ codes "- fetched j0 -> rejected | settled j0 TypeError network | unmapped r0\n"
+          ++ codes "L0.2 await -> TypeError network\n"
+          ++ codes "L0.3 open -> none\n"
+          ++ codes "L0.4 unregister -> j4 joined j2\n"
+          ++ codes "- fetched j1 -> rejected | settled j1 TypeError network | unmapped r1\n"
+          ++ codes "- run j2 -> finished | settled j2 false | settled j3 false | settled j4 false\n"
+          ++ codes "end done\n";
       shown =
-    codes "registrations 0\n"
-    ++ codes "caches 0\n";
+          codes "registrations 0\n"
+          ++ codes "caches 0\n";
       durable =
-    codes "registrations 0\n"
-    ++ codes "caches 0\n";
+          codes "registrations 0\n"
+          ++ codes "caches 0\n";
     }
 unfolding digits escape_byte grammar_on_literals steps_on_literals
 row_315 = refl
@@ -764,23 +764,23 @@ row_319 :
     ++ codes "{\"lane\":0,\"do\":\"register\",\"client\":1,\"script\":\"/sw.js\",\"scope\":\"/\"}\n")
     ≡ record {
       transcript =
-    codes "- restarted -> 0 registrations 0 caches\n"
-    ++ codes "L0.0 open -> none\n"
-    ++ codes "L0.1 register -> j0\n"
-    ++ codes "L0.2 register -> j1 joined j0\n"
-    ++ codes "L0.3 register -> j2 joined j0\n"
-    ++ codes "L1.0 open -> none\n"
-    ++ codes "L1.1 register -> j3 joined j0\n"
-    ++ codes "L1.2 register -> j4 joined j0\n"
-    ++ codes "L1.3 register -> j5 joined j0\n"
-    ++ codes "- run j0 -> finished | settled j0 SecurityError untrusted | settled j1 SecurityError untrusted | settled j2 SecurityError untrusted | settled j3 SecurityError untrusted | settled j4 SecurityError untrusted | settled j5 SecurityError untrusted\n"
-    ++ codes "end done\n";
+          codes "- restarted -> 0 registrations 0 caches\n"
+          ++ codes "L0.0 open -> none\n"
+          ++ codes "L0.1 register -> j0\n"
+          ++ codes "L0.2 register -> j1 joined j0\n"
+          ++ codes "L0.3 register -> j2 joined j0\n"
+          ++ codes "L1.0 open -> none\n"
+          ++ codes "L1.1 register -> j3 joined j0\n"
+          ++ codes "L1.2 register -> j4 joined j0\n"
+          ++ codes "L1.3 register -> j5 joined j0\n"
+          ++ codes "- run j0 -> finished | settled j0 SecurityError untrusted | settled j1 SecurityError untrusted | settled j2 SecurityError untrusted | settled j3 SecurityError untrusted | settled j4 SecurityError untrusted | settled j5 SecurityError untrusted\n"
+          ++ codes "end done\n";
       shown =
-    codes "registrations 0\n"
-    ++ codes "caches 0\n";
+          codes "registrations 0\n"
+          ++ codes "caches 0\n";
       durable =
-    codes "registrations 0\n"
-    ++ codes "caches 0\n";
+          codes "registrations 0\n"
+          ++ codes "caches 0\n";
     }
 unfolding digits escape_byte grammar_on_literals steps_on_literals
 row_319 = refl
@@ -792,25 +792,25 @@ row_320 :
     ++ codes "{\"lane\":0,\"do\":\"register\",\"client\":1,\"script\":\"/sw.js\",\"scope\":\"/\"}\n")
     ≡ record {
       transcript =
-    codes "- restarted -> 0 registrations 0 caches\n"
-    ++ codes "L0.0 open -> none\n"
-    ++ codes "L0.1 register -> j0\n"
-    ++ codes "- run j0 -> fetch 0 | mapped r0\n"
-    ++ codes "- fetched j0 -> changed | w0 parsed\n"
-    ++ codes "- evaluated j0 -> installing | w0 installing | settled j0 r0 | updatefound r0\n"
-    ++ codes "w0.install.0 cacheOpen -> made\n"
-    ++ codes "w0.install.1 addAll -> TypeError method\n"
-    ++ codes "w0.install.2 cacheOpen -> found\n"
-    ++ codes "- installed j0 -> failed | w0 redundant | unmapped r0\n"
-    ++ codes "end done\n";
+          codes "- restarted -> 0 registrations 0 caches\n"
+          ++ codes "L0.0 open -> none\n"
+          ++ codes "L0.1 register -> j0\n"
+          ++ codes "- run j0 -> fetch 0 | mapped r0\n"
+          ++ codes "- fetched j0 -> changed | w0 parsed\n"
+          ++ codes "- evaluated j0 -> installing | w0 installing | settled j0 r0 | updatefound r0\n"
+          ++ codes "w0.install.0 cacheOpen -> made\n"
+          ++ codes "w0.install.1 addAll -> TypeError method\n"
+          ++ codes "w0.install.2 cacheOpen -> found\n"
+          ++ codes "- installed j0 -> failed | w0 redundant | unmapped r0\n"
+          ++ codes "end done\n";
       shown =
-    codes "registrations 0\n"
-    ++ codes "caches 1\n"
-    ++ codes "cache \"http://localhost:8080\" \"v\" 0\n";
+          codes "registrations 0\n"
+          ++ codes "caches 1\n"
+          ++ codes "cache \"http://localhost:8080\" \"v\" 0\n";
       durable =
-    codes "registrations 0\n"
-    ++ codes "caches 1\n"
-    ++ codes "cache \"http://localhost:8080\" \"v\" 0\n";
+          codes "registrations 0\n"
+          ++ codes "caches 1\n"
+          ++ codes "cache \"http://localhost:8080\" \"v\" 0\n";
     }
 unfolding digits escape_byte grammar_on_literals steps_on_literals
 row_320 = refl
@@ -822,25 +822,25 @@ row_322 :
     ++ codes "{\"lane\":1,\"do\":\"register\",\"client\":2,\"script\":\"/sw.js\"}\n")
     ≡ record {
       transcript =
-    codes "- restarted -> 0 registrations 0 caches\n"
-    ++ codes "L1.0 open -> none\n"
-    ++ codes "L1.1 register -> j0\n"
-    ++ codes "- run j0 -> fetch 0 | mapped r0\n"
-    ++ codes "- fetched j0 -> changed | w0 parsed\n"
-    ++ codes "- evaluated j0 -> installing | w0 installing | settled j0 r0 | updatefound r0\n"
-    ++ codes "w0.install.0 cacheOpen -> made\n"
-    ++ codes "w0.install.1 put -> TypeError vary\n"
-    ++ codes "w0.install.2 cacheOpen -> found\n"
-    ++ codes "- installed j0 -> failed | w0 redundant | unmapped r0\n"
-    ++ codes "end done\n";
+          codes "- restarted -> 0 registrations 0 caches\n"
+          ++ codes "L1.0 open -> none\n"
+          ++ codes "L1.1 register -> j0\n"
+          ++ codes "- run j0 -> fetch 0 | mapped r0\n"
+          ++ codes "- fetched j0 -> changed | w0 parsed\n"
+          ++ codes "- evaluated j0 -> installing | w0 installing | settled j0 r0 | updatefound r0\n"
+          ++ codes "w0.install.0 cacheOpen -> made\n"
+          ++ codes "w0.install.1 put -> TypeError vary\n"
+          ++ codes "w0.install.2 cacheOpen -> found\n"
+          ++ codes "- installed j0 -> failed | w0 redundant | unmapped r0\n"
+          ++ codes "end done\n";
       shown =
-    codes "registrations 0\n"
-    ++ codes "caches 1\n"
-    ++ codes "cache \"https://a.test\" \"v\" 0\n";
+          codes "registrations 0\n"
+          ++ codes "caches 1\n"
+          ++ codes "cache \"https://a.test\" \"v\" 0\n";
       durable =
-    codes "registrations 0\n"
-    ++ codes "caches 1\n"
-    ++ codes "cache \"https://a.test\" \"v\" 0\n";
+          codes "registrations 0\n"
+          ++ codes "caches 1\n"
+          ++ codes "cache \"https://a.test\" \"v\" 0\n";
     }
 unfolding digits escape_byte grammar_on_literals steps_on_literals
 row_322 = refl

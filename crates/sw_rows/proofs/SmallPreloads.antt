@@ -14,27 +14,27 @@ row_023 :
     ++ codes "{\"lane\":2,\"do\":\"ready\",\"client\":5}\n")
     ≡ record {
       transcript =
-    codes "- restarted -> 0 registrations 0 caches\n"
-    ++ codes "L2.0 open -> none\n"
-    ++ codes "L2.1 register -> j0\n"
-    ++ codes "- run j0 -> fetch 0 | mapped r0\n"
-    ++ codes "- fetched j0 -> changed | w0 parsed\n"
-    ++ codes "- evaluated j0 -> installing | w0 installing | settled j0 r0 | updatefound r0\n"
-    ++ codes "- installed j0 -> ok | w0 installed\n"
-    ++ codes "- tryactivate r0 -> w0 | w0 activating\n"
-    ++ codes "L2.2 ready -> r0\n"
-    ++ codes "- activated w0 -> ok | w0 activated\n"
-    ++ codes "end done\n";
+          codes "- restarted -> 0 registrations 0 caches\n"
+          ++ codes "L2.0 open -> none\n"
+          ++ codes "L2.1 register -> j0\n"
+          ++ codes "- run j0 -> fetch 0 | mapped r0\n"
+          ++ codes "- fetched j0 -> changed | w0 parsed\n"
+          ++ codes "- evaluated j0 -> installing | w0 installing | settled j0 r0 | updatefound r0\n"
+          ++ codes "- installed j0 -> ok | w0 installed\n"
+          ++ codes "- tryactivate r0 -> w0 | w0 activating\n"
+          ++ codes "L2.2 ready -> r0\n"
+          ++ codes "- activated w0 -> ok | w0 activated\n"
+          ++ codes "end done\n";
       shown =
-    codes "registrations 1\n"
-    ++ codes "registration \"https://a.test^q.top\" \"https://a.test/app/\" imports\n"
-    ++ codes " active activated \"https://a.test/app/claim.js\" classic 8\n"
-    ++ codes "caches 0\n";
+          codes "registrations 1\n"
+          ++ codes "registration \"https://a.test^q.top\" \"https://a.test/app/\" imports\n"
+          ++ codes " active activated \"https://a.test/app/claim.js\" classic 8\n"
+          ++ codes "caches 0\n";
       durable =
-    codes "registrations 1\n"
-    ++ codes "registration \"https://a.test^q.top\" \"https://a.test/app/\" imports\n"
-    ++ codes " active activated \"https://a.test/app/claim.js\" classic 8\n"
-    ++ codes "caches 0\n";
+          codes "registrations 1\n"
+          ++ codes "registration \"https://a.test^q.top\" \"https://a.test/app/\" imports\n"
+          ++ codes " active activated \"https://a.test/app/claim.js\" classic 8\n"
+          ++ codes "caches 0\n";
     }
 unfolding digits escape_byte grammar_on_literals steps_on_literals
 row_023 = refl
@@ -50,30 +50,30 @@ row_043 :
     ++ codes "{\"lane\":0,\"do\":\"open\",\"client\":32,\"url\":\"https://a.test/f76/page\"}\n")
     ≡ record {
       transcript =
-    codes "- restarted -> 0 registrations 0 caches\n"
-    ++ codes "L0.0 open -> none\n"
-    ++ codes "L0.1 register -> j0\n"
-    ++ codes "L0.2 open -> none\n"
-    ++ codes "- run j0 -> fetch 0 | mapped r0\n"
-    ++ codes "- fetched j0 -> changed | w0 parsed\n"
-    ++ codes "- evaluated j0 -> installing | w0 installing | settled j0 r0 | updatefound r0\n"
-    ++ codes "- installed j0 -> ok | w0 installed\n"
-    ++ codes "- tryactivate r0 -> w0 | w0 activating\n"
-    ++ codes "L0.3 ready -> r0\n"
-    ++ codes "L0.4 close -> ok\n"
-    ++ codes "L0.5 open -> w0\n"
-    ++ codes "- activated w0 -> ok | w0 activated\n"
-    ++ codes "end done\n";
+          codes "- restarted -> 0 registrations 0 caches\n"
+          ++ codes "L0.0 open -> none\n"
+          ++ codes "L0.1 register -> j0\n"
+          ++ codes "L0.2 open -> none\n"
+          ++ codes "- run j0 -> fetch 0 | mapped r0\n"
+          ++ codes "- fetched j0 -> changed | w0 parsed\n"
+          ++ codes "- evaluated j0 -> installing | w0 installing | settled j0 r0 | updatefound r0\n"
+          ++ codes "- installed j0 -> ok | w0 installed\n"
+          ++ codes "- tryactivate r0 -> w0 | w0 activating\n"
+          ++ codes "L0.3 ready -> r0\n"
+          ++ codes "L0.4 close -> ok\n"
+          ++ codes "L0.5 open -> w0\n"
+          ++ codes "- activated w0 -> ok | w0 activated\n"
+          ++ codes "end done\n";
       shown =
-    codes "registrations 1\n"
-    ++ codes "registration \"https://a.test\" \"https://a.test/f76/\" imports\n"
-    ++ codes " active activated \"https://a.test/f76/sw15.js\" classic 9\n"
-    ++ codes "caches 0\n";
+          codes "registrations 1\n"
+          ++ codes "registration \"https://a.test\" \"https://a.test/f76/\" imports\n"
+          ++ codes " active activated \"https://a.test/f76/sw15.js\" classic 9\n"
+          ++ codes "caches 0\n";
       durable =
-    codes "registrations 1\n"
-    ++ codes "registration \"https://a.test\" \"https://a.test/f76/\" imports\n"
-    ++ codes " active activated \"https://a.test/f76/sw15.js\" classic 9\n"
-    ++ codes "caches 0\n";
+          codes "registrations 1\n"
+          ++ codes "registration \"https://a.test\" \"https://a.test/f76/\" imports\n"
+          ++ codes " active activated \"https://a.test/f76/sw15.js\" classic 9\n"
+          ++ codes "caches 0\n";
     }
 unfolding digits escape_byte grammar_on_literals steps_on_literals
 row_043 = refl
@@ -88,29 +88,29 @@ row_071 :
     ++ codes "{\"lane\":0,\"do\":\"registration\",\"client\":1,\"url\":\"/app/x/y?q#f\"}\n")
     ≡ record {
       transcript =
-    codes "- restarted -> 0 registrations 0 caches\n"
-    ++ codes "L0.0 open -> none\n"
-    ++ codes "L0.1 open -> none\n"
-    ++ codes "L0.2 register -> j0\n"
-    ++ codes "- run j0 -> fetch 0 | mapped r0\n"
-    ++ codes "- fetched j0 -> changed | w0 parsed\n"
-    ++ codes "- evaluated j0 -> installing | w0 installing | settled j0 r0 | updatefound r0\n"
-    ++ codes "L0.3 await -> r0\n"
-    ++ codes "L0.4 registration -> r0\n"
-    ++ codes "- installed j0 -> ok | w0 installed\n"
-    ++ codes "- tryactivate r0 -> w0 | w0 activating\n"
-    ++ codes "- activated w0 -> ok | w0 activated\n"
-    ++ codes "end done\n";
+          codes "- restarted -> 0 registrations 0 caches\n"
+          ++ codes "L0.0 open -> none\n"
+          ++ codes "L0.1 open -> none\n"
+          ++ codes "L0.2 register -> j0\n"
+          ++ codes "- run j0 -> fetch 0 | mapped r0\n"
+          ++ codes "- fetched j0 -> changed | w0 parsed\n"
+          ++ codes "- evaluated j0 -> installing | w0 installing | settled j0 r0 | updatefound r0\n"
+          ++ codes "L0.3 await -> r0\n"
+          ++ codes "L0.4 registration -> r0\n"
+          ++ codes "- installed j0 -> ok | w0 installed\n"
+          ++ codes "- tryactivate r0 -> w0 | w0 activating\n"
+          ++ codes "- activated w0 -> ok | w0 activated\n"
+          ++ codes "end done\n";
       shown =
-    codes "registrations 1\n"
-    ++ codes "registration \"http://localhost:8080\" \"http://localhost:8080/app/\" none\n"
-    ++ codes " active activated \"http://localhost:8080/app/claim.js\" classic 8\n"
-    ++ codes "caches 0\n";
+          codes "registrations 1\n"
+          ++ codes "registration \"http://localhost:8080\" \"http://localhost:8080/app/\" none\n"
+          ++ codes " active activated \"http://localhost:8080/app/claim.js\" classic 8\n"
+          ++ codes "caches 0\n";
       durable =
-    codes "registrations 1\n"
-    ++ codes "registration \"http://localhost:8080\" \"http://localhost:8080/app/\" none\n"
-    ++ codes " active activated \"http://localhost:8080/app/claim.js\" classic 8\n"
-    ++ codes "caches 0\n";
+          codes "registrations 1\n"
+          ++ codes "registration \"http://localhost:8080\" \"http://localhost:8080/app/\" none\n"
+          ++ codes " active activated \"http://localhost:8080/app/claim.js\" classic 8\n"
+          ++ codes "caches 0\n";
     }
 unfolding digits escape_byte grammar_on_literals steps_on_literals
 row_071 = refl
@@ -125,37 +125,37 @@ row_085 :
     ++ codes "{\"lane\":0,\"do\":\"cacheOpen\",\"at\":\"https://b.test/\",\"name\":\"v\"}\n")
     ≡ record {
       transcript =
-    codes "- restarted -> 0 registrations 0 caches\n"
-    ++ codes "L0.0 open -> none\n"
-    ++ codes "L0.1 register -> j0\n"
-    ++ codes "L0.2 register -> j1\n"
-    ++ codes "- run j0 -> fetch 0 | mapped r0\n"
-    ++ codes "- fetched j0 -> changed | w0 parsed\n"
-    ++ codes "- evaluated j0 -> installing | w0 installing | settled j0 r0 | updatefound r0\n"
-    ++ codes "w0.install.0 cacheOpen -> made\n"
-    ++ codes "- installed j0 -> ok | w0 installed\n"
-    ++ codes "- run j1 -> fetch 1\n"
-    ++ codes "- fetched j1 -> changed | w1 parsed\n"
-    ++ codes "- evaluated j1 -> installing | w1 installing | settled j1 r0 | updatefound r0\n"
-    ++ codes "L0.3 await -> r0\n"
-    ++ codes "L0.4 cacheOpen -> found\n"
-    ++ codes "w1.install.0 cacheOpen -> found\n"
-    ++ codes "- installed j1 -> ok | w0 redundant | w1 installed\n"
-    ++ codes "- tryactivate r0 -> w1 | w1 activating\n"
-    ++ codes "- activated w1 -> ok | w1 activated\n"
-    ++ codes "end done\n";
+          codes "- restarted -> 0 registrations 0 caches\n"
+          ++ codes "L0.0 open -> none\n"
+          ++ codes "L0.1 register -> j0\n"
+          ++ codes "L0.2 register -> j1\n"
+          ++ codes "- run j0 -> fetch 0 | mapped r0\n"
+          ++ codes "- fetched j0 -> changed | w0 parsed\n"
+          ++ codes "- evaluated j0 -> installing | w0 installing | settled j0 r0 | updatefound r0\n"
+          ++ codes "w0.install.0 cacheOpen -> made\n"
+          ++ codes "- installed j0 -> ok | w0 installed\n"
+          ++ codes "- run j1 -> fetch 1\n"
+          ++ codes "- fetched j1 -> changed | w1 parsed\n"
+          ++ codes "- evaluated j1 -> installing | w1 installing | settled j1 r0 | updatefound r0\n"
+          ++ codes "L0.3 await -> r0\n"
+          ++ codes "L0.4 cacheOpen -> found\n"
+          ++ codes "w1.install.0 cacheOpen -> found\n"
+          ++ codes "- installed j1 -> ok | w0 redundant | w1 installed\n"
+          ++ codes "- tryactivate r0 -> w1 | w1 activating\n"
+          ++ codes "- activated w1 -> ok | w1 activated\n"
+          ++ codes "end done\n";
       shown =
-    codes "registrations 1\n"
-    ++ codes "registration \"https://b.test\" \"https://b.test/\" imports\n"
-    ++ codes " active activated \"https://b.test/sw.js\" classic 5\n"
-    ++ codes "caches 1\n"
-    ++ codes "cache \"https://b.test\" \"v\" 0\n";
+          codes "registrations 1\n"
+          ++ codes "registration \"https://b.test\" \"https://b.test/\" imports\n"
+          ++ codes " active activated \"https://b.test/sw.js\" classic 5\n"
+          ++ codes "caches 1\n"
+          ++ codes "cache \"https://b.test\" \"v\" 0\n";
       durable =
-    codes "registrations 1\n"
-    ++ codes "registration \"https://b.test\" \"https://b.test/\" imports\n"
-    ++ codes " active activated \"https://b.test/sw.js\" classic 5\n"
-    ++ codes "caches 1\n"
-    ++ codes "cache \"https://b.test\" \"v\" 0\n";
+          codes "registrations 1\n"
+          ++ codes "registration \"https://b.test\" \"https://b.test/\" imports\n"
+          ++ codes " active activated \"https://b.test/sw.js\" classic 5\n"
+          ++ codes "caches 1\n"
+          ++ codes "cache \"https://b.test\" \"v\" 0\n";
     }
 unfolding digits escape_byte grammar_on_literals steps_on_literals
 row_085 = refl
@@ -171,38 +171,38 @@ row_086 :
     ++ codes "{\"lane\":0,\"do\":\"addAll\",\"at\":\"https://b.test/\",\"name\":\"v\",\"requests\":[{\"url\":\"/twice\",\"headers\":[[\"Accept\",\"b\"]]},{\"url\":\"/twice\",\"headers\":[[\"Accept\",\"b\"]]}]}\n")
     ≡ record {
       transcript =
-    codes "- restarted -> 0 registrations 0 caches\n"
-    ++ codes "L0.0 open -> none\n"
-    ++ codes "L0.1 register -> j0\n"
-    ++ codes "L0.2 register -> j1\n"
-    ++ codes "- run j0 -> fetch 0 | mapped r0\n"
-    ++ codes "- fetched j0 -> changed | w0 parsed\n"
-    ++ codes "- evaluated j0 -> installing | w0 installing | settled j0 r0 | updatefound r0\n"
-    ++ codes "w0.install.0 cacheOpen -> made\n"
-    ++ codes "- installed j0 -> ok | w0 installed\n"
-    ++ codes "- run j1 -> fetch 1\n"
-    ++ codes "- fetched j1 -> changed | w1 parsed\n"
-    ++ codes "- evaluated j1 -> installing | w1 installing | settled j1 r0 | updatefound r0\n"
-    ++ codes "L0.3 await -> r0\n"
-    ++ codes "L0.4 addAll -> a0\n"
-    ++ codes "- added a0 -> InvalidStateError 1\n"
-    ++ codes "w1.install.0 cacheOpen -> found\n"
-    ++ codes "- installed j1 -> ok | w0 redundant | w1 installed\n"
-    ++ codes "- tryactivate r0 -> w1 | w1 activating\n"
-    ++ codes "- activated w1 -> ok | w1 activated\n"
-    ++ codes "end done\n";
+          codes "- restarted -> 0 registrations 0 caches\n"
+          ++ codes "L0.0 open -> none\n"
+          ++ codes "L0.1 register -> j0\n"
+          ++ codes "L0.2 register -> j1\n"
+          ++ codes "- run j0 -> fetch 0 | mapped r0\n"
+          ++ codes "- fetched j0 -> changed | w0 parsed\n"
+          ++ codes "- evaluated j0 -> installing | w0 installing | settled j0 r0 | updatefound r0\n"
+          ++ codes "w0.install.0 cacheOpen -> made\n"
+          ++ codes "- installed j0 -> ok | w0 installed\n"
+          ++ codes "- run j1 -> fetch 1\n"
+          ++ codes "- fetched j1 -> changed | w1 parsed\n"
+          ++ codes "- evaluated j1 -> installing | w1 installing | settled j1 r0 | updatefound r0\n"
+          ++ codes "L0.3 await -> r0\n"
+          ++ codes "L0.4 addAll -> a0\n"
+          ++ codes "- added a0 -> InvalidStateError 1\n"
+          ++ codes "w1.install.0 cacheOpen -> found\n"
+          ++ codes "- installed j1 -> ok | w0 redundant | w1 installed\n"
+          ++ codes "- tryactivate r0 -> w1 | w1 activating\n"
+          ++ codes "- activated w1 -> ok | w1 activated\n"
+          ++ codes "end done\n";
       shown =
-    codes "registrations 1\n"
-    ++ codes "registration \"https://b.test\" \"https://b.test/\" imports\n"
-    ++ codes " active activated \"https://b.test/sw.js\" classic 5\n"
-    ++ codes "caches 1\n"
-    ++ codes "cache \"https://b.test\" \"v\" 0\n";
+          codes "registrations 1\n"
+          ++ codes "registration \"https://b.test\" \"https://b.test/\" imports\n"
+          ++ codes " active activated \"https://b.test/sw.js\" classic 5\n"
+          ++ codes "caches 1\n"
+          ++ codes "cache \"https://b.test\" \"v\" 0\n";
       durable =
-    codes "registrations 1\n"
-    ++ codes "registration \"https://b.test\" \"https://b.test/\" imports\n"
-    ++ codes " active activated \"https://b.test/sw.js\" classic 5\n"
-    ++ codes "caches 1\n"
-    ++ codes "cache \"https://b.test\" \"v\" 0\n";
+          codes "registrations 1\n"
+          ++ codes "registration \"https://b.test\" \"https://b.test/\" imports\n"
+          ++ codes " active activated \"https://b.test/sw.js\" classic 5\n"
+          ++ codes "caches 1\n"
+          ++ codes "cache \"https://b.test\" \"v\" 0\n";
     }
 unfolding digits escape_byte grammar_on_literals steps_on_literals
 row_086 = refl
@@ -217,37 +217,37 @@ row_088 :
     ++ codes "{\"lane\":0,\"do\":\"batch\",\"at\":\"https://b.test/other\",\"name\":\"v\",\"operations\":[{\"put\":\"./y\",\"response\":{\"status\":100,\"body\":\"AA==\"}},{\"put\":{\"url\":\"/x\"},\"response\":{\"status\":999,\"headers\":[[\"Vary\",\" X-Y ,, ACCEPT\"]]}},{\"delete\":\"/w%20w\",\"ignoreSearch\":false},{\"put\":\"mailto:me\",\"response\":{\"status\":301,\"headers\":[[\"Content-Type\",\"text/html\"]],\"text\":\"a\"}}]}\n")
     ≡ record {
       transcript =
-    codes "- restarted -> 0 registrations 0 caches\n"
-    ++ codes "L0.0 open -> none\n"
-    ++ codes "L0.1 register -> j0\n"
-    ++ codes "L0.2 register -> j1\n"
-    ++ codes "- run j0 -> fetch 0 | mapped r0\n"
-    ++ codes "- fetched j0 -> changed | w0 parsed\n"
-    ++ codes "- evaluated j0 -> installing | w0 installing | settled j0 r0 | updatefound r0\n"
-    ++ codes "w0.install.0 cacheOpen -> made\n"
-    ++ codes "- installed j0 -> ok | w0 installed\n"
-    ++ codes "- run j1 -> fetch 1\n"
-    ++ codes "- fetched j1 -> changed | w1 parsed\n"
-    ++ codes "- evaluated j1 -> installing | w1 installing | settled j1 r0 | updatefound r0\n"
-    ++ codes "L0.3 await -> r0\n"
-    ++ codes "L0.4 batch -> TypeError scheme 3\n"
-    ++ codes "w1.install.0 cacheOpen -> found\n"
-    ++ codes "- installed j1 -> ok | w0 redundant | w1 installed\n"
-    ++ codes "- tryactivate r0 -> w1 | w1 activating\n"
-    ++ codes "- activated w1 -> ok | w1 activated\n"
-    ++ codes "end done\n";
+          codes "- restarted -> 0 registrations 0 caches\n"
+          ++ codes "L0.0 open -> none\n"
+          ++ codes "L0.1 register -> j0\n"
+          ++ codes "L0.2 register -> j1\n"
+          ++ codes "- run j0 -> fetch 0 | mapped r0\n"
+          ++ codes "- fetched j0 -> changed | w0 parsed\n"
+          ++ codes "- evaluated j0 -> installing | w0 installing | settled j0 r0 | updatefound r0\n"
+          ++ codes "w0.install.0 cacheOpen -> made\n"
+          ++ codes "- installed j0 -> ok | w0 installed\n"
+          ++ codes "- run j1 -> fetch 1\n"
+          ++ codes "- fetched j1 -> changed | w1 parsed\n"
+          ++ codes "- evaluated j1 -> installing | w1 installing | settled j1 r0 | updatefound r0\n"
+          ++ codes "L0.3 await -> r0\n"
+          ++ codes "L0.4 batch -> TypeError scheme 3\n"
+          ++ codes "w1.install.0 cacheOpen -> found\n"
+          ++ codes "- installed j1 -> ok | w0 redundant | w1 installed\n"
+          ++ codes "- tryactivate r0 -> w1 | w1 activating\n"
+          ++ codes "- activated w1 -> ok | w1 activated\n"
+          ++ codes "end done\n";
       shown =
-    codes "registrations 1\n"
-    ++ codes "registration \"https://b.test\" \"https://b.test/\" imports\n"
-    ++ codes " active activated \"https://b.test/sw.js\" classic 5\n"
-    ++ codes "caches 1\n"
-    ++ codes "cache \"https://b.test\" \"v\" 0\n";
+          codes "registrations 1\n"
+          ++ codes "registration \"https://b.test\" \"https://b.test/\" imports\n"
+          ++ codes " active activated \"https://b.test/sw.js\" classic 5\n"
+          ++ codes "caches 1\n"
+          ++ codes "cache \"https://b.test\" \"v\" 0\n";
       durable =
-    codes "registrations 1\n"
-    ++ codes "registration \"https://b.test\" \"https://b.test/\" imports\n"
-    ++ codes " active activated \"https://b.test/sw.js\" classic 5\n"
-    ++ codes "caches 1\n"
-    ++ codes "cache \"https://b.test\" \"v\" 0\n";
+          codes "registrations 1\n"
+          ++ codes "registration \"https://b.test\" \"https://b.test/\" imports\n"
+          ++ codes " active activated \"https://b.test/sw.js\" classic 5\n"
+          ++ codes "caches 1\n"
+          ++ codes "cache \"https://b.test\" \"v\" 0\n";
     }
 unfolding digits escape_byte grammar_on_literals steps_on_literals
 row_088 = refl
@@ -268,40 +268,40 @@ row_160 :
     ++ codes "{\"lane\":0,\"do\":\"end\",\"event\":2}\n")
     ≡ record {
       transcript =
-    codes "- restarted -> 0 registrations 0 caches\n"
-    ++ codes "L0.0 open -> none\n"
-    ++ codes "L0.1 register -> j0\n"
-    ++ codes "L0.2 open -> none\n"
-    ++ codes "- run j0 -> fetch 0 | mapped r0\n"
-    ++ codes "- fetched j0 -> changed | w0 parsed\n"
-    ++ codes "- evaluated j0 -> installing | w0 installing | settled j0 r0 | updatefound r0\n"
-    ++ codes "- installed j0 -> ok | w0 installed\n"
-    ++ codes "- tryactivate r0 -> w0 | w0 activating\n"
-    ++ codes "L0.3 ready -> r0\n"
-    ++ codes "L0.4 close -> ok\n"
-    ++ codes "L0.5 open -> w0\n"
-    ++ codes "L0.6 update -> j1\n"
-    ++ codes "- run j1 -> fetch 1\n"
-    ++ codes "- fetched j1 -> changed | w1 parsed\n"
-    ++ codes "- evaluated j1 -> installing | w1 installing | settled j1 r0 | updatefound r0\n"
-    ++ codes "- installed j1 -> ok | w1 installed\n"
-    ++ codes "- tryactivate r0 -> none\n"
-    ++ codes "- activated w0 -> ok | w0 activated\n"
-    ++ codes "L0.7 begin -> w0\n"
-    ++ codes "L0.8 close -> ok\n"
-    ++ codes "L0.9 end -> ok | w0 redundant | w1 activating\n"
-    ++ codes "- activated w1 -> ok | w1 activated\n"
-    ++ codes "end done\n";
+          codes "- restarted -> 0 registrations 0 caches\n"
+          ++ codes "L0.0 open -> none\n"
+          ++ codes "L0.1 register -> j0\n"
+          ++ codes "L0.2 open -> none\n"
+          ++ codes "- run j0 -> fetch 0 | mapped r0\n"
+          ++ codes "- fetched j0 -> changed | w0 parsed\n"
+          ++ codes "- evaluated j0 -> installing | w0 installing | settled j0 r0 | updatefound r0\n"
+          ++ codes "- installed j0 -> ok | w0 installed\n"
+          ++ codes "- tryactivate r0 -> w0 | w0 activating\n"
+          ++ codes "L0.3 ready -> r0\n"
+          ++ codes "L0.4 close -> ok\n"
+          ++ codes "L0.5 open -> w0\n"
+          ++ codes "L0.6 update -> j1\n"
+          ++ codes "- run j1 -> fetch 1\n"
+          ++ codes "- fetched j1 -> changed | w1 parsed\n"
+          ++ codes "- evaluated j1 -> installing | w1 installing | settled j1 r0 | updatefound r0\n"
+          ++ codes "- installed j1 -> ok | w1 installed\n"
+          ++ codes "- tryactivate r0 -> none\n"
+          ++ codes "- activated w0 -> ok | w0 activated\n"
+          ++ codes "L0.7 begin -> w0\n"
+          ++ codes "L0.8 close -> ok\n"
+          ++ codes "L0.9 end -> ok | w0 redundant | w1 activating\n"
+          ++ codes "- activated w1 -> ok | w1 activated\n"
+          ++ codes "end done\n";
       shown =
-    codes "registrations 1\n"
-    ++ codes "registration \"http://x.localhost\" \"http://x.localhost/f30/\" imports\n"
-    ++ codes " active activated \"http://x.localhost/f30/sw86.js\" classic 9\n"
-    ++ codes "caches 0\n";
+          codes "registrations 1\n"
+          ++ codes "registration \"http://x.localhost\" \"http://x.localhost/f30/\" imports\n"
+          ++ codes " active activated \"http://x.localhost/f30/sw86.js\" classic 9\n"
+          ++ codes "caches 0\n";
       durable =
-    codes "registrations 1\n"
-    ++ codes "registration \"http://x.localhost\" \"http://x.localhost/f30/\" imports\n"
-    ++ codes " active activated \"http://x.localhost/f30/sw86.js\" classic 9\n"
-    ++ codes "caches 0\n";
+          codes "registrations 1\n"
+          ++ codes "registration \"http://x.localhost\" \"http://x.localhost/f30/\" imports\n"
+          ++ codes " active activated \"http://x.localhost/f30/sw86.js\" classic 9\n"
+          ++ codes "caches 0\n";
     }
 unfolding digits escape_byte grammar_on_literals steps_on_literals
 row_160 = refl
@@ -315,28 +315,28 @@ row_192 :
     ++ codes "{\"lane\":0,\"do\":\"preloadValue\",\"client\":9,\"scope\":\"/f57/\",\"value\":\"a b\"}\n")
     ≡ record {
       transcript =
-    codes "- restarted -> 0 registrations 0 caches\n"
-    ++ codes "L0.0 open -> none\n"
-    ++ codes "L0.1 register -> j0\n"
-    ++ codes "- run j0 -> fetch 0 | mapped r0\n"
-    ++ codes "- fetched j0 -> changed | w0 parsed\n"
-    ++ codes "- evaluated j0 -> installing | w0 installing | settled j0 r0 | updatefound r0\n"
-    ++ codes "L0.2 await -> r0\n"
-    ++ codes "L0.3 preloadValue -> InvalidStateError not-active\n"
-    ++ codes "- installed j0 -> ok | w0 installed\n"
-    ++ codes "- tryactivate r0 -> w0 | w0 activating\n"
-    ++ codes "- activated w0 -> ok | w0 activated\n"
-    ++ codes "end done\n";
+          codes "- restarted -> 0 registrations 0 caches\n"
+          ++ codes "L0.0 open -> none\n"
+          ++ codes "L0.1 register -> j0\n"
+          ++ codes "- run j0 -> fetch 0 | mapped r0\n"
+          ++ codes "- fetched j0 -> changed | w0 parsed\n"
+          ++ codes "- evaluated j0 -> installing | w0 installing | settled j0 r0 | updatefound r0\n"
+          ++ codes "L0.2 await -> r0\n"
+          ++ codes "L0.3 preloadValue -> InvalidStateError not-active\n"
+          ++ codes "- installed j0 -> ok | w0 installed\n"
+          ++ codes "- tryactivate r0 -> w0 | w0 activating\n"
+          ++ codes "- activated w0 -> ok | w0 activated\n"
+          ++ codes "end done\n";
       shown =
-    codes "registrations 1\n"
-    ++ codes "registration \"https://b.test\" \"https://b.test/f57/\" imports\n"
-    ++ codes " active activated \"https://b.test/f57/sw.js\" classic 9\n"
-    ++ codes "caches 0\n";
+          codes "registrations 1\n"
+          ++ codes "registration \"https://b.test\" \"https://b.test/f57/\" imports\n"
+          ++ codes " active activated \"https://b.test/f57/sw.js\" classic 9\n"
+          ++ codes "caches 0\n";
       durable =
-    codes "registrations 1\n"
-    ++ codes "registration \"https://b.test\" \"https://b.test/f57/\" imports\n"
-    ++ codes " active activated \"https://b.test/f57/sw.js\" classic 9\n"
-    ++ codes "caches 0\n";
+          codes "registrations 1\n"
+          ++ codes "registration \"https://b.test\" \"https://b.test/f57/\" imports\n"
+          ++ codes " active activated \"https://b.test/f57/sw.js\" classic 9\n"
+          ++ codes "caches 0\n";
     }
 unfolding digits escape_byte grammar_on_literals steps_on_literals
 row_192 = refl
@@ -350,30 +350,30 @@ row_193 :
     ++ codes "{\"lane\":0,\"do\":\"preloadValue\",\"client\":9,\"scope\":\"/f57/\",\"value\":\"a b\"}\n")
     ≡ record {
       transcript =
-    codes "- restarted -> 0 registrations 0 caches\n"
-    ++ codes "L0.0 open -> none\n"
-    ++ codes "L0.1 register -> j0\n"
-    ++ codes "- run j0 -> fetch 0 | mapped r0\n"
-    ++ codes "- fetched j0 -> changed | w0 parsed\n"
-    ++ codes "- evaluated j0 -> installing | w0 installing | settled j0 r0 | updatefound r0\n"
-    ++ codes "- installed j0 -> ok | w0 installed\n"
-    ++ codes "- tryactivate r0 -> w0 | w0 activating\n"
-    ++ codes "L0.2 ready -> r0\n"
-    ++ codes "L0.3 preloadValue -> ok\n"
-    ++ codes "- activated w0 -> ok | w0 activated\n"
-    ++ codes "end done\n";
+          codes "- restarted -> 0 registrations 0 caches\n"
+          ++ codes "L0.0 open -> none\n"
+          ++ codes "L0.1 register -> j0\n"
+          ++ codes "- run j0 -> fetch 0 | mapped r0\n"
+          ++ codes "- fetched j0 -> changed | w0 parsed\n"
+          ++ codes "- evaluated j0 -> installing | w0 installing | settled j0 r0 | updatefound r0\n"
+          ++ codes "- installed j0 -> ok | w0 installed\n"
+          ++ codes "- tryactivate r0 -> w0 | w0 activating\n"
+          ++ codes "L0.2 ready -> r0\n"
+          ++ codes "L0.3 preloadValue -> ok\n"
+          ++ codes "- activated w0 -> ok | w0 activated\n"
+          ++ codes "end done\n";
       shown =
-    codes "registrations 1\n"
-    ++ codes "registration \"https://b.test\" \"https://b.test/f57/\" imports\n"
-    ++ codes " active activated \"https://b.test/f57/sw.js\" classic 9\n"
-    ++ codes " preload off \"a b\"\n"
-    ++ codes "caches 0\n";
+          codes "registrations 1\n"
+          ++ codes "registration \"https://b.test\" \"https://b.test/f57/\" imports\n"
+          ++ codes " active activated \"https://b.test/f57/sw.js\" classic 9\n"
+          ++ codes " preload off \"a b\"\n"
+          ++ codes "caches 0\n";
       durable =
-    codes "registrations 1\n"
-    ++ codes "registration \"https://b.test\" \"https://b.test/f57/\" imports\n"
-    ++ codes " active activated \"https://b.test/f57/sw.js\" classic 9\n"
-    ++ codes " preload off \"a b\"\n"
-    ++ codes "caches 0\n";
+          codes "registrations 1\n"
+          ++ codes "registration \"https://b.test\" \"https://b.test/f57/\" imports\n"
+          ++ codes " active activated \"https://b.test/f57/sw.js\" classic 9\n"
+          ++ codes " preload off \"a b\"\n"
+          ++ codes "caches 0\n";
     }
 unfolding digits escape_byte grammar_on_literals steps_on_literals
 row_193 = refl
@@ -387,28 +387,28 @@ row_194 :
     ++ codes "{\"lane\":0,\"do\":\"preloadState\",\"client\":9,\"scope\":\"/f57/\"}\n")
     ≡ record {
       transcript =
-    codes "- restarted -> 0 registrations 0 caches\n"
-    ++ codes "L0.0 open -> none\n"
-    ++ codes "L0.1 register -> j0\n"
-    ++ codes "- run j0 -> fetch 0 | mapped r0\n"
-    ++ codes "- fetched j0 -> changed | w0 parsed\n"
-    ++ codes "- evaluated j0 -> installing | w0 installing | settled j0 r0 | updatefound r0\n"
-    ++ codes "L0.2 await -> r0\n"
-    ++ codes "L0.3 preloadState -> off \"true\"\n"
-    ++ codes "- installed j0 -> ok | w0 installed\n"
-    ++ codes "- tryactivate r0 -> w0 | w0 activating\n"
-    ++ codes "- activated w0 -> ok | w0 activated\n"
-    ++ codes "end done\n";
+          codes "- restarted -> 0 registrations 0 caches\n"
+          ++ codes "L0.0 open -> none\n"
+          ++ codes "L0.1 register -> j0\n"
+          ++ codes "- run j0 -> fetch 0 | mapped r0\n"
+          ++ codes "- fetched j0 -> changed | w0 parsed\n"
+          ++ codes "- evaluated j0 -> installing | w0 installing | settled j0 r0 | updatefound r0\n"
+          ++ codes "L0.2 await -> r0\n"
+          ++ codes "L0.3 preloadState -> off \"true\"\n"
+          ++ codes "- installed j0 -> ok | w0 installed\n"
+          ++ codes "- tryactivate r0 -> w0 | w0 activating\n"
+          ++ codes "- activated w0 -> ok | w0 activated\n"
+          ++ codes "end done\n";
       shown =
-    codes "registrations 1\n"
-    ++ codes "registration \"https://b.test\" \"https://b.test/f57/\" imports\n"
-    ++ codes " active activated \"https://b.test/f57/sw.js\" classic 9\n"
-    ++ codes "caches 0\n";
+          codes "registrations 1\n"
+          ++ codes "registration \"https://b.test\" \"https://b.test/f57/\" imports\n"
+          ++ codes " active activated \"https://b.test/f57/sw.js\" classic 9\n"
+          ++ codes "caches 0\n";
       durable =
-    codes "registrations 1\n"
-    ++ codes "registration \"https://b.test\" \"https://b.test/f57/\" imports\n"
-    ++ codes " active activated \"https://b.test/f57/sw.js\" classic 9\n"
-    ++ codes "caches 0\n";
+          codes "registrations 1\n"
+          ++ codes "registration \"https://b.test\" \"https://b.test/f57/\" imports\n"
+          ++ codes " active activated \"https://b.test/f57/sw.js\" classic 9\n"
+          ++ codes "caches 0\n";
     }
 unfolding digits escape_byte grammar_on_literals steps_on_literals
 row_194 = refl
@@ -423,29 +423,29 @@ row_210 :
     ++ codes "{\"lane\":0,\"do\":\"preloadDisable\",\"client\":29,\"scope\":\"/f33/p\"}\n")
     ≡ record {
       transcript =
-    codes "- restarted -> 0 registrations 0 caches\n"
-    ++ codes "L0.0 open -> none\n"
-    ++ codes "L0.1 open -> none\n"
-    ++ codes "L0.2 register -> j0\n"
-    ++ codes "- run j0 -> fetch 0 | mapped r0\n"
-    ++ codes "- fetched j0 -> changed | w0 parsed\n"
-    ++ codes "- evaluated j0 -> installing | w0 installing | settled j0 r0 | updatefound r0\n"
-    ++ codes "- installed j0 -> ok | w0 installed\n"
-    ++ codes "- tryactivate r0 -> w0 | w0 activating\n"
-    ++ codes "L0.3 ready -> r0\n"
-    ++ codes "L0.4 preloadDisable -> ok\n"
-    ++ codes "- activated w0 -> ok | w0 activated\n"
-    ++ codes "end done\n";
+          codes "- restarted -> 0 registrations 0 caches\n"
+          ++ codes "L0.0 open -> none\n"
+          ++ codes "L0.1 open -> none\n"
+          ++ codes "L0.2 register -> j0\n"
+          ++ codes "- run j0 -> fetch 0 | mapped r0\n"
+          ++ codes "- fetched j0 -> changed | w0 parsed\n"
+          ++ codes "- evaluated j0 -> installing | w0 installing | settled j0 r0 | updatefound r0\n"
+          ++ codes "- installed j0 -> ok | w0 installed\n"
+          ++ codes "- tryactivate r0 -> w0 | w0 activating\n"
+          ++ codes "L0.3 ready -> r0\n"
+          ++ codes "L0.4 preloadDisable -> ok\n"
+          ++ codes "- activated w0 -> ok | w0 activated\n"
+          ++ codes "end done\n";
       shown =
-    codes "registrations 1\n"
-    ++ codes "registration \"https://b.test\" \"https://b.test/f33/p\" imports\n"
-    ++ codes " active activated \"https://b.test/f33/page.js\" classic 9\n"
-    ++ codes "caches 0\n";
+          codes "registrations 1\n"
+          ++ codes "registration \"https://b.test\" \"https://b.test/f33/p\" imports\n"
+          ++ codes " active activated \"https://b.test/f33/page.js\" classic 9\n"
+          ++ codes "caches 0\n";
       durable =
-    codes "registrations 1\n"
-    ++ codes "registration \"https://b.test\" \"https://b.test/f33/p\" imports\n"
-    ++ codes " active activated \"https://b.test/f33/page.js\" classic 9\n"
-    ++ codes "caches 0\n";
+          codes "registrations 1\n"
+          ++ codes "registration \"https://b.test\" \"https://b.test/f33/p\" imports\n"
+          ++ codes " active activated \"https://b.test/f33/page.js\" classic 9\n"
+          ++ codes "caches 0\n";
     }
 unfolding digits escape_byte grammar_on_literals steps_on_literals
 row_210 = refl
@@ -463,36 +463,36 @@ row_215 :
     ++ codes "{\"lane\":0,\"do\":\"open\",\"client\":2,\"url\":\"https://a.test:8443/d/e/q\"}\n")
     ≡ record {
       transcript =
-    codes "- restarted -> 0 registrations 0 caches\n"
-    ++ codes "L0.0 open -> none\n"
-    ++ codes "L0.1 register -> j0\n"
-    ++ codes "- run j0 -> fetch 0 | mapped r0\n"
-    ++ codes "- fetched j0 -> changed | w0 parsed\n"
-    ++ codes "- evaluated j0 -> installing | w0 installing | settled j0 r0 | updatefound r0\n"
-    ++ codes "L0.2 await -> r0\n"
-    ++ codes "L0.3 update -> j1\n"
-    ++ codes "- installed j0 -> ok | w0 installed\n"
-    ++ codes "- run j1 -> fetch 1\n"
-    ++ codes "- fetched j1 -> changed | w1 parsed\n"
-    ++ codes "- evaluated j1 -> installing | w1 installing | settled j1 r0 | updatefound r0\n"
-    ++ codes "L0.4 await -> r0\n"
-    ++ codes "L0.5 skipWaiting -> ok | w0 activating\n"
-    ++ codes "L0.6 open -> w0\n"
-    ++ codes "- installed j1 -> ok | w1 installed\n"
-    ++ codes "- tryactivate r0 -> none\n"
-    ++ codes "- activated w0 -> ok | w0 activated | w0 redundant | w1 activating | controllerchange c2\n"
-    ++ codes "- activated w1 -> ok | w1 activated\n"
-    ++ codes "end done\n";
+          codes "- restarted -> 0 registrations 0 caches\n"
+          ++ codes "L0.0 open -> none\n"
+          ++ codes "L0.1 register -> j0\n"
+          ++ codes "- run j0 -> fetch 0 | mapped r0\n"
+          ++ codes "- fetched j0 -> changed | w0 parsed\n"
+          ++ codes "- evaluated j0 -> installing | w0 installing | settled j0 r0 | updatefound r0\n"
+          ++ codes "L0.2 await -> r0\n"
+          ++ codes "L0.3 update -> j1\n"
+          ++ codes "- installed j0 -> ok | w0 installed\n"
+          ++ codes "- run j1 -> fetch 1\n"
+          ++ codes "- fetched j1 -> changed | w1 parsed\n"
+          ++ codes "- evaluated j1 -> installing | w1 installing | settled j1 r0 | updatefound r0\n"
+          ++ codes "L0.4 await -> r0\n"
+          ++ codes "L0.5 skipWaiting -> ok | w0 activating\n"
+          ++ codes "L0.6 open -> w0\n"
+          ++ codes "- installed j1 -> ok | w1 installed\n"
+          ++ codes "- tryactivate r0 -> none\n"
+          ++ codes "- activated w0 -> ok | w0 activated | w0 redundant | w1 activating | controllerchange c2\n"
+          ++ codes "- activated w1 -> ok | w1 activated\n"
+          ++ codes "end done\n";
       shown =
-    codes "registrations 1\n"
-    ++ codes "registration \"https://a.test:8443\" \"https://a.test:8443/\" imports\n"
-    ++ codes " active activated \"https://a.test:8443/sw.js\" classic 5\n"
-    ++ codes "caches 0\n";
+          codes "registrations 1\n"
+          ++ codes "registration \"https://a.test:8443\" \"https://a.test:8443/\" imports\n"
+          ++ codes " active activated \"https://a.test:8443/sw.js\" classic 5\n"
+          ++ codes "caches 0\n";
       durable =
-    codes "registrations 1\n"
-    ++ codes "registration \"https://a.test:8443\" \"https://a.test:8443/\" imports\n"
-    ++ codes " active activated \"https://a.test:8443/sw.js\" classic 5\n"
-    ++ codes "caches 0\n";
+          codes "registrations 1\n"
+          ++ codes "registration \"https://a.test:8443\" \"https://a.test:8443/\" imports\n"
+          ++ codes " active activated \"https://a.test:8443/sw.js\" classic 5\n"
+          ++ codes "caches 0\n";
     }
 unfolding digits escape_byte grammar_on_literals steps_on_literals
 row_215 = refl
@@ -506,28 +506,28 @@ row_221 :
     ++ codes "{\"lane\":0,\"do\":\"preloadEnable\",\"client\":7,\"scope\":\"/f31/\"}\n")
     ≡ record {
       transcript =
-    codes "- restarted -> 0 registrations 0 caches\n"
-    ++ codes "L0.0 open -> none\n"
-    ++ codes "L0.1 register -> j0\n"
-    ++ codes "- run j0 -> fetch 0 | mapped r0\n"
-    ++ codes "- fetched j0 -> changed | w0 parsed\n"
-    ++ codes "- evaluated j0 -> installing | w0 installing | settled j0 r0 | updatefound r0\n"
-    ++ codes "L0.2 await -> r0\n"
-    ++ codes "L0.3 preloadEnable -> InvalidStateError not-active\n"
-    ++ codes "- installed j0 -> ok | w0 installed\n"
-    ++ codes "- tryactivate r0 -> w0 | w0 activating\n"
-    ++ codes "- activated w0 -> ok | w0 activated\n"
-    ++ codes "end done\n";
+          codes "- restarted -> 0 registrations 0 caches\n"
+          ++ codes "L0.0 open -> none\n"
+          ++ codes "L0.1 register -> j0\n"
+          ++ codes "- run j0 -> fetch 0 | mapped r0\n"
+          ++ codes "- fetched j0 -> changed | w0 parsed\n"
+          ++ codes "- evaluated j0 -> installing | w0 installing | settled j0 r0 | updatefound r0\n"
+          ++ codes "L0.2 await -> r0\n"
+          ++ codes "L0.3 preloadEnable -> InvalidStateError not-active\n"
+          ++ codes "- installed j0 -> ok | w0 installed\n"
+          ++ codes "- tryactivate r0 -> w0 | w0 activating\n"
+          ++ codes "- activated w0 -> ok | w0 activated\n"
+          ++ codes "end done\n";
       shown =
-    codes "registrations 1\n"
-    ++ codes "registration \"https://xn--nxa.test\" \"https://xn--nxa.test/f31/\" imports\n"
-    ++ codes " active activated \"https://xn--nxa.test/f31/sw.js\" classic 9\n"
-    ++ codes "caches 0\n";
+          codes "registrations 1\n"
+          ++ codes "registration \"https://xn--nxa.test\" \"https://xn--nxa.test/f31/\" imports\n"
+          ++ codes " active activated \"https://xn--nxa.test/f31/sw.js\" classic 9\n"
+          ++ codes "caches 0\n";
       durable =
-    codes "registrations 1\n"
-    ++ codes "registration \"https://xn--nxa.test\" \"https://xn--nxa.test/f31/\" imports\n"
-    ++ codes " active activated \"https://xn--nxa.test/f31/sw.js\" classic 9\n"
-    ++ codes "caches 0\n";
+          codes "registrations 1\n"
+          ++ codes "registration \"https://xn--nxa.test\" \"https://xn--nxa.test/f31/\" imports\n"
+          ++ codes " active activated \"https://xn--nxa.test/f31/sw.js\" classic 9\n"
+          ++ codes "caches 0\n";
     }
 unfolding digits escape_byte grammar_on_literals steps_on_literals
 row_221 = refl
@@ -542,31 +542,31 @@ row_225 :
     ++ codes "{\"lane\":0,\"do\":\"preloadEnable\",\"client\":23,\"scope\":\"/f59/\"}\n")
     ≡ record {
       transcript =
-    codes "- restarted -> 0 registrations 0 caches\n"
-    ++ codes "L0.0 open -> none\n"
-    ++ codes "L0.1 register -> j0\n"
-    ++ codes "L0.2 open -> none\n"
-    ++ codes "- run j0 -> fetch 0 | mapped r0\n"
-    ++ codes "- fetched j0 -> changed | w0 parsed\n"
-    ++ codes "- evaluated j0 -> installing | w0 installing | settled j0 r0 | updatefound r0\n"
-    ++ codes "- installed j0 -> ok | w0 installed\n"
-    ++ codes "- tryactivate r0 -> w0 | w0 activating\n"
-    ++ codes "L0.3 ready -> r0\n"
-    ++ codes "L0.4 preloadEnable -> ok\n"
-    ++ codes "- activated w0 -> ok | w0 activated\n"
-    ++ codes "end done\n";
+          codes "- restarted -> 0 registrations 0 caches\n"
+          ++ codes "L0.0 open -> none\n"
+          ++ codes "L0.1 register -> j0\n"
+          ++ codes "L0.2 open -> none\n"
+          ++ codes "- run j0 -> fetch 0 | mapped r0\n"
+          ++ codes "- fetched j0 -> changed | w0 parsed\n"
+          ++ codes "- evaluated j0 -> installing | w0 installing | settled j0 r0 | updatefound r0\n"
+          ++ codes "- installed j0 -> ok | w0 installed\n"
+          ++ codes "- tryactivate r0 -> w0 | w0 activating\n"
+          ++ codes "L0.3 ready -> r0\n"
+          ++ codes "L0.4 preloadEnable -> ok\n"
+          ++ codes "- activated w0 -> ok | w0 activated\n"
+          ++ codes "end done\n";
       shown =
-    codes "registrations 1\n"
-    ++ codes "registration \"https://a.test\" \"https://a.test/f59/\" imports\n"
-    ++ codes " active activated \"https://a.test/f59/sw64.js\" classic 9\n"
-    ++ codes " preload on \"true\"\n"
-    ++ codes "caches 0\n";
+          codes "registrations 1\n"
+          ++ codes "registration \"https://a.test\" \"https://a.test/f59/\" imports\n"
+          ++ codes " active activated \"https://a.test/f59/sw64.js\" classic 9\n"
+          ++ codes " preload on \"true\"\n"
+          ++ codes "caches 0\n";
       durable =
-    codes "registrations 1\n"
-    ++ codes "registration \"https://a.test\" \"https://a.test/f59/\" imports\n"
-    ++ codes " active activated \"https://a.test/f59/sw64.js\" classic 9\n"
-    ++ codes " preload on \"true\"\n"
-    ++ codes "caches 0\n";
+          codes "registrations 1\n"
+          ++ codes "registration \"https://a.test\" \"https://a.test/f59/\" imports\n"
+          ++ codes " active activated \"https://a.test/f59/sw64.js\" classic 9\n"
+          ++ codes " preload on \"true\"\n"
+          ++ codes "caches 0\n";
     }
 unfolding digits escape_byte grammar_on_literals steps_on_literals
 row_225 = refl
@@ -580,28 +580,28 @@ row_229 :
     ++ codes "{\"lane\":0,\"do\":\"preloadDisable\",\"client\":3,\"scope\":\"/f24/\"}\n")
     ≡ record {
       transcript =
-    codes "- restarted -> 0 registrations 0 caches\n"
-    ++ codes "L0.0 open -> none\n"
-    ++ codes "L0.1 register -> j0\n"
-    ++ codes "- run j0 -> fetch 0 | mapped r0\n"
-    ++ codes "- fetched j0 -> changed | w0 parsed\n"
-    ++ codes "- evaluated j0 -> installing | w0 installing | settled j0 r0 | updatefound r0\n"
-    ++ codes "L0.2 await -> r0\n"
-    ++ codes "L0.3 preloadDisable -> InvalidStateError not-active\n"
-    ++ codes "- installed j0 -> ok | w0 installed\n"
-    ++ codes "- tryactivate r0 -> w0 | w0 activating\n"
-    ++ codes "- activated w0 -> ok | w0 activated\n"
-    ++ codes "end done\n";
+          codes "- restarted -> 0 registrations 0 caches\n"
+          ++ codes "L0.0 open -> none\n"
+          ++ codes "L0.1 register -> j0\n"
+          ++ codes "- run j0 -> fetch 0 | mapped r0\n"
+          ++ codes "- fetched j0 -> changed | w0 parsed\n"
+          ++ codes "- evaluated j0 -> installing | w0 installing | settled j0 r0 | updatefound r0\n"
+          ++ codes "L0.2 await -> r0\n"
+          ++ codes "L0.3 preloadDisable -> InvalidStateError not-active\n"
+          ++ codes "- installed j0 -> ok | w0 installed\n"
+          ++ codes "- tryactivate r0 -> w0 | w0 activating\n"
+          ++ codes "- activated w0 -> ok | w0 activated\n"
+          ++ codes "end done\n";
       shown =
-    codes "registrations 1\n"
-    ++ codes "registration \"https://b.test\" \"https://b.test/f24/\" imports\n"
-    ++ codes " active activated \"https://b.test/f24/sw.js\" module 9\n"
-    ++ codes "caches 0\n";
+          codes "registrations 1\n"
+          ++ codes "registration \"https://b.test\" \"https://b.test/f24/\" imports\n"
+          ++ codes " active activated \"https://b.test/f24/sw.js\" module 9\n"
+          ++ codes "caches 0\n";
       durable =
-    codes "registrations 1\n"
-    ++ codes "registration \"https://b.test\" \"https://b.test/f24/\" imports\n"
-    ++ codes " active activated \"https://b.test/f24/sw.js\" module 9\n"
-    ++ codes "caches 0\n";
+          codes "registrations 1\n"
+          ++ codes "registration \"https://b.test\" \"https://b.test/f24/\" imports\n"
+          ++ codes " active activated \"https://b.test/f24/sw.js\" module 9\n"
+          ++ codes "caches 0\n";
     }
 unfolding digits escape_byte grammar_on_literals steps_on_literals
 row_229 = refl
@@ -621,40 +621,40 @@ row_249 :
     ++ codes "\"]]},\"ignoreVary\":true,\"name\":\"v\"}\n")
     ≡ record {
       transcript =
-    codes "- restarted -> 0 registrations 0 caches\n"
-    ++ codes "L0.0 open -> none\n"
-    ++ codes "L0.1 register -> j0\n"
-    ++ codes "- run j0 -> fetch 0 | mapped r0\n"
-    ++ codes "- fetched j0 -> changed | w0 parsed\n"
-    ++ codes "- evaluated j0 -> installing | w0 installing | settled j0 r0 | updatefound r0\n"
-    ++ codes "L0.2 await -> r0\n"
-    ++ codes "L0.3 register -> j1\n"
-    ++ codes "L0.4 update -> j2\n"
-    ++ codes "- installed j0 -> ok | w0 installed\n"
-    ++ codes "- run j1 -> fetch 0\n"
-    ++ codes "- fetched j1 -> changed | w1 parsed\n"
-    ++ codes "- evaluated j1 -> installing | w1 installing | settled j1 r0 | updatefound r0\n"
-    ++ codes "w1.install.0 cacheOpen -> made\n"
-    ++ codes "w1.install.1 batch -> ok\n"
-    ++ codes "- installed j1 -> ok | w0 redundant | w1 installed\n"
-    ++ codes "- run j2 -> finished | settled j2 TypeError script\n"
-    ++ codes "L0.5 await -> TypeError script\n"
-    ++ codes "L0.6 match -> hit \"v\" 1 404 0\n"
-    ++ codes "- tryactivate r0 -> w1 | w1 activating\n"
-    ++ codes "- activated w1 -> ok | w1 activated\n"
-    ++ codes "end done\n";
+          codes "- restarted -> 0 registrations 0 caches\n"
+          ++ codes "L0.0 open -> none\n"
+          ++ codes "L0.1 register -> j0\n"
+          ++ codes "- run j0 -> fetch 0 | mapped r0\n"
+          ++ codes "- fetched j0 -> changed | w0 parsed\n"
+          ++ codes "- evaluated j0 -> installing | w0 installing | settled j0 r0 | updatefound r0\n"
+          ++ codes "L0.2 await -> r0\n"
+          ++ codes "L0.3 register -> j1\n"
+          ++ codes "L0.4 update -> j2\n"
+          ++ codes "- installed j0 -> ok | w0 installed\n"
+          ++ codes "- run j1 -> fetch 0\n"
+          ++ codes "- fetched j1 -> changed | w1 parsed\n"
+          ++ codes "- evaluated j1 -> installing | w1 installing | settled j1 r0 | updatefound r0\n"
+          ++ codes "w1.install.0 cacheOpen -> made\n"
+          ++ codes "w1.install.1 batch -> ok\n"
+          ++ codes "- installed j1 -> ok | w0 redundant | w1 installed\n"
+          ++ codes "- run j2 -> finished | settled j2 TypeError script\n"
+          ++ codes "L0.5 await -> TypeError script\n"
+          ++ codes "L0.6 match -> hit \"v\" 1 404 0\n"
+          ++ codes "- tryactivate r0 -> w1 | w1 activating\n"
+          ++ codes "- activated w1 -> ok | w1 activated\n"
+          ++ codes "end done\n";
       shown =
-    codes "registrations 1\n"
-    ++ codes "registration \"http://127.9.0.1:99\" \"http://127.9.0.1:99/\" imports\n"
-    ++ codes " active activated \"http://127.9.0.1:99/other.js\" classic 5\n"
-    ++ codes "caches 1\n"
-    ++ codes "cache \"http://127.9.0.1:99\" \"v\" 2\n";
+          codes "registrations 1\n"
+          ++ codes "registration \"http://127.9.0.1:99\" \"http://127.9.0.1:99/\" imports\n"
+          ++ codes " active activated \"http://127.9.0.1:99/other.js\" classic 5\n"
+          ++ codes "caches 1\n"
+          ++ codes "cache \"http://127.9.0.1:99\" \"v\" 2\n";
       durable =
-    codes "registrations 1\n"
-    ++ codes "registration \"http://127.9.0.1:99\" \"http://127.9.0.1:99/\" imports\n"
-    ++ codes " active activated \"http://127.9.0.1:99/other.js\" classic 5\n"
-    ++ codes "caches 1\n"
-    ++ codes "cache \"http://127.9.0.1:99\" \"v\" 2\n";
+          codes "registrations 1\n"
+          ++ codes "registration \"http://127.9.0.1:99\" \"http://127.9.0.1:99/\" imports\n"
+          ++ codes " active activated \"http://127.9.0.1:99/other.js\" classic 5\n"
+          ++ codes "caches 1\n"
+          ++ codes "cache \"http://127.9.0.1:99\" \"v\" 2\n";
     }
 unfolding digits escape_byte grammar_on_literals steps_on_literals
 row_249 = refl
@@ -669,31 +669,31 @@ row_252 :
     ++ codes "{\"lane\":1,\"do\":\"preloadState\",\"client\":9,\"scope\":\"/f79/\"}\n")
     ≡ record {
       transcript =
-    codes "- restarted -> 0 registrations 0 caches\n"
-    ++ codes "L1.0 open -> none\n"
-    ++ codes "L1.1 register -> j0\n"
-    ++ codes "- run j0 -> fetch 0 | mapped r0\n"
-    ++ codes "- fetched j0 -> changed | w0 parsed\n"
-    ++ codes "- evaluated j0 -> installing | w0 installing | settled j0 r0 | updatefound r0\n"
-    ++ codes "- installed j0 -> ok | w0 installed\n"
-    ++ codes "- tryactivate r0 -> w0 | w0 activating\n"
-    ++ codes "L1.2 ready -> r0\n"
-    ++ codes "L1.3 preloadEnable -> ok\n"
-    ++ codes "L1.4 preloadState -> on \"true\"\n"
-    ++ codes "- activated w0 -> ok | w0 activated\n"
-    ++ codes "end done\n";
+          codes "- restarted -> 0 registrations 0 caches\n"
+          ++ codes "L1.0 open -> none\n"
+          ++ codes "L1.1 register -> j0\n"
+          ++ codes "- run j0 -> fetch 0 | mapped r0\n"
+          ++ codes "- fetched j0 -> changed | w0 parsed\n"
+          ++ codes "- evaluated j0 -> installing | w0 installing | settled j0 r0 | updatefound r0\n"
+          ++ codes "- installed j0 -> ok | w0 installed\n"
+          ++ codes "- tryactivate r0 -> w0 | w0 activating\n"
+          ++ codes "L1.2 ready -> r0\n"
+          ++ codes "L1.3 preloadEnable -> ok\n"
+          ++ codes "L1.4 preloadState -> on \"true\"\n"
+          ++ codes "- activated w0 -> ok | w0 activated\n"
+          ++ codes "end done\n";
       shown =
-    codes "registrations 1\n"
-    ++ codes "registration \"https://a.test\" \"https://a.test/f79/\" imports\n"
-    ++ codes " active activated \"https://a.test/f79/sw.js\" classic 9\n"
-    ++ codes " preload on \"true\"\n"
-    ++ codes "caches 0\n";
+          codes "registrations 1\n"
+          ++ codes "registration \"https://a.test\" \"https://a.test/f79/\" imports\n"
+          ++ codes " active activated \"https://a.test/f79/sw.js\" classic 9\n"
+          ++ codes " preload on \"true\"\n"
+          ++ codes "caches 0\n";
       durable =
-    codes "registrations 1\n"
-    ++ codes "registration \"https://a.test\" \"https://a.test/f79/\" imports\n"
-    ++ codes " active activated \"https://a.test/f79/sw.js\" classic 9\n"
-    ++ codes " preload on \"true\"\n"
-    ++ codes "caches 0\n";
+          codes "registrations 1\n"
+          ++ codes "registration \"https://a.test\" \"https://a.test/f79/\" imports\n"
+          ++ codes " active activated \"https://a.test/f79/sw.js\" classic 9\n"
+          ++ codes " preload on \"true\"\n"
+          ++ codes "caches 0\n";
     }
 unfolding digits escape_byte grammar_on_literals steps_on_literals
 row_252 = refl
@@ -707,31 +707,31 @@ row_254 :
     ++ codes "{\"lane\":0,\"do\":\"cacheHas\",\"at\":\"https://a.test:8443/p\",\"name\":\"w\"}\n")
     ≡ record {
       transcript =
-    codes "- restarted -> 0 registrations 0 caches\n"
-    ++ codes "L0.0 open -> none\n"
-    ++ codes "L0.1 register -> j0\n"
-    ++ codes "- run j0 -> fetch 0 | mapped r0\n"
-    ++ codes "- fetched j0 -> changed | w0 parsed\n"
-    ++ codes "- evaluated j0 -> installing | w0 installing | settled j0 r0 | updatefound r0\n"
-    ++ codes "w0.install.0 cacheOpen -> made\n"
-    ++ codes "- installed j0 -> ok | w0 installed\n"
-    ++ codes "- tryactivate r0 -> w0 | w0 activating\n"
-    ++ codes "L0.2 ready -> r0\n"
-    ++ codes "L0.3 cacheHas -> true\n"
-    ++ codes "- activated w0 -> ok | w0 activated\n"
-    ++ codes "end done\n";
+          codes "- restarted -> 0 registrations 0 caches\n"
+          ++ codes "L0.0 open -> none\n"
+          ++ codes "L0.1 register -> j0\n"
+          ++ codes "- run j0 -> fetch 0 | mapped r0\n"
+          ++ codes "- fetched j0 -> changed | w0 parsed\n"
+          ++ codes "- evaluated j0 -> installing | w0 installing | settled j0 r0 | updatefound r0\n"
+          ++ codes "w0.install.0 cacheOpen -> made\n"
+          ++ codes "- installed j0 -> ok | w0 installed\n"
+          ++ codes "- tryactivate r0 -> w0 | w0 activating\n"
+          ++ codes "L0.2 ready -> r0\n"
+          ++ codes "L0.3 cacheHas -> true\n"
+          ++ codes "- activated w0 -> ok | w0 activated\n"
+          ++ codes "end done\n";
       shown =
-    codes "registrations 1\n"
-    ++ codes "registration \"https://a.test:8443\" \"https://a.test:8443/\" none\n"
-    ++ codes " active activated \"https://a.test:8443/sw.js\" classic 5\n"
-    ++ codes "caches 1\n"
-    ++ codes "cache \"https://a.test:8443\" \"w\" 0\n";
+          codes "registrations 1\n"
+          ++ codes "registration \"https://a.test:8443\" \"https://a.test:8443/\" none\n"
+          ++ codes " active activated \"https://a.test:8443/sw.js\" classic 5\n"
+          ++ codes "caches 1\n"
+          ++ codes "cache \"https://a.test:8443\" \"w\" 0\n";
       durable =
-    codes "registrations 1\n"
-    ++ codes "registration \"https://a.test:8443\" \"https://a.test:8443/\" none\n"
-    ++ codes " active activated \"https://a.test:8443/sw.js\" classic 5\n"
-    ++ codes "caches 1\n"
-    ++ codes "cache \"https://a.test:8443\" \"w\" 0\n";
+          codes "registrations 1\n"
+          ++ codes "registration \"https://a.test:8443\" \"https://a.test:8443/\" none\n"
+          ++ codes " active activated \"https://a.test:8443/sw.js\" classic 5\n"
+          ++ codes "caches 1\n"
+          ++ codes "cache \"https://a.test:8443\" \"w\" 0\n";
     }
 unfolding digits escape_byte grammar_on_literals steps_on_literals
 row_254 = refl
@@ -760,57 +760,57 @@ row_316 :
     ++ codes "{\"lane\":0,\"do\":\"close\",\"client\":37}\n")
     ≡ record {
       transcript =
-    codes "- restarted -> 0 registrations 0 caches\n"
-    ++ codes "L0.0 open -> none\n"
-    ++ codes "L0.1 register -> j0\n"
-    ++ codes "L0.2 open -> none\n"
-    ++ codes "- run j0 -> fetch 0 | mapped r0\n"
-    ++ codes "- fetched j0 -> changed | w0 parsed\n"
-    ++ codes "- evaluated j0 -> installing | w0 installing | settled j0 r0 | updatefound r0\n"
-    ++ codes "- installed j0 -> ok | w0 installed\n"
-    ++ codes "- tryactivate r0 -> w0 | w0 activating\n"
-    ++ codes "L0.3 ready -> r0\n"
-    ++ codes "L0.4 close -> ok\n"
-    ++ codes "L0.5 open -> w0\n"
-    ++ codes "- activated w0 -> ok | w0 activated\n"
-    ++ codes "L0.6 begin -> w0\n"
-    ++ codes "L0.7 close -> ok\n"
-    ++ codes "L0.8 open -> none\n"
-    ++ codes "L0.9 register -> j1\n"
-    ++ codes "L0.10 open -> none\n"
-    ++ codes "- run j1 -> fetch 0 | mapped r1\n"
-    ++ codes "- fetched j1 -> changed | w1 parsed\n"
-    ++ codes "- evaluated j1 -> installing | w1 installing | settled j1 r1 | updatefound r1\n"
-    ++ codes "- installed j1 -> ok | w1 installed\n"
-    ++ codes "- tryactivate r1 -> w1 | w1 activating\n"
-    ++ codes "L0.11 ready -> r1\n"
-    ++ codes "L0.12 close -> ok\n"
-    ++ codes "L0.13 open -> w1\n"
-    ++ codes "L0.14 update -> j2\n"
-    ++ codes "- run j2 -> fetch 1\n"
-    ++ codes "- fetched j2 -> changed | w2 parsed\n"
-    ++ codes "- evaluated j2 -> installing | w2 installing | settled j2 r1 | updatefound r1\n"
-    ++ codes "- installed j2 -> ok | w2 installed\n"
-    ++ codes "- tryactivate r1 -> none\n"
-    ++ codes "- activated w1 -> ok | w1 activated\n"
-    ++ codes "L0.15 begin -> InUse\n"
-    ++ codes "L0.16 close -> ok | w1 redundant | w2 activating\n"
-    ++ codes "- activated w2 -> ok | w2 activated\n"
-    ++ codes "end done\n";
+          codes "- restarted -> 0 registrations 0 caches\n"
+          ++ codes "L0.0 open -> none\n"
+          ++ codes "L0.1 register -> j0\n"
+          ++ codes "L0.2 open -> none\n"
+          ++ codes "- run j0 -> fetch 0 | mapped r0\n"
+          ++ codes "- fetched j0 -> changed | w0 parsed\n"
+          ++ codes "- evaluated j0 -> installing | w0 installing | settled j0 r0 | updatefound r0\n"
+          ++ codes "- installed j0 -> ok | w0 installed\n"
+          ++ codes "- tryactivate r0 -> w0 | w0 activating\n"
+          ++ codes "L0.3 ready -> r0\n"
+          ++ codes "L0.4 close -> ok\n"
+          ++ codes "L0.5 open -> w0\n"
+          ++ codes "- activated w0 -> ok | w0 activated\n"
+          ++ codes "L0.6 begin -> w0\n"
+          ++ codes "L0.7 close -> ok\n"
+          ++ codes "L0.8 open -> none\n"
+          ++ codes "L0.9 register -> j1\n"
+          ++ codes "L0.10 open -> none\n"
+          ++ codes "- run j1 -> fetch 0 | mapped r1\n"
+          ++ codes "- fetched j1 -> changed | w1 parsed\n"
+          ++ codes "- evaluated j1 -> installing | w1 installing | settled j1 r1 | updatefound r1\n"
+          ++ codes "- installed j1 -> ok | w1 installed\n"
+          ++ codes "- tryactivate r1 -> w1 | w1 activating\n"
+          ++ codes "L0.11 ready -> r1\n"
+          ++ codes "L0.12 close -> ok\n"
+          ++ codes "L0.13 open -> w1\n"
+          ++ codes "L0.14 update -> j2\n"
+          ++ codes "- run j2 -> fetch 1\n"
+          ++ codes "- fetched j2 -> changed | w2 parsed\n"
+          ++ codes "- evaluated j2 -> installing | w2 installing | settled j2 r1 | updatefound r1\n"
+          ++ codes "- installed j2 -> ok | w2 installed\n"
+          ++ codes "- tryactivate r1 -> none\n"
+          ++ codes "- activated w1 -> ok | w1 activated\n"
+          ++ codes "L0.15 begin -> InUse\n"
+          ++ codes "L0.16 close -> ok | w1 redundant | w2 activating\n"
+          ++ codes "- activated w2 -> ok | w2 activated\n"
+          ++ codes "end done\n";
       shown =
-    codes "registrations 2\n"
-    ++ codes "registration \"http://x.localhost\" \"http://x.localhost/f95/\" imports\n"
-    ++ codes " active activated \"http://x.localhost/f95/sw5.js\" classic 9\n"
-    ++ codes "registration \"http://x.localhost\" \"http://x.localhost/f64/\" imports\n"
-    ++ codes " active activated \"http://x.localhost/f64/sw5.js\" classic 9\n"
-    ++ codes "caches 0\n";
+          codes "registrations 2\n"
+          ++ codes "registration \"http://x.localhost\" \"http://x.localhost/f95/\" imports\n"
+          ++ codes " active activated \"http://x.localhost/f95/sw5.js\" classic 9\n"
+          ++ codes "registration \"http://x.localhost\" \"http://x.localhost/f64/\" imports\n"
+          ++ codes " active activated \"http://x.localhost/f64/sw5.js\" classic 9\n"
+          ++ codes "caches 0\n";
       durable =
-    codes "registrations 2\n"
-    ++ codes "registration \"http://x.localhost\" \"http://x.localhost/f95/\" imports\n"
-    ++ codes " active activated \"http://x.localhost/f95/sw5.js\" classic 9\n"
-    ++ codes "registration \"http://x.localhost\" \"http://x.localhost/f64/\" imports\n"
-    ++ codes " active activated \"http://x.localhost/f64/sw5.js\" classic 9\n"
-    ++ codes "caches 0\n";
+          codes "registrations 2\n"
+          ++ codes "registration \"http://x.localhost\" \"http://x.localhost/f95/\" imports\n"
+          ++ codes " active activated \"http://x.localhost/f95/sw5.js\" classic 9\n"
+          ++ codes "registration \"http://x.localhost\" \"http://x.localhost/f64/\" imports\n"
+          ++ codes " active activated \"http://x.localhost/f64/sw5.js\" classic 9\n"
+          ++ codes "caches 0\n";
     }
 unfolding digits escape_byte grammar_on_literals steps_on_literals
 row_316 = refl

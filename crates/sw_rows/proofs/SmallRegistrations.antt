@@ -11,15 +11,15 @@ row_001 :
     (codes "{\"lane\":0,\"do\":\"skipWaiting\",\"client\":0,\"scope\":\"./\",\"slot\":\"installing\"}\n")
     ≡ record {
       transcript =
-    codes "- restarted -> 0 registrations 0 caches\n"
-    ++ codes "L0.0 skipWaiting -> NoClient\n"
-    ++ codes "end done\n";
+          codes "- restarted -> 0 registrations 0 caches\n"
+          ++ codes "L0.0 skipWaiting -> NoClient\n"
+          ++ codes "end done\n";
       shown =
-    codes "registrations 0\n"
-    ++ codes "caches 0\n";
+          codes "registrations 0\n"
+          ++ codes "caches 0\n";
       durable =
-    codes "registrations 0\n"
-    ++ codes "caches 0\n";
+          codes "registrations 0\n"
+          ++ codes "caches 0\n";
     }
 unfolding digits escape_byte grammar_on_literals steps_on_literals
 row_001 = refl
@@ -29,15 +29,15 @@ row_004 :
     (codes "{\"lane\":0,\"do\":\"softUpdate\",\"client\":6,\"scope\":\"./\"}\n")
     ≡ record {
       transcript =
-    codes "- restarted -> 0 registrations 0 caches\n"
-    ++ codes "L0.0 softUpdate -> NoClient\n"
-    ++ codes "end done\n";
+          codes "- restarted -> 0 registrations 0 caches\n"
+          ++ codes "L0.0 softUpdate -> NoClient\n"
+          ++ codes "end done\n";
       shown =
-    codes "registrations 0\n"
-    ++ codes "caches 0\n";
+          codes "registrations 0\n"
+          ++ codes "caches 0\n";
       durable =
-    codes "registrations 0\n"
-    ++ codes "caches 0\n";
+          codes "registrations 0\n"
+          ++ codes "caches 0\n";
     }
 unfolding digits escape_byte grammar_on_literals steps_on_literals
 row_004 = refl
@@ -48,16 +48,16 @@ row_011 :
     ++ codes "{\"lane\":1,\"do\":\"preloadState\",\"client\":2,\"scope\":\"./\"}\n")
     ≡ record {
       transcript =
-    codes "- restarted -> 0 registrations 0 caches\n"
-    ++ codes "L1.0 open -> none\n"
-    ++ codes "L1.1 preloadState -> NoRegistration\n"
-    ++ codes "end done\n";
+          codes "- restarted -> 0 registrations 0 caches\n"
+          ++ codes "L1.0 open -> none\n"
+          ++ codes "L1.1 preloadState -> NoRegistration\n"
+          ++ codes "end done\n";
       shown =
-    codes "registrations 0\n"
-    ++ codes "caches 0\n";
+          codes "registrations 0\n"
+          ++ codes "caches 0\n";
       durable =
-    codes "registrations 0\n"
-    ++ codes "caches 0\n";
+          codes "registrations 0\n"
+          ++ codes "caches 0\n";
     }
 unfolding digits escape_byte grammar_on_literals steps_on_literals
 row_011 = refl
@@ -68,16 +68,16 @@ row_026 :
     ++ codes "{\"lane\":2,\"do\":\"preloadValue\",\"client\":2,\"scope\":\"/f57/\",\"value\":\"true\"}\n")
     ≡ record {
       transcript =
-    codes "- restarted -> 0 registrations 0 caches\n"
-    ++ codes "L1.0 open -> none\n"
-    ++ codes "L2.0 preloadValue -> NoRegistration\n"
-    ++ codes "end done\n";
+          codes "- restarted -> 0 registrations 0 caches\n"
+          ++ codes "L1.0 open -> none\n"
+          ++ codes "L2.0 preloadValue -> NoRegistration\n"
+          ++ codes "end done\n";
       shown =
-    codes "registrations 0\n"
-    ++ codes "caches 0\n";
+          codes "registrations 0\n"
+          ++ codes "caches 0\n";
       durable =
-    codes "registrations 0\n"
-    ++ codes "caches 0\n";
+          codes "registrations 0\n"
+          ++ codes "caches 0\n";
     }
 unfolding digits escape_byte grammar_on_literals steps_on_literals
 row_026 = refl
@@ -88,16 +88,16 @@ row_027 :
     ++ codes "{\"lane\":2,\"do\":\"preloadDisable\",\"client\":2,\"scope\":\"/f57/\"}\n")
     ≡ record {
       transcript =
-    codes "- restarted -> 0 registrations 0 caches\n"
-    ++ codes "L1.0 open -> none\n"
-    ++ codes "L2.0 preloadDisable -> NoRegistration\n"
-    ++ codes "end done\n";
+          codes "- restarted -> 0 registrations 0 caches\n"
+          ++ codes "L1.0 open -> none\n"
+          ++ codes "L2.0 preloadDisable -> NoRegistration\n"
+          ++ codes "end done\n";
       shown =
-    codes "registrations 0\n"
-    ++ codes "caches 0\n";
+          codes "registrations 0\n"
+          ++ codes "caches 0\n";
       durable =
-    codes "registrations 0\n"
-    ++ codes "caches 0\n";
+          codes "registrations 0\n"
+          ++ codes "caches 0\n";
     }
 unfolding digits escape_byte grammar_on_literals steps_on_literals
 row_027 = refl
@@ -107,15 +107,15 @@ row_029 :
     (codes "{\"lane\":0,\"do\":\"update\",\"client\":3,\"scope\":\"mailto:x\"}\n")
     ≡ record {
       transcript =
-    codes "- restarted -> 0 registrations 0 caches\n"
-    ++ codes "L0.0 update -> NoClient\n"
-    ++ codes "end done\n";
+          codes "- restarted -> 0 registrations 0 caches\n"
+          ++ codes "L0.0 update -> NoClient\n"
+          ++ codes "end done\n";
       shown =
-    codes "registrations 0\n"
-    ++ codes "caches 0\n";
+          codes "registrations 0\n"
+          ++ codes "caches 0\n";
       durable =
-    codes "registrations 0\n"
-    ++ codes "caches 0\n";
+          codes "registrations 0\n"
+          ++ codes "caches 0\n";
     }
 unfolding digits escape_byte grammar_on_literals steps_on_literals
 row_029 = refl
@@ -126,16 +126,16 @@ row_032 :
     ++ codes "{\"lane\":0,\"do\":\"update\",\"client\":7,\"scope\":\"/\"}\n")
     ≡ record {
       transcript =
-    codes "- restarted -> 0 registrations 0 caches\n"
-    ++ codes "L0.0 open -> none\n"
-    ++ codes "L0.1 update -> NoRegistration\n"
-    ++ codes "end done\n";
+          codes "- restarted -> 0 registrations 0 caches\n"
+          ++ codes "L0.0 open -> none\n"
+          ++ codes "L0.1 update -> NoRegistration\n"
+          ++ codes "end done\n";
       shown =
-    codes "registrations 0\n"
-    ++ codes "caches 0\n";
+          codes "registrations 0\n"
+          ++ codes "caches 0\n";
       durable =
-    codes "registrations 0\n"
-    ++ codes "caches 0\n";
+          codes "registrations 0\n"
+          ++ codes "caches 0\n";
     }
 unfolding digits escape_byte grammar_on_literals steps_on_literals
 row_032 = refl
@@ -146,16 +146,16 @@ row_036 :
     ++ codes "{\"lane\":0,\"do\":\"register\",\"client\":7,\"script\":\"/d/e/sw.js\",\"scope\":\"/a%5Cb\"}\n")
     ≡ record {
       transcript =
-    codes "- restarted -> 0 registrations 0 caches\n"
-    ++ codes "L0.0 open -> none\n"
-    ++ codes "L0.1 register -> TypeError escaped-slash\n"
-    ++ codes "end done\n";
+          codes "- restarted -> 0 registrations 0 caches\n"
+          ++ codes "L0.0 open -> none\n"
+          ++ codes "L0.1 register -> TypeError escaped-slash\n"
+          ++ codes "end done\n";
       shown =
-    codes "registrations 0\n"
-    ++ codes "caches 0\n";
+          codes "registrations 0\n"
+          ++ codes "caches 0\n";
       durable =
-    codes "registrations 0\n"
-    ++ codes "caches 0\n";
+          codes "registrations 0\n"
+          ++ codes "caches 0\n";
     }
 unfolding digits escape_byte grammar_on_literals steps_on_literals
 row_036 = refl
@@ -165,15 +165,15 @@ row_050 :
     (codes "{\"lane\":0,\"do\":\"register\",\"client\":2,\"script\":\"/d/e/sw.js\"}\n")
     ≡ record {
       transcript =
-    codes "- restarted -> 0 registrations 0 caches\n"
-    ++ codes "L0.0 register -> NoClient\n"
-    ++ codes "end done\n";
+          codes "- restarted -> 0 registrations 0 caches\n"
+          ++ codes "L0.0 register -> NoClient\n"
+          ++ codes "end done\n";
       shown =
-    codes "registrations 0\n"
-    ++ codes "caches 0\n";
+          codes "registrations 0\n"
+          ++ codes "caches 0\n";
       durable =
-    codes "registrations 0\n"
-    ++ codes "caches 0\n";
+          codes "registrations 0\n"
+          ++ codes "caches 0\n";
     }
 unfolding digits escape_byte grammar_on_literals steps_on_literals
 row_050 = refl
@@ -184,16 +184,16 @@ row_053 :
     ++ codes "{\"lane\":0,\"do\":\"register\",\"client\":8,\"script\":\"/sw.js\",\"scope\":\"mailto:x\"}\n")
     ≡ record {
       transcript =
-    codes "- restarted -> 0 registrations 0 caches\n"
-    ++ codes "L0.0 open -> none\n"
-    ++ codes "L0.1 register -> TypeError scheme\n"
-    ++ codes "end done\n";
+          codes "- restarted -> 0 registrations 0 caches\n"
+          ++ codes "L0.0 open -> none\n"
+          ++ codes "L0.1 register -> TypeError scheme\n"
+          ++ codes "end done\n";
       shown =
-    codes "registrations 0\n"
-    ++ codes "caches 0\n";
+          codes "registrations 0\n"
+          ++ codes "caches 0\n";
       durable =
-    codes "registrations 0\n"
-    ++ codes "caches 0\n";
+          codes "registrations 0\n"
+          ++ codes "caches 0\n";
     }
 unfolding digits escape_byte grammar_on_literals steps_on_literals
 row_053 = refl
@@ -204,16 +204,16 @@ row_061 :
     ++ codes "{\"lane\":1,\"do\":\"claim\",\"client\":4,\"scope\":\"./\",\"slot\":\"waiting\"}\n")
     ≡ record {
       transcript =
-    codes "- restarted -> 0 registrations 0 caches\n"
-    ++ codes "L1.0 open -> none\n"
-    ++ codes "L1.1 claim -> NoRegistration\n"
-    ++ codes "end done\n";
+          codes "- restarted -> 0 registrations 0 caches\n"
+          ++ codes "L1.0 open -> none\n"
+          ++ codes "L1.1 claim -> NoRegistration\n"
+          ++ codes "end done\n";
       shown =
-    codes "registrations 0\n"
-    ++ codes "caches 0\n";
+          codes "registrations 0\n"
+          ++ codes "caches 0\n";
       durable =
-    codes "registrations 0\n"
-    ++ codes "caches 0\n";
+          codes "registrations 0\n"
+          ++ codes "caches 0\n";
     }
 unfolding digits escape_byte grammar_on_literals steps_on_literals
 row_061 = refl
@@ -224,16 +224,16 @@ row_077 :
     ++ codes "{\"lane\":2,\"do\":\"softUpdate\",\"client\":8,\"scope\":\"/\"}\n")
     ≡ record {
       transcript =
-    codes "- restarted -> 0 registrations 0 caches\n"
-    ++ codes "L2.0 open -> none\n"
-    ++ codes "L2.1 softUpdate -> NoRegistration\n"
-    ++ codes "end done\n";
+          codes "- restarted -> 0 registrations 0 caches\n"
+          ++ codes "L2.0 open -> none\n"
+          ++ codes "L2.1 softUpdate -> NoRegistration\n"
+          ++ codes "end done\n";
       shown =
-    codes "registrations 0\n"
-    ++ codes "caches 0\n";
+          codes "registrations 0\n"
+          ++ codes "caches 0\n";
       durable =
-    codes "registrations 0\n"
-    ++ codes "caches 0\n";
+          codes "registrations 0\n"
+          ++ codes "caches 0\n";
     }
 unfolding digits escape_byte grammar_on_literals steps_on_literals
 row_077 = refl
@@ -243,15 +243,15 @@ row_127 :
     (codes "{\"lane\":0,\"do\":\"unregister\",\"client\":1,\"scope\":\"/\"}\n")
     ≡ record {
       transcript =
-    codes "- restarted -> 0 registrations 0 caches\n"
-    ++ codes "L0.0 unregister -> NoClient\n"
-    ++ codes "end done\n";
+          codes "- restarted -> 0 registrations 0 caches\n"
+          ++ codes "L0.0 unregister -> NoClient\n"
+          ++ codes "end done\n";
       shown =
-    codes "registrations 0\n"
-    ++ codes "caches 0\n";
+          codes "registrations 0\n"
+          ++ codes "caches 0\n";
       durable =
-    codes "registrations 0\n"
-    ++ codes "caches 0\n";
+          codes "registrations 0\n"
+          ++ codes "caches 0\n";
     }
 unfolding digits escape_byte grammar_on_literals steps_on_literals
 row_127 = refl
@@ -262,16 +262,16 @@ row_131 :
     ++ codes "{\"lane\":0,\"do\":\"skipWaiting\",\"client\":4,\"scope\":\"/\",\"slot\":\"waiting\"}\n")
     ≡ record {
       transcript =
-    codes "- restarted -> 0 registrations 0 caches\n"
-    ++ codes "L0.0 open -> none\n"
-    ++ codes "L0.1 skipWaiting -> NoRegistration\n"
-    ++ codes "end done\n";
+          codes "- restarted -> 0 registrations 0 caches\n"
+          ++ codes "L0.0 open -> none\n"
+          ++ codes "L0.1 skipWaiting -> NoRegistration\n"
+          ++ codes "end done\n";
       shown =
-    codes "registrations 0\n"
-    ++ codes "caches 0\n";
+          codes "registrations 0\n"
+          ++ codes "caches 0\n";
       durable =
-    codes "registrations 0\n"
-    ++ codes "caches 0\n";
+          codes "registrations 0\n"
+          ++ codes "caches 0\n";
     }
 unfolding digits escape_byte grammar_on_literals steps_on_literals
 row_131 = refl
@@ -281,15 +281,15 @@ row_141 :
     (codes "{\"lane\":2,\"do\":\"preloadEnable\",\"client\":39,\"scope\":\"./\"}\n")
     ≡ record {
       transcript =
-    codes "- restarted -> 0 registrations 0 caches\n"
-    ++ codes "L2.0 preloadEnable -> NoClient\n"
-    ++ codes "end done\n";
+          codes "- restarted -> 0 registrations 0 caches\n"
+          ++ codes "L2.0 preloadEnable -> NoClient\n"
+          ++ codes "end done\n";
       shown =
-    codes "registrations 0\n"
-    ++ codes "caches 0\n";
+          codes "registrations 0\n"
+          ++ codes "caches 0\n";
       durable =
-    codes "registrations 0\n"
-    ++ codes "caches 0\n";
+          codes "registrations 0\n"
+          ++ codes "caches 0\n";
     }
 unfolding digits escape_byte grammar_on_literals steps_on_literals
 row_141 = refl
@@ -299,15 +299,15 @@ row_143 :
     (codes "{\"lane\":1,\"do\":\"claim\",\"client\":26,\"scope\":\"/f89/p\",\"slot\":\"active\"}\n")
     ≡ record {
       transcript =
-    codes "- restarted -> 0 registrations 0 caches\n"
-    ++ codes "L1.0 claim -> NoClient\n"
-    ++ codes "end done\n";
+          codes "- restarted -> 0 registrations 0 caches\n"
+          ++ codes "L1.0 claim -> NoClient\n"
+          ++ codes "end done\n";
       shown =
-    codes "registrations 0\n"
-    ++ codes "caches 0\n";
+          codes "registrations 0\n"
+          ++ codes "caches 0\n";
       durable =
-    codes "registrations 0\n"
-    ++ codes "caches 0\n";
+          codes "registrations 0\n"
+          ++ codes "caches 0\n";
     }
 unfolding digits escape_byte grammar_on_literals steps_on_literals
 row_143 = refl
@@ -318,16 +318,16 @@ row_153 :
     ++ codes "{\"lane\":0,\"do\":\"unregister\",\"client\":3,\"scope\":\"http://[\"}\n")
     ≡ record {
       transcript =
-    codes "- restarted -> 0 registrations 0 caches\n"
-    ++ codes "L0.0 open -> none\n"
-    ++ codes "L0.1 unregister -> TypeError unparsed\n"
-    ++ codes "end done\n";
+          codes "- restarted -> 0 registrations 0 caches\n"
+          ++ codes "L0.0 open -> none\n"
+          ++ codes "L0.1 unregister -> TypeError unparsed\n"
+          ++ codes "end done\n";
       shown =
-    codes "registrations 0\n"
-    ++ codes "caches 0\n";
+          codes "registrations 0\n"
+          ++ codes "caches 0\n";
       durable =
-    codes "registrations 0\n"
-    ++ codes "caches 0\n";
+          codes "registrations 0\n"
+          ++ codes "caches 0\n";
     }
 unfolding digits escape_byte grammar_on_literals steps_on_literals
 row_153 = refl
@@ -338,16 +338,16 @@ row_173 :
     ++ codes "{\"lane\":1,\"do\":\"preloadEnable\",\"client\":2,\"scope\":\"/d/e/\"}\n")
     ≡ record {
       transcript =
-    codes "- restarted -> 0 registrations 0 caches\n"
-    ++ codes "L0.0 open -> none\n"
-    ++ codes "L1.0 preloadEnable -> NoRegistration\n"
-    ++ codes "end done\n";
+          codes "- restarted -> 0 registrations 0 caches\n"
+          ++ codes "L0.0 open -> none\n"
+          ++ codes "L1.0 preloadEnable -> NoRegistration\n"
+          ++ codes "end done\n";
       shown =
-    codes "registrations 0\n"
-    ++ codes "caches 0\n";
+          codes "registrations 0\n"
+          ++ codes "caches 0\n";
       durable =
-    codes "registrations 0\n"
-    ++ codes "caches 0\n";
+          codes "registrations 0\n"
+          ++ codes "caches 0\n";
     }
 unfolding digits escape_byte grammar_on_literals steps_on_literals
 row_173 = refl
@@ -358,16 +358,16 @@ row_181 :
     ++ codes "{\"lane\":1,\"do\":\"skipWaiting\",\"client\":3,\"scope\":\"http://[\",\"slot\":\"active\"}\n")
     ≡ record {
       transcript =
-    codes "- restarted -> 0 registrations 0 caches\n"
-    ++ codes "L1.0 open -> none\n"
-    ++ codes "L1.1 skipWaiting -> TypeError unparsed\n"
-    ++ codes "end done\n";
+          codes "- restarted -> 0 registrations 0 caches\n"
+          ++ codes "L1.0 open -> none\n"
+          ++ codes "L1.1 skipWaiting -> TypeError unparsed\n"
+          ++ codes "end done\n";
       shown =
-    codes "registrations 0\n"
-    ++ codes "caches 0\n";
+          codes "registrations 0\n"
+          ++ codes "caches 0\n";
       durable =
-    codes "registrations 0\n"
-    ++ codes "caches 0\n";
+          codes "registrations 0\n"
+          ++ codes "caches 0\n";
     }
 unfolding digits escape_byte grammar_on_literals steps_on_literals
 row_181 = refl
@@ -377,15 +377,15 @@ row_182 :
     (codes "{\"lane\":0,\"do\":\"preloadValue\",\"client\":6,\"scope\":\"/\",\"value\":\" a \"}\n")
     ≡ record {
       transcript =
-    codes "- restarted -> 0 registrations 0 caches\n"
-    ++ codes "L0.0 preloadValue -> NoClient\n"
-    ++ codes "end done\n";
+          codes "- restarted -> 0 registrations 0 caches\n"
+          ++ codes "L0.0 preloadValue -> NoClient\n"
+          ++ codes "end done\n";
       shown =
-    codes "registrations 0\n"
-    ++ codes "caches 0\n";
+          codes "registrations 0\n"
+          ++ codes "caches 0\n";
       durable =
-    codes "registrations 0\n"
-    ++ codes "caches 0\n";
+          codes "registrations 0\n"
+          ++ codes "caches 0\n";
     }
 unfolding digits escape_byte grammar_on_literals steps_on_literals
 row_182 = refl
@@ -395,15 +395,15 @@ row_196 :
     (codes "{\"lane\":1,\"do\":\"preloadDisable\",\"client\":9,\"scope\":\"http://[\"}\n")
     ≡ record {
       transcript =
-    codes "- restarted -> 0 registrations 0 caches\n"
-    ++ codes "L1.0 preloadDisable -> NoClient\n"
-    ++ codes "end done\n";
+          codes "- restarted -> 0 registrations 0 caches\n"
+          ++ codes "L1.0 preloadDisable -> NoClient\n"
+          ++ codes "end done\n";
       shown =
-    codes "registrations 0\n"
-    ++ codes "caches 0\n";
+          codes "registrations 0\n"
+          ++ codes "caches 0\n";
       durable =
-    codes "registrations 0\n"
-    ++ codes "caches 0\n";
+          codes "registrations 0\n"
+          ++ codes "caches 0\n";
     }
 unfolding digits escape_byte grammar_on_literals steps_on_literals
 row_196 = refl
@@ -414,16 +414,16 @@ row_205 :
     ++ codes "{\"lane\":1,\"do\":\"claim\",\"client\":8,\"scope\":\"http://[\",\"slot\":\"installing\"}\n")
     ≡ record {
       transcript =
-    codes "- restarted -> 0 registrations 0 caches\n"
-    ++ codes "L0.0 open -> none\n"
-    ++ codes "L1.0 claim -> TypeError unparsed\n"
-    ++ codes "end done\n";
+          codes "- restarted -> 0 registrations 0 caches\n"
+          ++ codes "L0.0 open -> none\n"
+          ++ codes "L1.0 claim -> TypeError unparsed\n"
+          ++ codes "end done\n";
       shown =
-    codes "registrations 0\n"
-    ++ codes "caches 0\n";
+          codes "registrations 0\n"
+          ++ codes "caches 0\n";
       durable =
-    codes "registrations 0\n"
-    ++ codes "caches 0\n";
+          codes "registrations 0\n"
+          ++ codes "caches 0\n";
     }
 unfolding digits escape_byte grammar_on_literals steps_on_literals
 row_205 = refl
@@ -433,15 +433,15 @@ row_207 :
     (codes "{\"lane\":2,\"do\":\"preloadState\",\"client\":6,\"scope\":\"./\"}\n")
     ≡ record {
       transcript =
-    codes "- restarted -> 0 registrations 0 caches\n"
-    ++ codes "L2.0 preloadState -> NoClient\n"
-    ++ codes "end done\n";
+          codes "- restarted -> 0 registrations 0 caches\n"
+          ++ codes "L2.0 preloadState -> NoClient\n"
+          ++ codes "end done\n";
       shown =
-    codes "registrations 0\n"
-    ++ codes "caches 0\n";
+          codes "registrations 0\n"
+          ++ codes "caches 0\n";
       durable =
-    codes "registrations 0\n"
-    ++ codes "caches 0\n";
+          codes "registrations 0\n"
+          ++ codes "caches 0\n";
     }
 unfolding digits escape_byte grammar_on_literals steps_on_literals
 row_207 = refl
@@ -452,16 +452,16 @@ row_212 :
     ++ codes "{\"lane\":0,\"do\":\"softUpdate\",\"client\":1,\"scope\":\"http://[\"}\n")
     ≡ record {
       transcript =
-    codes "- restarted -> 0 registrations 0 caches\n"
-    ++ codes "L0.0 open -> none\n"
-    ++ codes "L0.1 softUpdate -> TypeError unparsed\n"
-    ++ codes "end done\n";
+          codes "- restarted -> 0 registrations 0 caches\n"
+          ++ codes "L0.0 open -> none\n"
+          ++ codes "L0.1 softUpdate -> TypeError unparsed\n"
+          ++ codes "end done\n";
       shown =
-    codes "registrations 0\n"
-    ++ codes "caches 0\n";
+          codes "registrations 0\n"
+          ++ codes "caches 0\n";
       durable =
-    codes "registrations 0\n"
-    ++ codes "caches 0\n";
+          codes "registrations 0\n"
+          ++ codes "caches 0\n";
     }
 unfolding digits escape_byte grammar_on_literals steps_on_literals
 row_212 = refl
@@ -472,16 +472,16 @@ row_218 :
     ++ codes "{\"lane\":1,\"do\":\"register\",\"client\":8,\"script\":\"/app/sw.js\",\"scope\":\"//\",\"cache\":\"none\"}\n")
     ≡ record {
       transcript =
-    codes "- restarted -> 0 registrations 0 caches\n"
-    ++ codes "L1.0 open -> none\n"
-    ++ codes "L1.1 register -> TypeError unparsed\n"
-    ++ codes "end done\n";
+          codes "- restarted -> 0 registrations 0 caches\n"
+          ++ codes "L1.0 open -> none\n"
+          ++ codes "L1.1 register -> TypeError unparsed\n"
+          ++ codes "end done\n";
       shown =
-    codes "registrations 0\n"
-    ++ codes "caches 0\n";
+          codes "registrations 0\n"
+          ++ codes "caches 0\n";
       durable =
-    codes "registrations 0\n"
-    ++ codes "caches 0\n";
+          codes "registrations 0\n"
+          ++ codes "caches 0\n";
     }
 unfolding digits escape_byte grammar_on_literals steps_on_literals
 row_218 = refl
@@ -492,16 +492,16 @@ row_222 :
     ++ codes "{\"lane\":0,\"do\":\"preloadEnable\",\"client\":7,\"scope\":\"http://[\"}\n")
     ≡ record {
       transcript =
-    codes "- restarted -> 0 registrations 0 caches\n"
-    ++ codes "L0.0 open -> none\n"
-    ++ codes "L0.1 preloadEnable -> TypeError unparsed\n"
-    ++ codes "end done\n";
+          codes "- restarted -> 0 registrations 0 caches\n"
+          ++ codes "L0.0 open -> none\n"
+          ++ codes "L0.1 preloadEnable -> TypeError unparsed\n"
+          ++ codes "end done\n";
       shown =
-    codes "registrations 0\n"
-    ++ codes "caches 0\n";
+          codes "registrations 0\n"
+          ++ codes "caches 0\n";
       durable =
-    codes "registrations 0\n"
-    ++ codes "caches 0\n";
+          codes "registrations 0\n"
+          ++ codes "caches 0\n";
     }
 unfolding digits escape_byte grammar_on_literals steps_on_literals
 row_222 = refl
@@ -512,16 +512,16 @@ row_245 :
     ++ codes "{\"lane\":0,\"do\":\"open\",\"client\":3,\"url\":\"http://[::1]:3000/app/x\"}\n")
     ≡ record {
       transcript =
-    codes "- restarted -> 0 registrations 0 caches\n"
-    ++ codes "L0.0 open -> none\n"
-    ++ codes "L2.0 update -> TypeError unparsed\n"
-    ++ codes "end done\n";
+          codes "- restarted -> 0 registrations 0 caches\n"
+          ++ codes "L0.0 open -> none\n"
+          ++ codes "L2.0 update -> TypeError unparsed\n"
+          ++ codes "end done\n";
       shown =
-    codes "registrations 0\n"
-    ++ codes "caches 0\n";
+          codes "registrations 0\n"
+          ++ codes "caches 0\n";
       durable =
-    codes "registrations 0\n"
-    ++ codes "caches 0\n";
+          codes "registrations 0\n"
+          ++ codes "caches 0\n";
     }
 unfolding digits escape_byte grammar_on_literals steps_on_literals
 row_245 = refl
@@ -532,16 +532,16 @@ row_251 :
     ++ codes "{\"lane\":1,\"do\":\"preloadDisable\",\"client\":9,\"scope\":\"http://[\"}\n")
     ≡ record {
       transcript =
-    codes "- restarted -> 0 registrations 0 caches\n"
-    ++ codes "L1.0 open -> none\n"
-    ++ codes "L1.1 preloadDisable -> TypeError unparsed\n"
-    ++ codes "end done\n";
+          codes "- restarted -> 0 registrations 0 caches\n"
+          ++ codes "L1.0 open -> none\n"
+          ++ codes "L1.1 preloadDisable -> TypeError unparsed\n"
+          ++ codes "end done\n";
       shown =
-    codes "registrations 0\n"
-    ++ codes "caches 0\n";
+          codes "registrations 0\n"
+          ++ codes "caches 0\n";
       durable =
-    codes "registrations 0\n"
-    ++ codes "caches 0\n";
+          codes "registrations 0\n"
+          ++ codes "caches 0\n";
     }
 unfolding digits escape_byte grammar_on_literals steps_on_literals
 row_251 = refl
@@ -552,16 +552,16 @@ row_266 :
     ++ codes "{\"lane\":0,\"do\":\"preloadState\",\"client\":3,\"scope\":\"http://[\"}\n")
     ≡ record {
       transcript =
-    codes "- restarted -> 0 registrations 0 caches\n"
-    ++ codes "L0.0 open -> none\n"
-    ++ codes "L0.1 preloadState -> TypeError unparsed\n"
-    ++ codes "end done\n";
+          codes "- restarted -> 0 registrations 0 caches\n"
+          ++ codes "L0.0 open -> none\n"
+          ++ codes "L0.1 preloadState -> TypeError unparsed\n"
+          ++ codes "end done\n";
       shown =
-    codes "registrations 0\n"
-    ++ codes "caches 0\n";
+          codes "registrations 0\n"
+          ++ codes "caches 0\n";
       durable =
-    codes "registrations 0\n"
-    ++ codes "caches 0\n";
+          codes "registrations 0\n"
+          ++ codes "caches 0\n";
     }
 unfolding digits escape_byte grammar_on_literals steps_on_literals
 row_266 = refl
@@ -572,16 +572,16 @@ row_269 :
     ++ codes "{\"lane\":1,\"do\":\"preloadValue\",\"client\":3,\"scope\":\"http://[\",\"value\":\"x\"}\n")
     ≡ record {
       transcript =
-    codes "- restarted -> 0 registrations 0 caches\n"
-    ++ codes "L1.0 open -> none\n"
-    ++ codes "L1.1 preloadValue -> TypeError unparsed\n"
-    ++ codes "end done\n";
+          codes "- restarted -> 0 registrations 0 caches\n"
+          ++ codes "L1.0 open -> none\n"
+          ++ codes "L1.1 preloadValue -> TypeError unparsed\n"
+          ++ codes "end done\n";
       shown =
-    codes "registrations 0\n"
-    ++ codes "caches 0\n";
+          codes "registrations 0\n"
+          ++ codes "caches 0\n";
       durable =
-    codes "registrations 0\n"
-    ++ codes "caches 0\n";
+          codes "registrations 0\n"
+          ++ codes "caches 0\n";
     }
 unfolding digits escape_byte grammar_on_literals steps_on_literals
 row_269 = refl

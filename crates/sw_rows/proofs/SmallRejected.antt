@@ -15,30 +15,30 @@ row_069 :
     ++ codes "{\"lane\":0,\"do\":\"register\",\"client\":1,\"script\":\"/late2/sw.js\",\"scope\":\"/app/#f\"}\n")
     ≡ record {
       transcript =
-    codes "- restarted -> 0 registrations 0 caches\n"
-    ++ codes "L0.0 open -> none\n"
-    ++ codes "L0.1 open -> none\n"
-    ++ codes "L0.2 register -> j0\n"
-    ++ codes "L0.3 register -> j1\n"
-    ++ codes "- run j0 -> fetch 0 | mapped r0\n"
-    ++ codes "- fetched j0 -> changed | w0 parsed\n"
-    ++ codes "- evaluated j0 -> installing | w0 installing | settled j0 r0 | updatefound r0\n"
-    ++ codes "- installed j0 -> ok | w0 installed\n"
-    ++ codes "- run j1 -> fetch 0\n"
-    ++ codes "- fetched j1 -> rejected | settled j1 TypeError network\n"
-    ++ codes "- tryactivate r0 -> w0 | w0 activating\n"
-    ++ codes "- activated w0 -> ok | w0 activated\n"
-    ++ codes "end done\n";
+          codes "- restarted -> 0 registrations 0 caches\n"
+          ++ codes "L0.0 open -> none\n"
+          ++ codes "L0.1 open -> none\n"
+          ++ codes "L0.2 register -> j0\n"
+          ++ codes "L0.3 register -> j1\n"
+          ++ codes "- run j0 -> fetch 0 | mapped r0\n"
+          ++ codes "- fetched j0 -> changed | w0 parsed\n"
+          ++ codes "- evaluated j0 -> installing | w0 installing | settled j0 r0 | updatefound r0\n"
+          ++ codes "- installed j0 -> ok | w0 installed\n"
+          ++ codes "- run j1 -> fetch 0\n"
+          ++ codes "- fetched j1 -> rejected | settled j1 TypeError network\n"
+          ++ codes "- tryactivate r0 -> w0 | w0 activating\n"
+          ++ codes "- activated w0 -> ok | w0 activated\n"
+          ++ codes "end done\n";
       shown =
-    codes "registrations 1\n"
-    ++ codes "registration \"http://localhost:8080\" \"http://localhost:8080/app/\" none\n"
-    ++ codes " active activated \"http://localhost:8080/app/claim.js\" classic 8\n"
-    ++ codes "caches 0\n";
+          codes "registrations 1\n"
+          ++ codes "registration \"http://localhost:8080\" \"http://localhost:8080/app/\" none\n"
+          ++ codes " active activated \"http://localhost:8080/app/claim.js\" classic 8\n"
+          ++ codes "caches 0\n";
       durable =
-    codes "registrations 1\n"
-    ++ codes "registration \"http://localhost:8080\" \"http://localhost:8080/app/\" none\n"
-    ++ codes " active activated \"http://localhost:8080/app/claim.js\" classic 8\n"
-    ++ codes "caches 0\n";
+          codes "registrations 1\n"
+          ++ codes "registration \"http://localhost:8080\" \"http://localhost:8080/app/\" none\n"
+          ++ codes " active activated \"http://localhost:8080/app/claim.js\" classic 8\n"
+          ++ codes "caches 0\n";
     }
 unfolding digits escape_byte grammar_on_literals steps_on_literals
 row_069 = refl
@@ -53,30 +53,30 @@ row_198 :
     ++ codes "{\"lane\":1,\"do\":\"register\",\"client\":4,\"script\":\"/sw.js\",\"scope\":\"/\"}\n")
     ≡ record {
       transcript =
-    codes "- restarted -> 0 registrations 0 caches\n"
-    ++ codes "L1.0 open -> none\n"
-    ++ codes "L1.1 register -> j0\n"
-    ++ codes "L1.2 register -> j1\n"
-    ++ codes "L1.3 register -> j2 joined j1\n"
-    ++ codes "- run j0 -> fetch 0 | mapped r0\n"
-    ++ codes "- fetched j0 -> changed | w0 parsed\n"
-    ++ codes "- evaluated j0 -> installing | w0 installing | settled j0 r0 | updatefound r0\n"
-    ++ codes "- installed j0 -> ok | w0 installed\n"
-    ++ codes "- run j1 -> fetch 1\n"
-    ++ codes "- fetched j1 -> rejected | settled j1 TypeError network | settled j2 TypeError network\n"
-    ++ codes "- tryactivate r0 -> w0 | w0 activating\n"
-    ++ codes "- activated w0 -> ok | w0 activated\n"
-    ++ codes "end done\n";
+          codes "- restarted -> 0 registrations 0 caches\n"
+          ++ codes "L1.0 open -> none\n"
+          ++ codes "L1.1 register -> j0\n"
+          ++ codes "L1.2 register -> j1\n"
+          ++ codes "L1.3 register -> j2 joined j1\n"
+          ++ codes "- run j0 -> fetch 0 | mapped r0\n"
+          ++ codes "- fetched j0 -> changed | w0 parsed\n"
+          ++ codes "- evaluated j0 -> installing | w0 installing | settled j0 r0 | updatefound r0\n"
+          ++ codes "- installed j0 -> ok | w0 installed\n"
+          ++ codes "- run j1 -> fetch 1\n"
+          ++ codes "- fetched j1 -> rejected | settled j1 TypeError network | settled j2 TypeError network\n"
+          ++ codes "- tryactivate r0 -> w0 | w0 activating\n"
+          ++ codes "- activated w0 -> ok | w0 activated\n"
+          ++ codes "end done\n";
       shown =
-    codes "registrations 1\n"
-    ++ codes "registration \"https://xn--nxa.test\" \"https://xn--nxa.test/\" imports\n"
-    ++ codes " active activated \"https://xn--nxa.test/sw.js\" module 5\n"
-    ++ codes "caches 0\n";
+          codes "registrations 1\n"
+          ++ codes "registration \"https://xn--nxa.test\" \"https://xn--nxa.test/\" imports\n"
+          ++ codes " active activated \"https://xn--nxa.test/sw.js\" module 5\n"
+          ++ codes "caches 0\n";
       durable =
-    codes "registrations 1\n"
-    ++ codes "registration \"https://xn--nxa.test\" \"https://xn--nxa.test/\" imports\n"
-    ++ codes " active activated \"https://xn--nxa.test/sw.js\" module 5\n"
-    ++ codes "caches 0\n";
+          codes "registrations 1\n"
+          ++ codes "registration \"https://xn--nxa.test\" \"https://xn--nxa.test/\" imports\n"
+          ++ codes " active activated \"https://xn--nxa.test/sw.js\" module 5\n"
+          ++ codes "caches 0\n";
     }
 unfolding digits escape_byte grammar_on_literals steps_on_literals
 row_198 = refl
@@ -90,29 +90,29 @@ row_226 :
     ++ codes "{\"lane\":0,\"do\":\"register\",\"client\":4,\"script\":\"/other.js\",\"scope\":\"/\"}\n")
     ≡ record {
       transcript =
-    codes "- restarted -> 0 registrations 0 caches\n"
-    ++ codes "L0.0 open -> none\n"
-    ++ codes "L0.1 register -> j0\n"
-    ++ codes "L0.2 register -> j1\n"
-    ++ codes "- run j0 -> fetch 0 | mapped r0\n"
-    ++ codes "- fetched j0 -> changed | w0 parsed\n"
-    ++ codes "- evaluated j0 -> installing | w0 installing | settled j0 r0 | updatefound r0\n"
-    ++ codes "- installed j0 -> ok | w0 installed\n"
-    ++ codes "- run j1 -> fetch 0\n"
-    ++ codes "- fetched j1 -> rejected | settled j1 TypeError status\n"
-    ++ codes "- tryactivate r0 -> w0 | w0 activating\n"
-    ++ codes "- activated w0 -> ok | w0 activated\n"
-    ++ codes "end done\n";
+          codes "- restarted -> 0 registrations 0 caches\n"
+          ++ codes "L0.0 open -> none\n"
+          ++ codes "L0.1 register -> j0\n"
+          ++ codes "L0.2 register -> j1\n"
+          ++ codes "- run j0 -> fetch 0 | mapped r0\n"
+          ++ codes "- fetched j0 -> changed | w0 parsed\n"
+          ++ codes "- evaluated j0 -> installing | w0 installing | settled j0 r0 | updatefound r0\n"
+          ++ codes "- installed j0 -> ok | w0 installed\n"
+          ++ codes "- run j1 -> fetch 0\n"
+          ++ codes "- fetched j1 -> rejected | settled j1 TypeError status\n"
+          ++ codes "- tryactivate r0 -> w0 | w0 activating\n"
+          ++ codes "- activated w0 -> ok | w0 activated\n"
+          ++ codes "end done\n";
       shown =
-    codes "registrations 1\n"
-    ++ codes "registration \"http://localhost:8080\" \"http://localhost:8080/\" imports\n"
-    ++ codes " active activated \"http://localhost:8080/sw.js\" classic 5\n"
-    ++ codes "caches 0\n";
+          codes "registrations 1\n"
+          ++ codes "registration \"http://localhost:8080\" \"http://localhost:8080/\" imports\n"
+          ++ codes " active activated \"http://localhost:8080/sw.js\" classic 5\n"
+          ++ codes "caches 0\n";
       durable =
-    codes "registrations 1\n"
-    ++ codes "registration \"http://localhost:8080\" \"http://localhost:8080/\" imports\n"
-    ++ codes " active activated \"http://localhost:8080/sw.js\" classic 5\n"
-    ++ codes "caches 0\n";
+          codes "registrations 1\n"
+          ++ codes "registration \"http://localhost:8080\" \"http://localhost:8080/\" imports\n"
+          ++ codes " active activated \"http://localhost:8080/sw.js\" classic 5\n"
+          ++ codes "caches 0\n";
     }
 unfolding digits escape_byte grammar_on_literals steps_on_literals
 row_226 = refl
@@ -126,29 +126,29 @@ row_232 :
     ++ codes "{\"lane\":0,\"do\":\"register\",\"client\":0,\"script\":\"/other.js\",\"scope\":\"/\",\"type\":\"module\"}\n")
     ≡ record {
       transcript =
-    codes "- restarted -> 0 registrations 0 caches\n"
-    ++ codes "L0.0 open -> none\n"
-    ++ codes "L0.1 register -> j0\n"
-    ++ codes "L0.2 register -> j1\n"
-    ++ codes "- run j0 -> fetch 0 | mapped r0\n"
-    ++ codes "- fetched j0 -> changed | w0 parsed\n"
-    ++ codes "- evaluated j0 -> installing | w0 installing | settled j0 r0 | updatefound r0\n"
-    ++ codes "- installed j0 -> ok | w0 installed\n"
-    ++ codes "- run j1 -> fetch 0\n"
-    ++ codes "- fetched j1 -> rejected | settled j1 SecurityError mime\n"
-    ++ codes "- tryactivate r0 -> w0 | w0 activating\n"
-    ++ codes "- activated w0 -> ok | w0 activated\n"
-    ++ codes "end done\n";
+          codes "- restarted -> 0 registrations 0 caches\n"
+          ++ codes "L0.0 open -> none\n"
+          ++ codes "L0.1 register -> j0\n"
+          ++ codes "L0.2 register -> j1\n"
+          ++ codes "- run j0 -> fetch 0 | mapped r0\n"
+          ++ codes "- fetched j0 -> changed | w0 parsed\n"
+          ++ codes "- evaluated j0 -> installing | w0 installing | settled j0 r0 | updatefound r0\n"
+          ++ codes "- installed j0 -> ok | w0 installed\n"
+          ++ codes "- run j1 -> fetch 0\n"
+          ++ codes "- fetched j1 -> rejected | settled j1 SecurityError mime\n"
+          ++ codes "- tryactivate r0 -> w0 | w0 activating\n"
+          ++ codes "- activated w0 -> ok | w0 activated\n"
+          ++ codes "end done\n";
       shown =
-    codes "registrations 1\n"
-    ++ codes "registration \"http://[::1]:3000\" \"http://[::1]:3000/\" imports\n"
-    ++ codes " active activated \"http://[::1]:3000/sw.js\" classic 5\n"
-    ++ codes "caches 0\n";
+          codes "registrations 1\n"
+          ++ codes "registration \"http://[::1]:3000\" \"http://[::1]:3000/\" imports\n"
+          ++ codes " active activated \"http://[::1]:3000/sw.js\" classic 5\n"
+          ++ codes "caches 0\n";
       durable =
-    codes "registrations 1\n"
-    ++ codes "registration \"http://[::1]:3000\" \"http://[::1]:3000/\" imports\n"
-    ++ codes " active activated \"http://[::1]:3000/sw.js\" classic 5\n"
-    ++ codes "caches 0\n";
+          codes "registrations 1\n"
+          ++ codes "registration \"http://[::1]:3000\" \"http://[::1]:3000/\" imports\n"
+          ++ codes " active activated \"http://[::1]:3000/sw.js\" classic 5\n"
+          ++ codes "caches 0\n";
     }
 unfolding digits escape_byte grammar_on_literals steps_on_literals
 row_232 = refl
@@ -163,30 +163,30 @@ row_287 :
     ++ codes "{\"lane\":1,\"do\":\"register\",\"client\":7,\"script\":\"/sw.js\",\"scope\":\"/\"}\n")
     ≡ record {
       transcript =
-    codes "- restarted -> 0 registrations 0 caches\n"
-    ++ codes "L1.0 open -> none\n"
-    ++ codes "L1.1 register -> j0\n"
-    ++ codes "L1.2 register -> j1\n"
-    ++ codes "L1.3 register -> j2 joined j1\n"
-    ++ codes "- run j0 -> fetch 0 | mapped r0\n"
-    ++ codes "- fetched j0 -> changed | w0 parsed\n"
-    ++ codes "- evaluated j0 -> installing | w0 installing | settled j0 r0 | updatefound r0\n"
-    ++ codes "- installed j0 -> ok | w0 installed\n"
-    ++ codes "- run j1 -> fetch 1\n"
-    ++ codes "- fetched j1 -> rejected | settled j1 SecurityError scope | settled j2 SecurityError scope\n"
-    ++ codes "- tryactivate r0 -> w0 | w0 activating\n"
-    ++ codes "- activated w0 -> ok | w0 activated\n"
-    ++ codes "end done\n";
+          codes "- restarted -> 0 registrations 0 caches\n"
+          ++ codes "L1.0 open -> none\n"
+          ++ codes "L1.1 register -> j0\n"
+          ++ codes "L1.2 register -> j1\n"
+          ++ codes "L1.3 register -> j2 joined j1\n"
+          ++ codes "- run j0 -> fetch 0 | mapped r0\n"
+          ++ codes "- fetched j0 -> changed | w0 parsed\n"
+          ++ codes "- evaluated j0 -> installing | w0 installing | settled j0 r0 | updatefound r0\n"
+          ++ codes "- installed j0 -> ok | w0 installed\n"
+          ++ codes "- run j1 -> fetch 1\n"
+          ++ codes "- fetched j1 -> rejected | settled j1 SecurityError scope | settled j2 SecurityError scope\n"
+          ++ codes "- tryactivate r0 -> w0 | w0 activating\n"
+          ++ codes "- activated w0 -> ok | w0 activated\n"
+          ++ codes "end done\n";
       shown =
-    codes "registrations 1\n"
-    ++ codes "registration \"https://a.test\" \"https://a.test/\" all\n"
-    ++ codes " active activated \"https://a.test/sw.js\" classic 5\n"
-    ++ codes "caches 0\n";
+          codes "registrations 1\n"
+          ++ codes "registration \"https://a.test\" \"https://a.test/\" all\n"
+          ++ codes " active activated \"https://a.test/sw.js\" classic 5\n"
+          ++ codes "caches 0\n";
       durable =
-    codes "registrations 1\n"
-    ++ codes "registration \"https://a.test\" \"https://a.test/\" all\n"
-    ++ codes " active activated \"https://a.test/sw.js\" classic 5\n"
-    ++ codes "caches 0\n";
+          codes "registrations 1\n"
+          ++ codes "registration \"https://a.test\" \"https://a.test/\" all\n"
+          ++ codes " active activated \"https://a.test/sw.js\" classic 5\n"
+          ++ codes "caches 0\n";
     }
 unfolding digits escape_byte grammar_on_literals steps_on_literals
 row_287 = refl
@@ -204,34 +204,34 @@ row_290 :
     ++ codes "{\"lane\":2,\"do\":\"register\",\"client\":0,\"script\":\"/sw.js\",\"scope\":\"/\"}\n")
     ≡ record {
       transcript =
-    codes "- restarted -> 0 registrations 0 caches\n"
-    ++ codes "L2.0 open -> none\n"
-    ++ codes "L2.1 register -> j0\n"
-    ++ codes "L2.2 register -> j1\n"
-    ++ codes "L2.3 register -> j2\n"
-    ++ codes "L2.4 register -> j3 joined j2\n"
-    ++ codes "L2.5 register -> j4 joined j2\n"
-    ++ codes "L2.6 register -> j5 joined j2\n"
-    ++ codes "- run j0 -> fetch 0 | mapped r0\n"
-    ++ codes "- fetched j0 -> changed | w0 parsed\n"
-    ++ codes "- evaluated j0 -> installing | w0 installing | settled j0 r0 | updatefound r0\n"
-    ++ codes "- installed j0 -> ok | w0 installed\n"
-    ++ codes "- run j1 -> fetch 1\n"
-    ++ codes "- fetched j1 -> rejected | settled j1 SecurityError mime\n"
-    ++ codes "- run j2 -> finished | settled j2 r0 | settled j3 r0 | settled j4 r0 | settled j5 r0\n"
-    ++ codes "- tryactivate r0 -> w0 | w0 activating\n"
-    ++ codes "- activated w0 -> ok | w0 activated\n"
-    ++ codes "end done\n";
+          codes "- restarted -> 0 registrations 0 caches\n"
+          ++ codes "L2.0 open -> none\n"
+          ++ codes "L2.1 register -> j0\n"
+          ++ codes "L2.2 register -> j1\n"
+          ++ codes "L2.3 register -> j2\n"
+          ++ codes "L2.4 register -> j3 joined j2\n"
+          ++ codes "L2.5 register -> j4 joined j2\n"
+          ++ codes "L2.6 register -> j5 joined j2\n"
+          ++ codes "- run j0 -> fetch 0 | mapped r0\n"
+          ++ codes "- fetched j0 -> changed | w0 parsed\n"
+          ++ codes "- evaluated j0 -> installing | w0 installing | settled j0 r0 | updatefound r0\n"
+          ++ codes "- installed j0 -> ok | w0 installed\n"
+          ++ codes "- run j1 -> fetch 1\n"
+          ++ codes "- fetched j1 -> rejected | settled j1 SecurityError mime\n"
+          ++ codes "- run j2 -> finished | settled j2 r0 | settled j3 r0 | settled j4 r0 | settled j5 r0\n"
+          ++ codes "- tryactivate r0 -> w0 | w0 activating\n"
+          ++ codes "- activated w0 -> ok | w0 activated\n"
+          ++ codes "end done\n";
       shown =
-    codes "registrations 1\n"
-    ++ codes "registration \"http://127.0.0.1\" \"http://127.0.0.1/\" imports\n"
-    ++ codes " active activated \"http://127.0.0.1/sw.js\" classic 5\n"
-    ++ codes "caches 0\n";
+          codes "registrations 1\n"
+          ++ codes "registration \"http://127.0.0.1\" \"http://127.0.0.1/\" imports\n"
+          ++ codes " active activated \"http://127.0.0.1/sw.js\" classic 5\n"
+          ++ codes "caches 0\n";
       durable =
-    codes "registrations 1\n"
-    ++ codes "registration \"http://127.0.0.1\" \"http://127.0.0.1/\" imports\n"
-    ++ codes " active activated \"http://127.0.0.1/sw.js\" classic 5\n"
-    ++ codes "caches 0\n";
+          codes "registrations 1\n"
+          ++ codes "registration \"http://127.0.0.1\" \"http://127.0.0.1/\" imports\n"
+          ++ codes " active activated \"http://127.0.0.1/sw.js\" classic 5\n"
+          ++ codes "caches 0\n";
     }
 unfolding digits escape_byte grammar_on_literals steps_on_literals
 row_290 = refl
@@ -248,32 +248,32 @@ row_302 :
     ++ codes "{\"lane\":1,\"do\":\"register\",\"client\":1,\"script\":\"/sw.js\",\"scope\":\"/\",\"cache\":\"imports\"}\n")
     ≡ record {
       transcript =
-    codes "- restarted -> 0 registrations 0 caches\n"
-    ++ codes "L1.0 open -> none\n"
-    ++ codes "L1.1 register -> j0\n"
-    ++ codes "L1.2 open -> none\n"
-    ++ codes "L1.3 register -> j1\n"
-    ++ codes "L1.4 register -> j2 joined j1\n"
-    ++ codes "L1.5 register -> j3 joined j1\n"
-    ++ codes "- run j0 -> fetch 0 | mapped r0\n"
-    ++ codes "- fetched j0 -> changed | w0 parsed\n"
-    ++ codes "- evaluated j0 -> installing | w0 installing | settled j0 r0 | updatefound r0\n"
-    ++ codes "- installed j0 -> ok | w0 installed\n"
-    ++ codes "- run j1 -> fetch 0\n"
-    ++ codes "- fetched j1 -> rejected | settled j1 TypeError status | settled j2 TypeError status | settled j3 TypeError status\n"
-    ++ codes "- tryactivate r0 -> w0 | w0 activating\n"
-    ++ codes "- activated w0 -> ok | w0 activated\n"
-    ++ codes "end done\n";
+          codes "- restarted -> 0 registrations 0 caches\n"
+          ++ codes "L1.0 open -> none\n"
+          ++ codes "L1.1 register -> j0\n"
+          ++ codes "L1.2 open -> none\n"
+          ++ codes "L1.3 register -> j1\n"
+          ++ codes "L1.4 register -> j2 joined j1\n"
+          ++ codes "L1.5 register -> j3 joined j1\n"
+          ++ codes "- run j0 -> fetch 0 | mapped r0\n"
+          ++ codes "- fetched j0 -> changed | w0 parsed\n"
+          ++ codes "- evaluated j0 -> installing | w0 installing | settled j0 r0 | updatefound r0\n"
+          ++ codes "- installed j0 -> ok | w0 installed\n"
+          ++ codes "- run j1 -> fetch 0\n"
+          ++ codes "- fetched j1 -> rejected | settled j1 TypeError status | settled j2 TypeError status | settled j3 TypeError status\n"
+          ++ codes "- tryactivate r0 -> w0 | w0 activating\n"
+          ++ codes "- activated w0 -> ok | w0 activated\n"
+          ++ codes "end done\n";
       shown =
-    codes "registrations 1\n"
-    ++ codes "registration \"https://b.test\" \"https://b.test/\" imports\n"
-    ++ codes " active activated \"https://b.test/other.js\" module 5\n"
-    ++ codes "caches 0\n";
+          codes "registrations 1\n"
+          ++ codes "registration \"https://b.test\" \"https://b.test/\" imports\n"
+          ++ codes " active activated \"https://b.test/other.js\" module 5\n"
+          ++ codes "caches 0\n";
       durable =
-    codes "registrations 1\n"
-    ++ codes "registration \"https://b.test\" \"https://b.test/\" imports\n"
-    ++ codes " active activated \"https://b.test/other.js\" module 5\n"
-    ++ codes "caches 0\n";
+          codes "registrations 1\n"
+          ++ codes "registration \"https://b.test\" \"https://b.test/\" imports\n"
+          ++ codes " active activated \"https://b.test/other.js\" module 5\n"
+          ++ codes "caches 0\n";
     }
 unfolding digits escape_byte grammar_on_literals steps_on_literals
 row_302 = refl
@@ -288,30 +288,30 @@ row_306 :
     ++ codes "{\"lane\":1,\"do\":\"register\",\"client\":7,\"script\":\"/sw.js\",\"scope\":\"/\"}\n")
     ≡ record {
       transcript =
-    codes "- restarted -> 0 registrations 0 caches\n"
-    ++ codes "L1.0 open -> none\n"
-    ++ codes "L1.1 register -> j0\n"
-    ++ codes "L1.2 register -> j1\n"
-    ++ codes "L1.3 register -> j2 joined j1\n"
-    ++ codes "- run j0 -> fetch 0 | mapped r0\n"
-    ++ codes "- fetched j0 -> changed | w0 parsed\n"
-    ++ codes "- evaluated j0 -> installing | w0 installing | settled j0 r0 | updatefound r0\n"
-    ++ codes "- installed j0 -> ok | w0 installed\n"
-    ++ codes "- run j1 -> fetch 1\n"
-    ++ codes "- fetched j1 -> rejected | settled j1 TypeError status | settled j2 TypeError status\n"
-    ++ codes "- tryactivate r0 -> w0 | w0 activating\n"
-    ++ codes "- activated w0 -> ok | w0 activated\n"
-    ++ codes "end done\n";
+          codes "- restarted -> 0 registrations 0 caches\n"
+          ++ codes "L1.0 open -> none\n"
+          ++ codes "L1.1 register -> j0\n"
+          ++ codes "L1.2 register -> j1\n"
+          ++ codes "L1.3 register -> j2 joined j1\n"
+          ++ codes "- run j0 -> fetch 0 | mapped r0\n"
+          ++ codes "- fetched j0 -> changed | w0 parsed\n"
+          ++ codes "- evaluated j0 -> installing | w0 installing | settled j0 r0 | updatefound r0\n"
+          ++ codes "- installed j0 -> ok | w0 installed\n"
+          ++ codes "- run j1 -> fetch 1\n"
+          ++ codes "- fetched j1 -> rejected | settled j1 TypeError status | settled j2 TypeError status\n"
+          ++ codes "- tryactivate r0 -> w0 | w0 activating\n"
+          ++ codes "- activated w0 -> ok | w0 activated\n"
+          ++ codes "end done\n";
       shown =
-    codes "registrations 1\n"
-    ++ codes "registration \"https://b.test\" \"https://b.test/\" all\n"
-    ++ codes " active activated \"https://b.test/sw.js\" classic 5\n"
-    ++ codes "caches 0\n";
+          codes "registrations 1\n"
+          ++ codes "registration \"https://b.test\" \"https://b.test/\" all\n"
+          ++ codes " active activated \"https://b.test/sw.js\" classic 5\n"
+          ++ codes "caches 0\n";
       durable =
-    codes "registrations 1\n"
-    ++ codes "registration \"https://b.test\" \"https://b.test/\" all\n"
-    ++ codes " active activated \"https://b.test/sw.js\" classic 5\n"
-    ++ codes "caches 0\n";
+          codes "registrations 1\n"
+          ++ codes "registration \"https://b.test\" \"https://b.test/\" all\n"
+          ++ codes " active activated \"https://b.test/sw.js\" classic 5\n"
+          ++ codes "caches 0\n";
     }
 unfolding digits escape_byte grammar_on_literals steps_on_literals
 row_306 = refl

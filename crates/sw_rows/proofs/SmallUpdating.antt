@@ -15,30 +15,30 @@ row_044 :
     ++ codes "{\"lane\":0,\"do\":\"update\",\"client\":27,\"scope\":\"/f76/\"}\n")
     ≡ record {
       transcript =
-    codes "- restarted -> 0 registrations 0 caches\n"
-    ++ codes "L0.0 open -> none\n"
-    ++ codes "L0.1 register -> j0\n"
-    ++ codes "- run j0 -> fetch 0 | mapped r0\n"
-    ++ codes "- fetched j0 -> changed | w0 parsed\n"
-    ++ codes "- evaluated j0 -> installing | w0 installing | settled j0 r0 | updatefound r0\n"
-    ++ codes "L0.2 await -> r0\n"
-    ++ codes "L0.3 update -> j1\n"
-    ++ codes "- installed j0 -> ok | w0 installed\n"
-    ++ codes "- run j1 -> fetch 1\n"
-    ++ codes "- fetched j1 -> unchanged | settled j1 r0\n"
-    ++ codes "- tryactivate r0 -> w0 | w0 activating\n"
-    ++ codes "- activated w0 -> ok | w0 activated\n"
-    ++ codes "end done\n";
+          codes "- restarted -> 0 registrations 0 caches\n"
+          ++ codes "L0.0 open -> none\n"
+          ++ codes "L0.1 register -> j0\n"
+          ++ codes "- run j0 -> fetch 0 | mapped r0\n"
+          ++ codes "- fetched j0 -> changed | w0 parsed\n"
+          ++ codes "- evaluated j0 -> installing | w0 installing | settled j0 r0 | updatefound r0\n"
+          ++ codes "L0.2 await -> r0\n"
+          ++ codes "L0.3 update -> j1\n"
+          ++ codes "- installed j0 -> ok | w0 installed\n"
+          ++ codes "- run j1 -> fetch 1\n"
+          ++ codes "- fetched j1 -> unchanged | settled j1 r0\n"
+          ++ codes "- tryactivate r0 -> w0 | w0 activating\n"
+          ++ codes "- activated w0 -> ok | w0 activated\n"
+          ++ codes "end done\n";
       shown =
-    codes "registrations 1\n"
-    ++ codes "registration \"https://a.test\" \"https://a.test/f76/\" imports\n"
-    ++ codes " active activated \"https://a.test/f76/sw15.js\" classic 9\n"
-    ++ codes "caches 0\n";
+          codes "registrations 1\n"
+          ++ codes "registration \"https://a.test\" \"https://a.test/f76/\" imports\n"
+          ++ codes " active activated \"https://a.test/f76/sw15.js\" classic 9\n"
+          ++ codes "caches 0\n";
       durable =
-    codes "registrations 1\n"
-    ++ codes "registration \"https://a.test\" \"https://a.test/f76/\" imports\n"
-    ++ codes " active activated \"https://a.test/f76/sw15.js\" classic 9\n"
-    ++ codes "caches 0\n";
+          codes "registrations 1\n"
+          ++ codes "registration \"https://a.test\" \"https://a.test/f76/\" imports\n"
+          ++ codes " active activated \"https://a.test/f76/sw15.js\" classic 9\n"
+          ++ codes "caches 0\n";
     }
 unfolding digits escape_byte grammar_on_literals steps_on_literals
 row_044 = refl
@@ -54,35 +54,35 @@ row_058 :
     ++ codes "{\"lane\":1,\"do\":\"update\",\"client\":26,\"scope\":\"/f55/\"}\n")
     ≡ record {
       transcript =
-    codes "- restarted -> 0 registrations 0 caches\n"
-    ++ codes "L1.0 open -> none\n"
-    ++ codes "L1.1 register -> j0\n"
-    ++ codes "L1.2 open -> none\n"
-    ++ codes "- run j0 -> fetch 0 | mapped r0\n"
-    ++ codes "- fetched j0 -> changed | w0 parsed\n"
-    ++ codes "- evaluated j0 -> installing | w0 installing | settled j0 r0 | updatefound r0\n"
-    ++ codes "- installed j0 -> ok | w0 installed\n"
-    ++ codes "- tryactivate r0 -> w0 | w0 activating\n"
-    ++ codes "L1.3 ready -> r0\n"
-    ++ codes "L1.4 update -> j1\n"
-    ++ codes "- run j1 -> fetch 1\n"
-    ++ codes "- fetched j1 -> changed | w1 parsed\n"
-    ++ codes "- evaluated j1 -> installing | w1 installing | settled j1 r0 | updatefound r0\n"
-    ++ codes "- installed j1 -> ok | w1 installed\n"
-    ++ codes "- tryactivate r0 -> none\n"
-    ++ codes "- activated w0 -> ok | w0 activated | w0 redundant | w1 activating\n"
-    ++ codes "- activated w1 -> ok | w1 activated\n"
-    ++ codes "end done\n";
+          codes "- restarted -> 0 registrations 0 caches\n"
+          ++ codes "L1.0 open -> none\n"
+          ++ codes "L1.1 register -> j0\n"
+          ++ codes "L1.2 open -> none\n"
+          ++ codes "- run j0 -> fetch 0 | mapped r0\n"
+          ++ codes "- fetched j0 -> changed | w0 parsed\n"
+          ++ codes "- evaluated j0 -> installing | w0 installing | settled j0 r0 | updatefound r0\n"
+          ++ codes "- installed j0 -> ok | w0 installed\n"
+          ++ codes "- tryactivate r0 -> w0 | w0 activating\n"
+          ++ codes "L1.3 ready -> r0\n"
+          ++ codes "L1.4 update -> j1\n"
+          ++ codes "- run j1 -> fetch 1\n"
+          ++ codes "- fetched j1 -> changed | w1 parsed\n"
+          ++ codes "- evaluated j1 -> installing | w1 installing | settled j1 r0 | updatefound r0\n"
+          ++ codes "- installed j1 -> ok | w1 installed\n"
+          ++ codes "- tryactivate r0 -> none\n"
+          ++ codes "- activated w0 -> ok | w0 activated | w0 redundant | w1 activating\n"
+          ++ codes "- activated w1 -> ok | w1 activated\n"
+          ++ codes "end done\n";
       shown =
-    codes "registrations 1\n"
-    ++ codes "registration \"http://x.localhost\" \"http://x.localhost/f55/\" imports\n"
-    ++ codes " active activated \"http://x.localhost/f55/sw22.js\" classic 9\n"
-    ++ codes "caches 0\n";
+          codes "registrations 1\n"
+          ++ codes "registration \"http://x.localhost\" \"http://x.localhost/f55/\" imports\n"
+          ++ codes " active activated \"http://x.localhost/f55/sw22.js\" classic 9\n"
+          ++ codes "caches 0\n";
       durable =
-    codes "registrations 1\n"
-    ++ codes "registration \"http://x.localhost\" \"http://x.localhost/f55/\" imports\n"
-    ++ codes " active activated \"http://x.localhost/f55/sw22.js\" classic 9\n"
-    ++ codes "caches 0\n";
+          codes "registrations 1\n"
+          ++ codes "registration \"http://x.localhost\" \"http://x.localhost/f55/\" imports\n"
+          ++ codes " active activated \"http://x.localhost/f55/sw22.js\" classic 9\n"
+          ++ codes "caches 0\n";
     }
 unfolding digits escape_byte grammar_on_literals steps_on_literals
 row_058 = refl
@@ -97,31 +97,31 @@ row_136 :
     ++ codes "{\"lane\":0,\"do\":\"update\",\"client\":9,\"scope\":\"./\"}\n")
     ≡ record {
       transcript =
-    codes "- restarted -> 0 registrations 0 caches\n"
-    ++ codes "L0.0 open -> none\n"
-    ++ codes "L0.1 register -> j0\n"
-    ++ codes "- run j0 -> fetch 0 | mapped r0\n"
-    ++ codes "- fetched j0 -> changed | w0 parsed\n"
-    ++ codes "- evaluated j0 -> installing | w0 installing | settled j0 r0 | updatefound r0\n"
-    ++ codes "L0.2 await -> r0\n"
-    ++ codes "L0.3 update -> j1\n"
-    ++ codes "L0.4 update -> j2 joined j1\n"
-    ++ codes "- installed j0 -> ok | w0 installed\n"
-    ++ codes "- run j1 -> fetch 1\n"
-    ++ codes "- fetched j1 -> unchanged | settled j1 r0 | settled j2 r0\n"
-    ++ codes "- tryactivate r0 -> w0 | w0 activating\n"
-    ++ codes "- activated w0 -> ok | w0 activated\n"
-    ++ codes "end done\n";
+          codes "- restarted -> 0 registrations 0 caches\n"
+          ++ codes "L0.0 open -> none\n"
+          ++ codes "L0.1 register -> j0\n"
+          ++ codes "- run j0 -> fetch 0 | mapped r0\n"
+          ++ codes "- fetched j0 -> changed | w0 parsed\n"
+          ++ codes "- evaluated j0 -> installing | w0 installing | settled j0 r0 | updatefound r0\n"
+          ++ codes "L0.2 await -> r0\n"
+          ++ codes "L0.3 update -> j1\n"
+          ++ codes "L0.4 update -> j2 joined j1\n"
+          ++ codes "- installed j0 -> ok | w0 installed\n"
+          ++ codes "- run j1 -> fetch 1\n"
+          ++ codes "- fetched j1 -> unchanged | settled j1 r0 | settled j2 r0\n"
+          ++ codes "- tryactivate r0 -> w0 | w0 activating\n"
+          ++ codes "- activated w0 -> ok | w0 activated\n"
+          ++ codes "end done\n";
       shown =
-    codes "registrations 1\n"
-    ++ codes "registration \"https://xn--nxa.test\" \"https://xn--nxa.test/\" imports\n"
-    ++ codes " active activated \"https://xn--nxa.test/sw.js\" classic 5\n"
-    ++ codes "caches 0\n";
+          codes "registrations 1\n"
+          ++ codes "registration \"https://xn--nxa.test\" \"https://xn--nxa.test/\" imports\n"
+          ++ codes " active activated \"https://xn--nxa.test/sw.js\" classic 5\n"
+          ++ codes "caches 0\n";
       durable =
-    codes "registrations 1\n"
-    ++ codes "registration \"https://xn--nxa.test\" \"https://xn--nxa.test/\" imports\n"
-    ++ codes " active activated \"https://xn--nxa.test/sw.js\" classic 5\n"
-    ++ codes "caches 0\n";
+          codes "registrations 1\n"
+          ++ codes "registration \"https://xn--nxa.test\" \"https://xn--nxa.test/\" imports\n"
+          ++ codes " active activated \"https://xn--nxa.test/sw.js\" classic 5\n"
+          ++ codes "caches 0\n";
     }
 unfolding digits escape_byte grammar_on_literals steps_on_literals
 row_136 = refl
@@ -135,30 +135,30 @@ row_164 :
     ++ codes "{\"lane\":0,\"do\":\"softUpdate\",\"client\":21,\"scope\":\"/f65/\"}\n")
     ≡ record {
       transcript =
-    codes "- restarted -> 0 registrations 0 caches\n"
-    ++ codes "L0.0 open -> none\n"
-    ++ codes "L0.1 register -> j0\n"
-    ++ codes "- run j0 -> fetch 0 | mapped r0\n"
-    ++ codes "- fetched j0 -> changed | w0 parsed\n"
-    ++ codes "- evaluated j0 -> installing | w0 installing | settled j0 r0 | updatefound r0\n"
-    ++ codes "L0.2 await -> r0\n"
-    ++ codes "L0.3 softUpdate -> j1\n"
-    ++ codes "- installed j0 -> ok | w0 installed\n"
-    ++ codes "- run j1 -> fetch 1\n"
-    ++ codes "- fetched j1 -> unchanged\n"
-    ++ codes "- tryactivate r0 -> w0 | w0 activating\n"
-    ++ codes "- activated w0 -> ok | w0 activated\n"
-    ++ codes "end done\n";
+          codes "- restarted -> 0 registrations 0 caches\n"
+          ++ codes "L0.0 open -> none\n"
+          ++ codes "L0.1 register -> j0\n"
+          ++ codes "- run j0 -> fetch 0 | mapped r0\n"
+          ++ codes "- fetched j0 -> changed | w0 parsed\n"
+          ++ codes "- evaluated j0 -> installing | w0 installing | settled j0 r0 | updatefound r0\n"
+          ++ codes "L0.2 await -> r0\n"
+          ++ codes "L0.3 softUpdate -> j1\n"
+          ++ codes "- installed j0 -> ok | w0 installed\n"
+          ++ codes "- run j1 -> fetch 1\n"
+          ++ codes "- fetched j1 -> unchanged\n"
+          ++ codes "- tryactivate r0 -> w0 | w0 activating\n"
+          ++ codes "- activated w0 -> ok | w0 activated\n"
+          ++ codes "end done\n";
       shown =
-    codes "registrations 1\n"
-    ++ codes "registration \"http://x.localhost\" \"http://x.localhost/f65/\" imports\n"
-    ++ codes " active activated \"http://x.localhost/f65/sw69.js\" classic 9\n"
-    ++ codes "caches 0\n";
+          codes "registrations 1\n"
+          ++ codes "registration \"http://x.localhost\" \"http://x.localhost/f65/\" imports\n"
+          ++ codes " active activated \"http://x.localhost/f65/sw69.js\" classic 9\n"
+          ++ codes "caches 0\n";
       durable =
-    codes "registrations 1\n"
-    ++ codes "registration \"http://x.localhost\" \"http://x.localhost/f65/\" imports\n"
-    ++ codes " active activated \"http://x.localhost/f65/sw69.js\" classic 9\n"
-    ++ codes "caches 0\n";
+          codes "registrations 1\n"
+          ++ codes "registration \"http://x.localhost\" \"http://x.localhost/f65/\" imports\n"
+          ++ codes " active activated \"http://x.localhost/f65/sw69.js\" classic 9\n"
+          ++ codes "caches 0\n";
     }
 unfolding digits escape_byte grammar_on_literals steps_on_literals
 row_164 = refl
@@ -173,31 +173,31 @@ row_185 :
     ++ codes "{\"lane\":2,\"do\":\"softUpdate\",\"client\":8,\"scope\":\"./\"}\n")
     ≡ record {
       transcript =
-    codes "- restarted -> 0 registrations 0 caches\n"
-    ++ codes "L2.0 open -> none\n"
-    ++ codes "L2.1 register -> j0\n"
-    ++ codes "- run j0 -> fetch 0 | mapped r0\n"
-    ++ codes "- fetched j0 -> changed | w0 parsed\n"
-    ++ codes "- evaluated j0 -> installing | w0 installing | settled j0 r0 | updatefound r0\n"
-    ++ codes "L2.2 await -> r0\n"
-    ++ codes "L2.3 update -> j1\n"
-    ++ codes "L2.4 softUpdate -> j2 joined j1\n"
-    ++ codes "- installed j0 -> ok | w0 installed\n"
-    ++ codes "- run j1 -> fetch 1\n"
-    ++ codes "- fetched j1 -> unchanged | settled j1 r0\n"
-    ++ codes "- tryactivate r0 -> w0 | w0 activating\n"
-    ++ codes "- activated w0 -> ok | w0 activated\n"
-    ++ codes "end done\n";
+          codes "- restarted -> 0 registrations 0 caches\n"
+          ++ codes "L2.0 open -> none\n"
+          ++ codes "L2.1 register -> j0\n"
+          ++ codes "- run j0 -> fetch 0 | mapped r0\n"
+          ++ codes "- fetched j0 -> changed | w0 parsed\n"
+          ++ codes "- evaluated j0 -> installing | w0 installing | settled j0 r0 | updatefound r0\n"
+          ++ codes "L2.2 await -> r0\n"
+          ++ codes "L2.3 update -> j1\n"
+          ++ codes "L2.4 softUpdate -> j2 joined j1\n"
+          ++ codes "- installed j0 -> ok | w0 installed\n"
+          ++ codes "- run j1 -> fetch 1\n"
+          ++ codes "- fetched j1 -> unchanged | settled j1 r0\n"
+          ++ codes "- tryactivate r0 -> w0 | w0 activating\n"
+          ++ codes "- activated w0 -> ok | w0 activated\n"
+          ++ codes "end done\n";
       shown =
-    codes "registrations 1\n"
-    ++ codes "registration \"http://127.9.0.1:99\" \"http://127.9.0.1:99/\" imports\n"
-    ++ codes " active activated \"http://127.9.0.1:99/sw.js\" classic 5\n"
-    ++ codes "caches 0\n";
+          codes "registrations 1\n"
+          ++ codes "registration \"http://127.9.0.1:99\" \"http://127.9.0.1:99/\" imports\n"
+          ++ codes " active activated \"http://127.9.0.1:99/sw.js\" classic 5\n"
+          ++ codes "caches 0\n";
       durable =
-    codes "registrations 1\n"
-    ++ codes "registration \"http://127.9.0.1:99\" \"http://127.9.0.1:99/\" imports\n"
-    ++ codes " active activated \"http://127.9.0.1:99/sw.js\" classic 5\n"
-    ++ codes "caches 0\n";
+          codes "registrations 1\n"
+          ++ codes "registration \"http://127.9.0.1:99\" \"http://127.9.0.1:99/\" imports\n"
+          ++ codes " active activated \"http://127.9.0.1:99/sw.js\" classic 5\n"
+          ++ codes "caches 0\n";
     }
 unfolding digits escape_byte grammar_on_literals steps_on_literals
 row_185 = refl
@@ -212,30 +212,30 @@ row_186 :
     ++ codes "{\"lane\":2,\"do\":\"update\",\"client\":8,\"scope\":\"./\"}\n")
     ≡ record {
       transcript =
-    codes "- restarted -> 0 registrations 0 caches\n"
-    ++ codes "L2.0 open -> none\n"
-    ++ codes "L2.1 register -> j0\n"
-    ++ codes "- run j0 -> fetch 0 | mapped r0\n"
-    ++ codes "- fetched j0 -> changed | w0 parsed\n"
-    ++ codes "- evaluated j0 -> installing | w0 installing | settled j0 r0 | updatefound r0\n"
-    ++ codes "L2.2 await -> r0\n"
-    ++ codes "L2.3 update -> j1\n"
-    ++ codes "- installed j0 -> ok | w0 installed\n"
-    ++ codes "- run j1 -> fetch 1\n"
-    ++ codes "- fetched j1 -> rejected | settled j1 SecurityError scope\n"
-    ++ codes "- tryactivate r0 -> w0 | w0 activating\n"
-    ++ codes "- activated w0 -> ok | w0 activated\n"
-    ++ codes "end done\n";
+          codes "- restarted -> 0 registrations 0 caches\n"
+          ++ codes "L2.0 open -> none\n"
+          ++ codes "L2.1 register -> j0\n"
+          ++ codes "- run j0 -> fetch 0 | mapped r0\n"
+          ++ codes "- fetched j0 -> changed | w0 parsed\n"
+          ++ codes "- evaluated j0 -> installing | w0 installing | settled j0 r0 | updatefound r0\n"
+          ++ codes "L2.2 await -> r0\n"
+          ++ codes "L2.3 update -> j1\n"
+          ++ codes "- installed j0 -> ok | w0 installed\n"
+          ++ codes "- run j1 -> fetch 1\n"
+          ++ codes "- fetched j1 -> rejected | settled j1 SecurityError scope\n"
+          ++ codes "- tryactivate r0 -> w0 | w0 activating\n"
+          ++ codes "- activated w0 -> ok | w0 activated\n"
+          ++ codes "end done\n";
       shown =
-    codes "registrations 1\n"
-    ++ codes "registration \"http://127.9.0.1:99\" \"http://127.9.0.1:99/\" imports\n"
-    ++ codes " active activated \"http://127.9.0.1:99/sw.js\" classic 5\n"
-    ++ codes "caches 0\n";
+          codes "registrations 1\n"
+          ++ codes "registration \"http://127.9.0.1:99\" \"http://127.9.0.1:99/\" imports\n"
+          ++ codes " active activated \"http://127.9.0.1:99/sw.js\" classic 5\n"
+          ++ codes "caches 0\n";
       durable =
-    codes "registrations 1\n"
-    ++ codes "registration \"http://127.9.0.1:99\" \"http://127.9.0.1:99/\" imports\n"
-    ++ codes " active activated \"http://127.9.0.1:99/sw.js\" classic 5\n"
-    ++ codes "caches 0\n";
+          codes "registrations 1\n"
+          ++ codes "registration \"http://127.9.0.1:99\" \"http://127.9.0.1:99/\" imports\n"
+          ++ codes " active activated \"http://127.9.0.1:99/sw.js\" classic 5\n"
+          ++ codes "caches 0\n";
     }
 unfolding digits escape_byte grammar_on_literals steps_on_literals
 row_186 = refl
@@ -252,36 +252,36 @@ row_200 :
     ++ codes "{\"lane\":2,\"do\":\"softUpdate\",\"client\":0,\"scope\":\"/app/\"}\n")
     ≡ record {
       transcript =
-    codes "- restarted -> 0 registrations 0 caches\n"
-    ++ codes "L0.0 open -> none\n"
-    ++ codes "L0.1 register -> j0\n"
-    ++ codes "L2.0 open -> none\n"
-    ++ codes "L2.1 register -> j1\n"
-    ++ codes "- run j0 -> fetch 0 | mapped r0\n"
-    ++ codes "- fetched j0 -> changed | w0 parsed\n"
-    ++ codes "- evaluated j0 -> installing | w0 installing | settled j0 r0 | updatefound r0\n"
-    ++ codes "- installed j0 -> ok | w0 installed\n"
-    ++ codes "- run j1 -> fetch 0\n"
-    ++ codes "- fetched j1 -> rejected | settled j1 TypeError network\n"
-    ++ codes "L2.2 await -> TypeError network\n"
-    ++ codes "L2.3 softUpdate -> j2\n"
-    ++ codes "- run j2 -> fetch 1\n"
-    ++ codes "- fetched j2 -> changed | w1 parsed\n"
-    ++ codes "- evaluated j2 -> installing | w1 installing | updatefound r0\n"
-    ++ codes "- installed j2 -> ok | w0 redundant | w1 installed\n"
-    ++ codes "- tryactivate r0 -> w1 | w1 activating\n"
-    ++ codes "- activated w1 -> ok | w1 activated\n"
-    ++ codes "end done\n";
+          codes "- restarted -> 0 registrations 0 caches\n"
+          ++ codes "L0.0 open -> none\n"
+          ++ codes "L0.1 register -> j0\n"
+          ++ codes "L2.0 open -> none\n"
+          ++ codes "L2.1 register -> j1\n"
+          ++ codes "- run j0 -> fetch 0 | mapped r0\n"
+          ++ codes "- fetched j0 -> changed | w0 parsed\n"
+          ++ codes "- evaluated j0 -> installing | w0 installing | settled j0 r0 | updatefound r0\n"
+          ++ codes "- installed j0 -> ok | w0 installed\n"
+          ++ codes "- run j1 -> fetch 0\n"
+          ++ codes "- fetched j1 -> rejected | settled j1 TypeError network\n"
+          ++ codes "L2.2 await -> TypeError network\n"
+          ++ codes "L2.3 softUpdate -> j2\n"
+          ++ codes "- run j2 -> fetch 1\n"
+          ++ codes "- fetched j2 -> changed | w1 parsed\n"
+          ++ codes "- evaluated j2 -> installing | w1 installing | updatefound r0\n"
+          ++ codes "- installed j2 -> ok | w0 redundant | w1 installed\n"
+          ++ codes "- tryactivate r0 -> w1 | w1 activating\n"
+          ++ codes "- activated w1 -> ok | w1 activated\n"
+          ++ codes "end done\n";
       shown =
-    codes "registrations 1\n"
-    ++ codes "registration \"http://[::1]:3000\" \"http://[::1]:3000/app/\" all\n"
-    ++ codes " active activated \"http://[::1]:3000/app/sw.js\" classic 5\n"
-    ++ codes "caches 0\n";
+          codes "registrations 1\n"
+          ++ codes "registration \"http://[::1]:3000\" \"http://[::1]:3000/app/\" all\n"
+          ++ codes " active activated \"http://[::1]:3000/app/sw.js\" classic 5\n"
+          ++ codes "caches 0\n";
       durable =
-    codes "registrations 1\n"
-    ++ codes "registration \"http://[::1]:3000\" \"http://[::1]:3000/app/\" all\n"
-    ++ codes " active activated \"http://[::1]:3000/app/sw.js\" classic 5\n"
-    ++ codes "caches 0\n";
+          codes "registrations 1\n"
+          ++ codes "registration \"http://[::1]:3000\" \"http://[::1]:3000/app/\" all\n"
+          ++ codes " active activated \"http://[::1]:3000/app/sw.js\" classic 5\n"
+          ++ codes "caches 0\n";
     }
 unfolding digits escape_byte grammar_on_literals steps_on_literals
 row_200 = refl
@@ -300,35 +300,35 @@ row_223 :
     ++ codes "{\"lane\":1,\"do\":\"update\",\"client\":6,\"scope\":\"./\"}\n")
     ≡ record {
       transcript =
-    codes "- restarted -> 0 registrations 0 caches\n"
-    ++ codes "L0.0 open -> none\n"
-    ++ codes "L1.0 register -> j0\n"
-    ++ codes "L1.1 open -> none\n"
-    ++ codes "L1.2 register -> j1\n"
-    ++ codes "- run j0 -> fetch 0 | mapped r0\n"
-    ++ codes "- run j1 -> fetch 1 | mapped r1\n"
-    ++ codes "- fetched j0 -> rejected | settled j0 TypeError status | unmapped r0\n"
-    ++ codes "- fetched j1 -> changed | w0 parsed\n"
-    ++ codes "- evaluated j1 -> installing | w0 installing | settled j1 r1 | updatefound r1\n"
-    ++ codes "L1.3 await -> r1\n"
-    ++ codes "L1.4 update -> j2\n"
-    ++ codes "L1.5 update -> j3 joined j2\n"
-    ++ codes "- installed j1 -> ok | w0 installed\n"
-    ++ codes "- run j2 -> fetch 2\n"
-    ++ codes "- fetched j2 -> rejected | settled j2 SecurityError mime | settled j3 SecurityError mime\n"
-    ++ codes "- tryactivate r1 -> w0 | w0 activating\n"
-    ++ codes "- activated w0 -> ok | w0 activated\n"
-    ++ codes "end done\n";
+          codes "- restarted -> 0 registrations 0 caches\n"
+          ++ codes "L0.0 open -> none\n"
+          ++ codes "L1.0 register -> j0\n"
+          ++ codes "L1.1 open -> none\n"
+          ++ codes "L1.2 register -> j1\n"
+          ++ codes "- run j0 -> fetch 0 | mapped r0\n"
+          ++ codes "- run j1 -> fetch 1 | mapped r1\n"
+          ++ codes "- fetched j0 -> rejected | settled j0 TypeError status | unmapped r0\n"
+          ++ codes "- fetched j1 -> changed | w0 parsed\n"
+          ++ codes "- evaluated j1 -> installing | w0 installing | settled j1 r1 | updatefound r1\n"
+          ++ codes "L1.3 await -> r1\n"
+          ++ codes "L1.4 update -> j2\n"
+          ++ codes "L1.5 update -> j3 joined j2\n"
+          ++ codes "- installed j1 -> ok | w0 installed\n"
+          ++ codes "- run j2 -> fetch 2\n"
+          ++ codes "- fetched j2 -> rejected | settled j2 SecurityError mime | settled j3 SecurityError mime\n"
+          ++ codes "- tryactivate r1 -> w0 | w0 activating\n"
+          ++ codes "- activated w0 -> ok | w0 activated\n"
+          ++ codes "end done\n";
       shown =
-    codes "registrations 1\n"
-    ++ codes "registration \"http://127.9.0.1:99\" \"http://127.9.0.1:99/\" imports\n"
-    ++ codes " active activated \"http://127.9.0.1:99/sw.js\" classic 5\n"
-    ++ codes "caches 0\n";
+          codes "registrations 1\n"
+          ++ codes "registration \"http://127.9.0.1:99\" \"http://127.9.0.1:99/\" imports\n"
+          ++ codes " active activated \"http://127.9.0.1:99/sw.js\" classic 5\n"
+          ++ codes "caches 0\n";
       durable =
-    codes "registrations 1\n"
-    ++ codes "registration \"http://127.9.0.1:99\" \"http://127.9.0.1:99/\" imports\n"
-    ++ codes " active activated \"http://127.9.0.1:99/sw.js\" classic 5\n"
-    ++ codes "caches 0\n";
+          codes "registrations 1\n"
+          ++ codes "registration \"http://127.9.0.1:99\" \"http://127.9.0.1:99/\" imports\n"
+          ++ codes " active activated \"http://127.9.0.1:99/sw.js\" classic 5\n"
+          ++ codes "caches 0\n";
     }
 unfolding digits escape_byte grammar_on_literals steps_on_literals
 row_223 = refl
@@ -344,34 +344,34 @@ row_230 :
     ++ codes "{\"lane\":0,\"do\":\"update\",\"client\":7,\"scope\":\"/\"}\n")
     ≡ record {
       transcript =
-    codes "- restarted -> 0 registrations 0 caches\n"
-    ++ codes "L0.0 open -> none\n"
-    ++ codes "L0.1 register -> j0\n"
-    ++ codes "- run j0 -> fetch 0 | mapped r0\n"
-    ++ codes "- fetched j0 -> changed | w0 parsed\n"
-    ++ codes "- evaluated j0 -> installing | w0 installing | settled j0 r0 | updatefound r0\n"
-    ++ codes "L0.2 await -> r0\n"
-    ++ codes "L0.3 register -> j1\n"
-    ++ codes "L0.4 update -> j2\n"
-    ++ codes "- installed j0 -> ok | w0 installed\n"
-    ++ codes "- run j1 -> fetch 0\n"
-    ++ codes "- fetched j1 -> changed | w1 parsed\n"
-    ++ codes "- evaluated j1 -> installing | w1 installing | settled j1 r0 | updatefound r0\n"
-    ++ codes "- installed j1 -> ok | w0 redundant | w1 installed\n"
-    ++ codes "- run j2 -> finished | settled j2 TypeError script\n"
-    ++ codes "- tryactivate r0 -> w1 | w1 activating\n"
-    ++ codes "- activated w1 -> ok | w1 activated\n"
-    ++ codes "end done\n";
+          codes "- restarted -> 0 registrations 0 caches\n"
+          ++ codes "L0.0 open -> none\n"
+          ++ codes "L0.1 register -> j0\n"
+          ++ codes "- run j0 -> fetch 0 | mapped r0\n"
+          ++ codes "- fetched j0 -> changed | w0 parsed\n"
+          ++ codes "- evaluated j0 -> installing | w0 installing | settled j0 r0 | updatefound r0\n"
+          ++ codes "L0.2 await -> r0\n"
+          ++ codes "L0.3 register -> j1\n"
+          ++ codes "L0.4 update -> j2\n"
+          ++ codes "- installed j0 -> ok | w0 installed\n"
+          ++ codes "- run j1 -> fetch 0\n"
+          ++ codes "- fetched j1 -> changed | w1 parsed\n"
+          ++ codes "- evaluated j1 -> installing | w1 installing | settled j1 r0 | updatefound r0\n"
+          ++ codes "- installed j1 -> ok | w0 redundant | w1 installed\n"
+          ++ codes "- run j2 -> finished | settled j2 TypeError script\n"
+          ++ codes "- tryactivate r0 -> w1 | w1 activating\n"
+          ++ codes "- activated w1 -> ok | w1 activated\n"
+          ++ codes "end done\n";
       shown =
-    codes "registrations 1\n"
-    ++ codes "registration \"http://127.0.0.1\" \"http://127.0.0.1/\" imports\n"
-    ++ codes " active activated \"http://127.0.0.1/other.js\" classic 5\n"
-    ++ codes "caches 0\n";
+          codes "registrations 1\n"
+          ++ codes "registration \"http://127.0.0.1\" \"http://127.0.0.1/\" imports\n"
+          ++ codes " active activated \"http://127.0.0.1/other.js\" classic 5\n"
+          ++ codes "caches 0\n";
       durable =
-    codes "registrations 1\n"
-    ++ codes "registration \"http://127.0.0.1\" \"http://127.0.0.1/\" imports\n"
-    ++ codes " active activated \"http://127.0.0.1/other.js\" classic 5\n"
-    ++ codes "caches 0\n";
+          codes "registrations 1\n"
+          ++ codes "registration \"http://127.0.0.1\" \"http://127.0.0.1/\" imports\n"
+          ++ codes " active activated \"http://127.0.0.1/other.js\" classic 5\n"
+          ++ codes "caches 0\n";
     }
 unfolding digits escape_byte grammar_on_literals steps_on_literals
 row_230 = refl
@@ -391,47 +391,47 @@ row_239 :
     ++ codes "{\"lane\":0,\"do\":\"softUpdate\",\"client\":1,\"scope\":\"/\"}\n")
     ≡ record {
       transcript =
-    codes "- restarted -> 0 registrations 0 caches\n"
-    ++ codes "L0.0 open -> none\n"
-    ++ codes "L0.1 register -> j0\n"
-    ++ codes "L0.2 register -> j1\n"
-    ++ codes "L1.0 open -> none\n"
-    ++ codes "L1.1 register -> j2\n"
-    ++ codes "- run j0 -> fetch 0 | mapped r0\n"
-    ++ codes "- run j2 -> fetch 0 | mapped r1\n"
-    ++ codes "- fetched j0 -> changed | w0 parsed\n"
-    ++ codes "- fetched j2 -> changed | w1 parsed\n"
-    ++ codes "- evaluated j0 -> installing | w0 installing | settled j0 r0 | updatefound r0\n"
-    ++ codes "- evaluated j2 -> installing | w1 installing | settled j2 r1 | updatefound r1\n"
-    ++ codes "- installed j0 -> ok | w0 installed\n"
-    ++ codes "- run j1 -> fetch 0\n"
-    ++ codes "- fetched j1 -> rejected | settled j1 TypeError network\n"
-    ++ codes "L0.3 await -> TypeError network\n"
-    ++ codes "L0.4 open -> none\n"
-    ++ codes "L0.5 softUpdate -> j3\n"
-    ++ codes "- installed j2 -> ok | w1 installed\n"
-    ++ codes "- run j3 -> fetch 1\n"
-    ++ codes "- fetched j3 -> changed | w2 parsed\n"
-    ++ codes "- evaluated j3 -> threw | w2 redundant\n"
-    ++ codes "- tryactivate r0 -> w0 | w0 activating\n"
-    ++ codes "- tryactivate r1 -> w1 | w1 activating\n"
-    ++ codes "- activated w0 -> ok | w0 activated\n"
-    ++ codes "- activated w1 -> ok | w1 activated\n"
-    ++ codes "end done\n";
+          codes "- restarted -> 0 registrations 0 caches\n"
+          ++ codes "L0.0 open -> none\n"
+          ++ codes "L0.1 register -> j0\n"
+          ++ codes "L0.2 register -> j1\n"
+          ++ codes "L1.0 open -> none\n"
+          ++ codes "L1.1 register -> j2\n"
+          ++ codes "- run j0 -> fetch 0 | mapped r0\n"
+          ++ codes "- run j2 -> fetch 0 | mapped r1\n"
+          ++ codes "- fetched j0 -> changed | w0 parsed\n"
+          ++ codes "- fetched j2 -> changed | w1 parsed\n"
+          ++ codes "- evaluated j0 -> installing | w0 installing | settled j0 r0 | updatefound r0\n"
+          ++ codes "- evaluated j2 -> installing | w1 installing | settled j2 r1 | updatefound r1\n"
+          ++ codes "- installed j0 -> ok | w0 installed\n"
+          ++ codes "- run j1 -> fetch 0\n"
+          ++ codes "- fetched j1 -> rejected | settled j1 TypeError network\n"
+          ++ codes "L0.3 await -> TypeError network\n"
+          ++ codes "L0.4 open -> none\n"
+          ++ codes "L0.5 softUpdate -> j3\n"
+          ++ codes "- installed j2 -> ok | w1 installed\n"
+          ++ codes "- run j3 -> fetch 1\n"
+          ++ codes "- fetched j3 -> changed | w2 parsed\n"
+          ++ codes "- evaluated j3 -> threw | w2 redundant\n"
+          ++ codes "- tryactivate r0 -> w0 | w0 activating\n"
+          ++ codes "- tryactivate r1 -> w1 | w1 activating\n"
+          ++ codes "- activated w0 -> ok | w0 activated\n"
+          ++ codes "- activated w1 -> ok | w1 activated\n"
+          ++ codes "end done\n";
       shown =
-    codes "registrations 2\n"
-    ++ codes "registration \"https://xn--nxa.test^q.top\" \"https://xn--nxa.test/\" imports\n"
-    ++ codes " active activated \"https://xn--nxa.test/sw.js\" classic 5\n"
-    ++ codes "registration \"https://b.test\" \"https://b.test/\" none\n"
-    ++ codes " active activated \"https://b.test/sw.js\" classic 5\n"
-    ++ codes "caches 0\n";
+          codes "registrations 2\n"
+          ++ codes "registration \"https://xn--nxa.test^q.top\" \"https://xn--nxa.test/\" imports\n"
+          ++ codes " active activated \"https://xn--nxa.test/sw.js\" classic 5\n"
+          ++ codes "registration \"https://b.test\" \"https://b.test/\" none\n"
+          ++ codes " active activated \"https://b.test/sw.js\" classic 5\n"
+          ++ codes "caches 0\n";
       durable =
-    codes "registrations 2\n"
-    ++ codes "registration \"https://xn--nxa.test^q.top\" \"https://xn--nxa.test/\" imports\n"
-    ++ codes " active activated \"https://xn--nxa.test/sw.js\" classic 5\n"
-    ++ codes "registration \"https://b.test\" \"https://b.test/\" none\n"
-    ++ codes " active activated \"https://b.test/sw.js\" classic 5\n"
-    ++ codes "caches 0\n";
+          codes "registrations 2\n"
+          ++ codes "registration \"https://xn--nxa.test^q.top\" \"https://xn--nxa.test/\" imports\n"
+          ++ codes " active activated \"https://xn--nxa.test/sw.js\" classic 5\n"
+          ++ codes "registration \"https://b.test\" \"https://b.test/\" none\n"
+          ++ codes " active activated \"https://b.test/sw.js\" classic 5\n"
+          ++ codes "caches 0\n";
     }
 unfolding digits escape_byte grammar_on_literals steps_on_literals
 row_239 = refl
@@ -446,31 +446,31 @@ row_240 :
     ++ codes "{\"lane\":0,\"do\":\"update\",\"client\":8,\"scope\":\"./\"}\n")
     ≡ record {
       transcript =
-    codes "- restarted -> 0 registrations 0 caches\n"
-    ++ codes "L0.0 open -> none\n"
-    ++ codes "L0.1 register -> j0\n"
-    ++ codes "- run j0 -> fetch 0 | mapped r0\n"
-    ++ codes "- fetched j0 -> changed | w0 parsed\n"
-    ++ codes "- evaluated j0 -> installing | w0 installing | settled j0 r0 | updatefound r0\n"
-    ++ codes "L0.2 await -> r0\n"
-    ++ codes "L0.3 update -> j1\n"
-    ++ codes "- installed j0 -> ok | w0 installed\n"
-    ++ codes "- run j1 -> fetch 1\n"
-    ++ codes "- fetched j1 -> changed | w1 parsed\n"
-    ++ codes "- evaluated j1 -> threw | w1 redundant | settled j1 TypeError threw\n"
-    ++ codes "- tryactivate r0 -> w0 | w0 activating\n"
-    ++ codes "- activated w0 -> ok | w0 activated\n"
-    ++ codes "end done\n";
+          codes "- restarted -> 0 registrations 0 caches\n"
+          ++ codes "L0.0 open -> none\n"
+          ++ codes "L0.1 register -> j0\n"
+          ++ codes "- run j0 -> fetch 0 | mapped r0\n"
+          ++ codes "- fetched j0 -> changed | w0 parsed\n"
+          ++ codes "- evaluated j0 -> installing | w0 installing | settled j0 r0 | updatefound r0\n"
+          ++ codes "L0.2 await -> r0\n"
+          ++ codes "L0.3 update -> j1\n"
+          ++ codes "- installed j0 -> ok | w0 installed\n"
+          ++ codes "- run j1 -> fetch 1\n"
+          ++ codes "- fetched j1 -> changed | w1 parsed\n"
+          ++ codes "- evaluated j1 -> threw | w1 redundant | settled j1 TypeError threw\n"
+          ++ codes "- tryactivate r0 -> w0 | w0 activating\n"
+          ++ codes "- activated w0 -> ok | w0 activated\n"
+          ++ codes "end done\n";
       shown =
-    codes "registrations 1\n"
-    ++ codes "registration \"http://x.localhost\" \"http://x.localhost/app/x/\" imports\n"
-    ++ codes " active activated \"http://x.localhost/sw.js\" classic 5\n"
-    ++ codes "caches 0\n";
+          codes "registrations 1\n"
+          ++ codes "registration \"http://x.localhost\" \"http://x.localhost/app/x/\" imports\n"
+          ++ codes " active activated \"http://x.localhost/sw.js\" classic 5\n"
+          ++ codes "caches 0\n";
       durable =
-    codes "registrations 1\n"
-    ++ codes "registration \"http://x.localhost\" \"http://x.localhost/app/x/\" imports\n"
-    ++ codes " active activated \"http://x.localhost/sw.js\" classic 5\n"
-    ++ codes "caches 0\n";
+          codes "registrations 1\n"
+          ++ codes "registration \"http://x.localhost\" \"http://x.localhost/app/x/\" imports\n"
+          ++ codes " active activated \"http://x.localhost/sw.js\" classic 5\n"
+          ++ codes "caches 0\n";
     }
 unfolding digits escape_byte grammar_on_literals steps_on_literals
 row_240 = refl
@@ -485,27 +485,27 @@ row_241 :
     ++ codes "{\"lane\":0,\"do\":\"softUpdate\",\"client\":4,\"scope\":\"./\"}\n")
     ≡ record {
       transcript =
-    codes "- restarted -> 0 registrations 0 caches\n"
-    ++ codes "L0.0 open -> none\n"
-    ++ codes "L0.1 register -> j0\n"
-    ++ codes "- run j0 -> fetch 0 | mapped r0\n"
-    ++ codes "- fetched j0 -> changed | w0 parsed\n"
-    ++ codes "- evaluated j0 -> installing | w0 installing | settled j0 r0 | updatefound r0\n"
-    ++ codes "- installed j0 -> ok | w0 installed\n"
-    ++ codes "- tryactivate r0 -> w0 | w0 activating\n"
-    ++ codes "L0.2 ready -> r0\n"
-    ++ codes "L0.3 unregister -> j1\n"
-    ++ codes "L0.4 softUpdate -> j2\n"
-    ++ codes "- run j1 -> finished | unmapped r0 | settled j1 true\n"
-    ++ codes "- run j2 -> finished\n"
-    ++ codes "- activated w0 -> ok | w0 activated | w0 redundant\n"
-    ++ codes "end done\n";
+          codes "- restarted -> 0 registrations 0 caches\n"
+          ++ codes "L0.0 open -> none\n"
+          ++ codes "L0.1 register -> j0\n"
+          ++ codes "- run j0 -> fetch 0 | mapped r0\n"
+          ++ codes "- fetched j0 -> changed | w0 parsed\n"
+          ++ codes "- evaluated j0 -> installing | w0 installing | settled j0 r0 | updatefound r0\n"
+          ++ codes "- installed j0 -> ok | w0 installed\n"
+          ++ codes "- tryactivate r0 -> w0 | w0 activating\n"
+          ++ codes "L0.2 ready -> r0\n"
+          ++ codes "L0.3 unregister -> j1\n"
+          ++ codes "L0.4 softUpdate -> j2\n"
+          ++ codes "- run j1 -> finished | unmapped r0 | settled j1 true\n"
+          ++ codes "- run j2 -> finished\n"
+          ++ codes "- activated w0 -> ok | w0 activated | w0 redundant\n"
+          ++ codes "end done\n";
       shown =
-    codes "registrations 0\n"
-    ++ codes "caches 0\n";
+          codes "registrations 0\n"
+          ++ codes "caches 0\n";
       durable =
-    codes "registrations 0\n"
-    ++ codes "caches 0\n";
+          codes "registrations 0\n"
+          ++ codes "caches 0\n";
     }
 unfolding digits escape_byte grammar_on_literals steps_on_literals
 row_241 = refl
@@ -522,34 +522,34 @@ row_244 :
     ++ codes "{\"lane\":1,\"do\":\"softUpdate\",\"client\":1,\"scope\":\"/\"}\n")
     ≡ record {
       transcript =
-    codes "- restarted -> 0 registrations 0 caches\n"
-    ++ codes "L1.0 open -> none\n"
-    ++ codes "L1.1 register -> j0\n"
-    ++ codes "- run j0 -> fetch 0 | mapped r0\n"
-    ++ codes "- fetched j0 -> changed | w0 parsed\n"
-    ++ codes "- evaluated j0 -> installing | w0 installing | settled j0 r0 | updatefound r0\n"
-    ++ codes "L1.2 await -> r0\n"
-    ++ codes "L1.3 update -> j1\n"
-    ++ codes "- installed j0 -> ok | w0 installed\n"
-    ++ codes "- run j1 -> fetch 1\n"
-    ++ codes "- fetched j1 -> rejected | settled j1 TypeError network\n"
-    ++ codes "L1.4 await -> TypeError network\n"
-    ++ codes "L1.5 softUpdate -> j2\n"
-    ++ codes "- run j2 -> fetch 2\n"
-    ++ codes "- fetched j2 -> rejected\n"
-    ++ codes "- tryactivate r0 -> w0 | w0 activating\n"
-    ++ codes "- activated w0 -> ok | w0 activated\n"
-    ++ codes "end done\n";
+          codes "- restarted -> 0 registrations 0 caches\n"
+          ++ codes "L1.0 open -> none\n"
+          ++ codes "L1.1 register -> j0\n"
+          ++ codes "- run j0 -> fetch 0 | mapped r0\n"
+          ++ codes "- fetched j0 -> changed | w0 parsed\n"
+          ++ codes "- evaluated j0 -> installing | w0 installing | settled j0 r0 | updatefound r0\n"
+          ++ codes "L1.2 await -> r0\n"
+          ++ codes "L1.3 update -> j1\n"
+          ++ codes "- installed j0 -> ok | w0 installed\n"
+          ++ codes "- run j1 -> fetch 1\n"
+          ++ codes "- fetched j1 -> rejected | settled j1 TypeError network\n"
+          ++ codes "L1.4 await -> TypeError network\n"
+          ++ codes "L1.5 softUpdate -> j2\n"
+          ++ codes "- run j2 -> fetch 2\n"
+          ++ codes "- fetched j2 -> rejected\n"
+          ++ codes "- tryactivate r0 -> w0 | w0 activating\n"
+          ++ codes "- activated w0 -> ok | w0 activated\n"
+          ++ codes "end done\n";
       shown =
-    codes "registrations 1\n"
-    ++ codes "registration \"http://localhost:8080\" \"http://localhost:8080/\" imports\n"
-    ++ codes " active activated \"http://localhost:8080/sw.js\" classic 5\n"
-    ++ codes "caches 0\n";
+          codes "registrations 1\n"
+          ++ codes "registration \"http://localhost:8080\" \"http://localhost:8080/\" imports\n"
+          ++ codes " active activated \"http://localhost:8080/sw.js\" classic 5\n"
+          ++ codes "caches 0\n";
       durable =
-    codes "registrations 1\n"
-    ++ codes "registration \"http://localhost:8080\" \"http://localhost:8080/\" imports\n"
-    ++ codes " active activated \"http://localhost:8080/sw.js\" classic 5\n"
-    ++ codes "caches 0\n";
+          codes "registrations 1\n"
+          ++ codes "registration \"http://localhost:8080\" \"http://localhost:8080/\" imports\n"
+          ++ codes " active activated \"http://localhost:8080/sw.js\" classic 5\n"
+          ++ codes "caches 0\n";
     }
 unfolding digits escape_byte grammar_on_literals steps_on_literals
 row_244 = refl
@@ -569,39 +569,39 @@ row_267 :
     ++ codes "{\"lane\":0,\"do\":\"register\",\"client\":3,\"script\":\"/app/claim.js\",\"cache\":\"none\"}\n")
     ≡ record {
       transcript =
-    codes "- restarted -> 0 registrations 0 caches\n"
-    ++ codes "L0.0 open -> none\n"
-    ++ codes "L0.1 open -> none\n"
-    ++ codes "L0.2 unregister -> j0\n"
-    ++ codes "L1.0 register -> j1\n"
-    ++ codes "- run j0 -> finished | settled j0 false\n"
-    ++ codes "L0.3 await -> false\n"
-    ++ codes "L0.4 register -> j2\n"
-    ++ codes "- run j1 -> fetch 0 | mapped r0\n"
-    ++ codes "- fetched j1 -> changed | w0 parsed\n"
-    ++ codes "- evaluated j1 -> installing | w0 installing | settled j1 r0 | updatefound r0\n"
-    ++ codes "L1.1 await -> r0\n"
-    ++ codes "L1.2 update -> j3\n"
-    ++ codes "L1.3 update -> j4 joined j3\n"
-    ++ codes "- installed j1 -> ok | w0 installed\n"
-    ++ codes "- run j2 -> fetch 0\n"
-    ++ codes "- fetched j2 -> changed | w1 parsed\n"
-    ++ codes "- evaluated j2 -> installing | w1 installing | settled j2 r0 | updatefound r0\n"
-    ++ codes "- installed j2 -> ok | w0 redundant | w1 installed\n"
-    ++ codes "- run j3 -> finished | settled j3 TypeError script | settled j4 TypeError script\n"
-    ++ codes "- tryactivate r0 -> w1 | w1 activating\n"
-    ++ codes "- activated w1 -> ok | w1 activated\n"
-    ++ codes "end done\n";
+          codes "- restarted -> 0 registrations 0 caches\n"
+          ++ codes "L0.0 open -> none\n"
+          ++ codes "L0.1 open -> none\n"
+          ++ codes "L0.2 unregister -> j0\n"
+          ++ codes "L1.0 register -> j1\n"
+          ++ codes "- run j0 -> finished | settled j0 false\n"
+          ++ codes "L0.3 await -> false\n"
+          ++ codes "L0.4 register -> j2\n"
+          ++ codes "- run j1 -> fetch 0 | mapped r0\n"
+          ++ codes "- fetched j1 -> changed | w0 parsed\n"
+          ++ codes "- evaluated j1 -> installing | w0 installing | settled j1 r0 | updatefound r0\n"
+          ++ codes "L1.1 await -> r0\n"
+          ++ codes "L1.2 update -> j3\n"
+          ++ codes "L1.3 update -> j4 joined j3\n"
+          ++ codes "- installed j1 -> ok | w0 installed\n"
+          ++ codes "- run j2 -> fetch 0\n"
+          ++ codes "- fetched j2 -> changed | w1 parsed\n"
+          ++ codes "- evaluated j2 -> installing | w1 installing | settled j2 r0 | updatefound r0\n"
+          ++ codes "- installed j2 -> ok | w0 redundant | w1 installed\n"
+          ++ codes "- run j3 -> finished | settled j3 TypeError script | settled j4 TypeError script\n"
+          ++ codes "- tryactivate r0 -> w1 | w1 activating\n"
+          ++ codes "- activated w1 -> ok | w1 activated\n"
+          ++ codes "end done\n";
       shown =
-    codes "registrations 1\n"
-    ++ codes "registration \"http://127.9.0.1:99\" \"http://127.9.0.1:99/app/\" none\n"
-    ++ codes " active activated \"http://127.9.0.1:99/app/claim.js\" classic 8\n"
-    ++ codes "caches 0\n";
+          codes "registrations 1\n"
+          ++ codes "registration \"http://127.9.0.1:99\" \"http://127.9.0.1:99/app/\" none\n"
+          ++ codes " active activated \"http://127.9.0.1:99/app/claim.js\" classic 8\n"
+          ++ codes "caches 0\n";
       durable =
-    codes "registrations 1\n"
-    ++ codes "registration \"http://127.9.0.1:99\" \"http://127.9.0.1:99/app/\" none\n"
-    ++ codes " active activated \"http://127.9.0.1:99/app/claim.js\" classic 8\n"
-    ++ codes "caches 0\n";
+          codes "registrations 1\n"
+          ++ codes "registration \"http://127.9.0.1:99\" \"http://127.9.0.1:99/app/\" none\n"
+          ++ codes " active activated \"http://127.9.0.1:99/app/claim.js\" classic 8\n"
+          ++ codes "caches 0\n";
     }
 unfolding digits escape_byte grammar_on_literals steps_on_literals
 row_267 = refl
@@ -621,39 +621,39 @@ row_284 :
     ++ codes "{\"lane\":1,\"do\":\"update\",\"client\":8,\"scope\":\"/app/\"}\n")
     ≡ record {
       transcript =
-    codes "- restarted -> 0 registrations 0 caches\n"
-    ++ codes "L0.0 open -> none\n"
-    ++ codes "L0.1 register -> j0\n"
-    ++ codes "L1.0 open -> none\n"
-    ++ codes "L1.1 register -> j1\n"
-    ++ codes "- run j0 -> fetch 0 | mapped r0\n"
-    ++ codes "- run j1 -> fetch 0 | mapped r1\n"
-    ++ codes "- fetched j0 -> changed | w0 parsed\n"
-    ++ codes "- fetched j1 -> changed | w1 parsed\n"
-    ++ codes "- evaluated j0 -> installing | w0 installing | settled j0 r0 | updatefound r0\n"
-    ++ codes "L0.2 await -> r0\n"
-    ++ codes "L0.3 update -> j2\n"
-    ++ codes "L0.4 update -> j3 joined j2\n"
-    ++ codes "- evaluated j1 -> installing | w1 installing | settled j1 r1 | updatefound r1\n"
-    ++ codes "L1.2 await -> r1\n"
-    ++ codes "L1.3 update -> j4 joined j2\n"
-    ++ codes "w0.install.0 claim -> InvalidStateError not-active\n"
-    ++ codes "- installed j0 -> failed | w0 redundant | unmapped r0\n"
-    ++ codes "- run j2 -> finished | settled j2 TypeError no-registration | settled j3 TypeError no-registration | settled j4 TypeError no-registration\n"
-    ++ codes "- installed j1 -> ok | w1 installed\n"
-    ++ codes "- tryactivate r1 -> w1 | w1 activating\n"
-    ++ codes "- activated w1 -> ok | w1 activated\n"
-    ++ codes "end done\n";
+          codes "- restarted -> 0 registrations 0 caches\n"
+          ++ codes "L0.0 open -> none\n"
+          ++ codes "L0.1 register -> j0\n"
+          ++ codes "L1.0 open -> none\n"
+          ++ codes "L1.1 register -> j1\n"
+          ++ codes "- run j0 -> fetch 0 | mapped r0\n"
+          ++ codes "- run j1 -> fetch 0 | mapped r1\n"
+          ++ codes "- fetched j0 -> changed | w0 parsed\n"
+          ++ codes "- fetched j1 -> changed | w1 parsed\n"
+          ++ codes "- evaluated j0 -> installing | w0 installing | settled j0 r0 | updatefound r0\n"
+          ++ codes "L0.2 await -> r0\n"
+          ++ codes "L0.3 update -> j2\n"
+          ++ codes "L0.4 update -> j3 joined j2\n"
+          ++ codes "- evaluated j1 -> installing | w1 installing | settled j1 r1 | updatefound r1\n"
+          ++ codes "L1.2 await -> r1\n"
+          ++ codes "L1.3 update -> j4 joined j2\n"
+          ++ codes "w0.install.0 claim -> InvalidStateError not-active\n"
+          ++ codes "- installed j0 -> failed | w0 redundant | unmapped r0\n"
+          ++ codes "- run j2 -> finished | settled j2 TypeError no-registration | settled j3 TypeError no-registration | settled j4 TypeError no-registration\n"
+          ++ codes "- installed j1 -> ok | w1 installed\n"
+          ++ codes "- tryactivate r1 -> w1 | w1 activating\n"
+          ++ codes "- activated w1 -> ok | w1 activated\n"
+          ++ codes "end done\n";
       shown =
-    codes "registrations 1\n"
-    ++ codes "registration \"https://xn--nxa.test\" \"https://xn--nxa.test/app/\" imports\n"
-    ++ codes " active activated \"https://xn--nxa.test/app/sw.js\" classic 5\n"
-    ++ codes "caches 0\n";
+          codes "registrations 1\n"
+          ++ codes "registration \"https://xn--nxa.test\" \"https://xn--nxa.test/app/\" imports\n"
+          ++ codes " active activated \"https://xn--nxa.test/app/sw.js\" classic 5\n"
+          ++ codes "caches 0\n";
       durable =
-    codes "registrations 1\n"
-    ++ codes "registration \"https://xn--nxa.test\" \"https://xn--nxa.test/app/\" imports\n"
-    ++ codes " active activated \"https://xn--nxa.test/app/sw.js\" classic 5\n"
-    ++ codes "caches 0\n";
+          codes "registrations 1\n"
+          ++ codes "registration \"https://xn--nxa.test\" \"https://xn--nxa.test/app/\" imports\n"
+          ++ codes " active activated \"https://xn--nxa.test/app/sw.js\" classic 5\n"
+          ++ codes "caches 0\n";
     }
 unfolding digits escape_byte grammar_on_literals steps_on_literals
 row_284 = refl
@@ -670,32 +670,32 @@ row_289 :
     ++ codes "{\"lane\":0,\"do\":\"update\",\"client\":2,\"scope\":\"/\"}\n")
     ≡ record {
       transcript =
-    codes "- restarted -> 0 registrations 0 caches\n"
-    ++ codes "L0.0 open -> none\n"
-    ++ codes "L0.1 register -> j0\n"
-    ++ codes "- run j0 -> fetch 0 | mapped r0\n"
-    ++ codes "- fetched j0 -> changed | w0 parsed\n"
-    ++ codes "- evaluated j0 -> installing | w0 installing | settled j0 r0 | updatefound r0\n"
-    ++ codes "L0.2 await -> r0\n"
-    ++ codes "L0.3 update -> j1\n"
-    ++ codes "L0.4 update -> j2 joined j1\n"
-    ++ codes "L0.5 update -> j3 joined j1\n"
-    ++ codes "- installed j0 -> ok | w0 installed\n"
-    ++ codes "- run j1 -> fetch 1\n"
-    ++ codes "- fetched j1 -> rejected | settled j1 TypeError network | settled j2 TypeError network | settled j3 TypeError network\n"
-    ++ codes "- tryactivate r0 -> w0 | w0 activating\n"
-    ++ codes "- activated w0 -> ok | w0 activated\n"
-    ++ codes "end done\n";
+          codes "- restarted -> 0 registrations 0 caches\n"
+          ++ codes "L0.0 open -> none\n"
+          ++ codes "L0.1 register -> j0\n"
+          ++ codes "- run j0 -> fetch 0 | mapped r0\n"
+          ++ codes "- fetched j0 -> changed | w0 parsed\n"
+          ++ codes "- evaluated j0 -> installing | w0 installing | settled j0 r0 | updatefound r0\n"
+          ++ codes "L0.2 await -> r0\n"
+          ++ codes "L0.3 update -> j1\n"
+          ++ codes "L0.4 update -> j2 joined j1\n"
+          ++ codes "L0.5 update -> j3 joined j1\n"
+          ++ codes "- installed j0 -> ok | w0 installed\n"
+          ++ codes "- run j1 -> fetch 1\n"
+          ++ codes "- fetched j1 -> rejected | settled j1 TypeError network | settled j2 TypeError network | settled j3 TypeError network\n"
+          ++ codes "- tryactivate r0 -> w0 | w0 activating\n"
+          ++ codes "- activated w0 -> ok | w0 activated\n"
+          ++ codes "end done\n";
       shown =
-    codes "registrations 1\n"
-    ++ codes "registration \"https://xn--nxa.test\" \"https://xn--nxa.test/\" imports\n"
-    ++ codes " active activated \"https://xn--nxa.test/sw.js\" classic 5\n"
-    ++ codes "caches 0\n";
+          codes "registrations 1\n"
+          ++ codes "registration \"https://xn--nxa.test\" \"https://xn--nxa.test/\" imports\n"
+          ++ codes " active activated \"https://xn--nxa.test/sw.js\" classic 5\n"
+          ++ codes "caches 0\n";
       durable =
-    codes "registrations 1\n"
-    ++ codes "registration \"https://xn--nxa.test\" \"https://xn--nxa.test/\" imports\n"
-    ++ codes " active activated \"https://xn--nxa.test/sw.js\" classic 5\n"
-    ++ codes "caches 0\n";
+          codes "registrations 1\n"
+          ++ codes "registration \"https://xn--nxa.test\" \"https://xn--nxa.test/\" imports\n"
+          ++ codes " active activated \"https://xn--nxa.test/sw.js\" classic 5\n"
+          ++ codes "caches 0\n";
     }
 unfolding digits escape_byte grammar_on_literals steps_on_literals
 row_289 = refl
@@ -712,32 +712,32 @@ row_304 :
     ++ codes "{\"lane\":0,\"do\":\"update\",\"client\":9,\"scope\":\"./\"}\n")
     ≡ record {
       transcript =
-    codes "- restarted -> 0 registrations 0 caches\n"
-    ++ codes "L0.0 open -> none\n"
-    ++ codes "L0.1 register -> j0\n"
-    ++ codes "- run j0 -> fetch 0 | mapped r0\n"
-    ++ codes "- fetched j0 -> changed | w0 parsed\n"
-    ++ codes "- evaluated j0 -> installing | w0 installing | settled j0 r0 | updatefound r0\n"
-    ++ codes "L0.2 await -> r0\n"
-    ++ codes "L0.3 update -> j1\n"
-    ++ codes "L0.4 update -> j2 joined j1\n"
-    ++ codes "L0.5 update -> j3 joined j1\n"
-    ++ codes "- installed j0 -> ok | w0 installed\n"
-    ++ codes "- run j1 -> fetch 1\n"
-    ++ codes "- fetched j1 -> rejected | settled j1 SecurityError scope | settled j2 SecurityError scope | settled j3 SecurityError scope\n"
-    ++ codes "- tryactivate r0 -> w0 | w0 activating\n"
-    ++ codes "- activated w0 -> ok | w0 activated\n"
-    ++ codes "end done\n";
+          codes "- restarted -> 0 registrations 0 caches\n"
+          ++ codes "L0.0 open -> none\n"
+          ++ codes "L0.1 register -> j0\n"
+          ++ codes "- run j0 -> fetch 0 | mapped r0\n"
+          ++ codes "- fetched j0 -> changed | w0 parsed\n"
+          ++ codes "- evaluated j0 -> installing | w0 installing | settled j0 r0 | updatefound r0\n"
+          ++ codes "L0.2 await -> r0\n"
+          ++ codes "L0.3 update -> j1\n"
+          ++ codes "L0.4 update -> j2 joined j1\n"
+          ++ codes "L0.5 update -> j3 joined j1\n"
+          ++ codes "- installed j0 -> ok | w0 installed\n"
+          ++ codes "- run j1 -> fetch 1\n"
+          ++ codes "- fetched j1 -> rejected | settled j1 SecurityError scope | settled j2 SecurityError scope | settled j3 SecurityError scope\n"
+          ++ codes "- tryactivate r0 -> w0 | w0 activating\n"
+          ++ codes "- activated w0 -> ok | w0 activated\n"
+          ++ codes "end done\n";
       shown =
-    codes "registrations 1\n"
-    ++ codes "registration \"https://a.test:8443\" \"https://a.test:8443/\" imports\n"
-    ++ codes " active activated \"https://a.test:8443/sw.js\" classic 5\n"
-    ++ codes "caches 0\n";
+          codes "registrations 1\n"
+          ++ codes "registration \"https://a.test:8443\" \"https://a.test:8443/\" imports\n"
+          ++ codes " active activated \"https://a.test:8443/sw.js\" classic 5\n"
+          ++ codes "caches 0\n";
       durable =
-    codes "registrations 1\n"
-    ++ codes "registration \"https://a.test:8443\" \"https://a.test:8443/\" imports\n"
-    ++ codes " active activated \"https://a.test:8443/sw.js\" classic 5\n"
-    ++ codes "caches 0\n";
+          codes "registrations 1\n"
+          ++ codes "registration \"https://a.test:8443\" \"https://a.test:8443/\" imports\n"
+          ++ codes " active activated \"https://a.test:8443/sw.js\" classic 5\n"
+          ++ codes "caches 0\n";
     }
 unfolding digits escape_byte grammar_on_literals steps_on_literals
 row_304 = refl
@@ -753,32 +753,32 @@ row_318 :
     ++ codes "{\"lane\":1,\"do\":\"update\",\"client\":4,\"scope\":\"/app/\"}\n")
     ≡ record {
       transcript =
-    codes "- restarted -> 0 registrations 0 caches\n"
-    ++ codes "L1.0 open -> none\n"
-    ++ codes "L1.1 register -> j0\n"
-    ++ codes "- run j0 -> fetch 0 | mapped r0\n"
-    ++ codes "- fetched j0 -> changed | w0 parsed\n"
-    ++ codes "- evaluated j0 -> installing | w0 installing | settled j0 r0 | updatefound r0\n"
-    ++ codes "L1.2 await -> r0\n"
-    ++ codes "L1.3 update -> j1\n"
-    ++ codes "L1.4 update -> j2 joined j1\n"
-    ++ codes "- installed j0 -> ok | w0 installed\n"
-    ++ codes "- run j1 -> fetch 1\n"
-    ++ codes "- fetched j1 -> changed | w1 parsed\n"
-    ++ codes "- evaluated j1 -> threw | w1 redundant | settled j1 TypeError threw | settled j2 TypeError threw\n"
-    ++ codes "- tryactivate r0 -> w0 | w0 activating\n"
-    ++ codes "- activated w0 -> ok | w0 activated\n"
-    ++ codes "end done\n";
+          codes "- restarted -> 0 registrations 0 caches\n"
+          ++ codes "L1.0 open -> none\n"
+          ++ codes "L1.1 register -> j0\n"
+          ++ codes "- run j0 -> fetch 0 | mapped r0\n"
+          ++ codes "- fetched j0 -> changed | w0 parsed\n"
+          ++ codes "- evaluated j0 -> installing | w0 installing | settled j0 r0 | updatefound r0\n"
+          ++ codes "L1.2 await -> r0\n"
+          ++ codes "L1.3 update -> j1\n"
+          ++ codes "L1.4 update -> j2 joined j1\n"
+          ++ codes "- installed j0 -> ok | w0 installed\n"
+          ++ codes "- run j1 -> fetch 1\n"
+          ++ codes "- fetched j1 -> changed | w1 parsed\n"
+          ++ codes "- evaluated j1 -> threw | w1 redundant | settled j1 TypeError threw | settled j2 TypeError threw\n"
+          ++ codes "- tryactivate r0 -> w0 | w0 activating\n"
+          ++ codes "- activated w0 -> ok | w0 activated\n"
+          ++ codes "end done\n";
       shown =
-    codes "registrations 1\n"
-    ++ codes "registration \"https://a.test:8443\" \"https://a.test:8443/app/\" imports\n"
-    ++ codes " active activated \"https://a.test:8443/sw.js\" module 5\n"
-    ++ codes "caches 0\n";
+          codes "registrations 1\n"
+          ++ codes "registration \"https://a.test:8443\" \"https://a.test:8443/app/\" imports\n"
+          ++ codes " active activated \"https://a.test:8443/sw.js\" module 5\n"
+          ++ codes "caches 0\n";
       durable =
-    codes "registrations 1\n"
-    ++ codes "registration \"https://a.test:8443\" \"https://a.test:8443/app/\" imports\n"
-    ++ codes " active activated \"https://a.test:8443/sw.js\" module 5\n"
-    ++ codes "caches 0\n";
+          codes "registrations 1\n"
+          ++ codes "registration \"https://a.test:8443\" \"https://a.test:8443/app/\" imports\n"
+          ++ codes " active activated \"https://a.test:8443/sw.js\" module 5\n"
+          ++ codes "caches 0\n";
     }
 unfolding digits escape_byte grammar_on_literals steps_on_literals
 row_318 = refl

@@ -13,18 +13,18 @@ row_014 :
     ++ codes "{\"lane\":1,\"do\":\"await\",\"of\":1}\n")
     ≡ record {
       transcript =
-    codes "- restarted -> 0 registrations 0 caches\n"
-    ++ codes "L1.0 open -> none\n"
-    ++ codes "L1.1 register -> j0\n"
-    ++ codes "- run j0 -> finished | settled j0 SecurityError script-origin\n"
-    ++ codes "L1.2 await -> SecurityError script-origin\n"
-    ++ codes "end done\n";
+          codes "- restarted -> 0 registrations 0 caches\n"
+          ++ codes "L1.0 open -> none\n"
+          ++ codes "L1.1 register -> j0\n"
+          ++ codes "- run j0 -> finished | settled j0 SecurityError script-origin\n"
+          ++ codes "L1.2 await -> SecurityError script-origin\n"
+          ++ codes "end done\n";
       shown =
-    codes "registrations 0\n"
-    ++ codes "caches 0\n";
+          codes "registrations 0\n"
+          ++ codes "caches 0\n";
       durable =
-    codes "registrations 0\n"
-    ++ codes "caches 0\n";
+          codes "registrations 0\n"
+          ++ codes "caches 0\n";
     }
 unfolding digits escape_byte grammar_on_literals steps_on_literals
 row_014 = refl
@@ -35,16 +35,16 @@ row_020 :
     ++ codes "{\"lane\":0,\"do\":\"await\",\"of\":0}\n")
     ≡ record {
       transcript =
-    codes "- restarted -> 0 registrations 0 caches\n"
-    ++ codes "L0.0 addAll -> CacheGone\n"
-    ++ codes "L0.1 await -> CacheGone\n"
-    ++ codes "end done\n";
+          codes "- restarted -> 0 registrations 0 caches\n"
+          ++ codes "L0.0 addAll -> CacheGone\n"
+          ++ codes "L0.1 await -> CacheGone\n"
+          ++ codes "end done\n";
       shown =
-    codes "registrations 0\n"
-    ++ codes "caches 0\n";
+          codes "registrations 0\n"
+          ++ codes "caches 0\n";
       durable =
-    codes "registrations 0\n"
-    ++ codes "caches 0\n";
+          codes "registrations 0\n"
+          ++ codes "caches 0\n";
     }
 unfolding digits escape_byte grammar_on_literals steps_on_literals
 row_020 = refl
@@ -56,19 +56,19 @@ row_025 :
     ++ codes "{\"lane\":2,\"do\":\"await\",\"of\":0}\n")
     ≡ record {
       transcript =
-    codes "- restarted -> 0 registrations 0 caches\n"
-    ++ codes "L1.0 open -> none\n"
-    ++ codes "L2.0 register -> j0\n"
-    ++ codes "- run j0 -> fetch 0 | mapped r0\n"
-    ++ codes "- fetched j0 -> rejected | settled j0 TypeError network | unmapped r0\n"
-    ++ codes "L2.1 await -> TypeError network\n"
-    ++ codes "end done\n";
+          codes "- restarted -> 0 registrations 0 caches\n"
+          ++ codes "L1.0 open -> none\n"
+          ++ codes "L2.0 register -> j0\n"
+          ++ codes "- run j0 -> fetch 0 | mapped r0\n"
+          ++ codes "- fetched j0 -> rejected | settled j0 TypeError network | unmapped r0\n"
+          ++ codes "L2.1 await -> TypeError network\n"
+          ++ codes "end done\n";
       shown =
-    codes "registrations 0\n"
-    ++ codes "caches 0\n";
+          codes "registrations 0\n"
+          ++ codes "caches 0\n";
       durable =
-    codes "registrations 0\n"
-    ++ codes "caches 0\n";
+          codes "registrations 0\n"
+          ++ codes "caches 0\n";
     }
 unfolding digits escape_byte grammar_on_literals steps_on_literals
 row_025 = refl
@@ -81,19 +81,19 @@ row_031 :
     ++ codes "{\"lane\":0,\"do\":\"await\",\"of\":1}\n")
     ≡ record {
       transcript =
-    codes "- restarted -> 0 registrations 0 caches\n"
-    ++ codes "L0.0 open -> none\n"
-    ++ codes "L0.1 register -> j0\n"
-    ++ codes "- run j0 -> fetch 0 | mapped r0\n"
-    ++ codes "- fetched j0 -> rejected | settled j0 SecurityError scope | unmapped r0\n"
-    ++ codes "L0.2 await -> SecurityError scope\n"
-    ++ codes "end done\n";
+          codes "- restarted -> 0 registrations 0 caches\n"
+          ++ codes "L0.0 open -> none\n"
+          ++ codes "L0.1 register -> j0\n"
+          ++ codes "- run j0 -> fetch 0 | mapped r0\n"
+          ++ codes "- fetched j0 -> rejected | settled j0 SecurityError scope | unmapped r0\n"
+          ++ codes "L0.2 await -> SecurityError scope\n"
+          ++ codes "end done\n";
       shown =
-    codes "registrations 0\n"
-    ++ codes "caches 0\n";
+          codes "registrations 0\n"
+          ++ codes "caches 0\n";
       durable =
-    codes "registrations 0\n"
-    ++ codes "caches 0\n";
+          codes "registrations 0\n"
+          ++ codes "caches 0\n";
     }
 unfolding digits escape_byte grammar_on_literals steps_on_literals
 row_031 = refl
@@ -106,19 +106,19 @@ row_034 :
     ++ codes "{\"lane\":0,\"do\":\"await\",\"of\":1}\n")
     ≡ record {
       transcript =
-    codes "- restarted -> 0 registrations 0 caches\n"
-    ++ codes "L0.0 open -> none\n"
-    ++ codes "L0.1 register -> j0\n"
-    ++ codes "- run j0 -> fetch 0 | mapped r0\n"
-    ++ codes "- fetched j0 -> rejected | settled j0 SecurityError mime | unmapped r0\n"
-    ++ codes "L0.2 await -> SecurityError mime\n"
-    ++ codes "end done\n";
+          codes "- restarted -> 0 registrations 0 caches\n"
+          ++ codes "L0.0 open -> none\n"
+          ++ codes "L0.1 register -> j0\n"
+          ++ codes "- run j0 -> fetch 0 | mapped r0\n"
+          ++ codes "- fetched j0 -> rejected | settled j0 SecurityError mime | unmapped r0\n"
+          ++ codes "L0.2 await -> SecurityError mime\n"
+          ++ codes "end done\n";
       shown =
-    codes "registrations 0\n"
-    ++ codes "caches 0\n";
+          codes "registrations 0\n"
+          ++ codes "caches 0\n";
       durable =
-    codes "registrations 0\n"
-    ++ codes "caches 0\n";
+          codes "registrations 0\n"
+          ++ codes "caches 0\n";
     }
 unfolding digits escape_byte grammar_on_literals steps_on_literals
 row_034 = refl
@@ -130,17 +130,17 @@ row_035 :
     ++ codes "{\"lane\":0,\"do\":\"await\",\"of\":1}\n")
     ≡ record {
       transcript =
-    codes "- restarted -> 0 registrations 0 caches\n"
-    ++ codes "L0.0 open -> none\n"
-    ++ codes "L0.1 update -> NoRegistration\n"
-    ++ codes "L0.2 await -> NoRegistration\n"
-    ++ codes "end done\n";
+          codes "- restarted -> 0 registrations 0 caches\n"
+          ++ codes "L0.0 open -> none\n"
+          ++ codes "L0.1 update -> NoRegistration\n"
+          ++ codes "L0.2 await -> NoRegistration\n"
+          ++ codes "end done\n";
       shown =
-    codes "registrations 0\n"
-    ++ codes "caches 0\n";
+          codes "registrations 0\n"
+          ++ codes "caches 0\n";
       durable =
-    codes "registrations 0\n"
-    ++ codes "caches 0\n";
+          codes "registrations 0\n"
+          ++ codes "caches 0\n";
     }
 unfolding digits escape_byte grammar_on_literals steps_on_literals
 row_035 = refl
@@ -152,17 +152,17 @@ row_037 :
     ++ codes "{\"lane\":0,\"do\":\"await\",\"of\":1}\n")
     ≡ record {
       transcript =
-    codes "- restarted -> 0 registrations 0 caches\n"
-    ++ codes "L0.0 open -> none\n"
-    ++ codes "L0.1 register -> TypeError escaped-slash\n"
-    ++ codes "L0.2 await -> TypeError escaped-slash\n"
-    ++ codes "end done\n";
+          codes "- restarted -> 0 registrations 0 caches\n"
+          ++ codes "L0.0 open -> none\n"
+          ++ codes "L0.1 register -> TypeError escaped-slash\n"
+          ++ codes "L0.2 await -> TypeError escaped-slash\n"
+          ++ codes "end done\n";
       shown =
-    codes "registrations 0\n"
-    ++ codes "caches 0\n";
+          codes "registrations 0\n"
+          ++ codes "caches 0\n";
       durable =
-    codes "registrations 0\n"
-    ++ codes "caches 0\n";
+          codes "registrations 0\n"
+          ++ codes "caches 0\n";
     }
 unfolding digits escape_byte grammar_on_literals steps_on_literals
 row_037 = refl
@@ -176,24 +176,24 @@ row_046 :
     ++ codes "{\"lane\":0,\"do\":\"await\",\"of\":2}\n")
     ≡ record {
       transcript =
-    codes "- restarted -> 0 registrations 0 caches\n"
-    ++ codes "L0.0 open -> none\n"
-    ++ codes "L0.1 register -> j0\n"
-    ++ codes "L0.2 unregister -> j1\n"
-    ++ codes "- run j0 -> fetch 0 | mapped r0\n"
-    ++ codes "- fetched j0 -> changed | w0 parsed\n"
-    ++ codes "- evaluated j0 -> installing | w0 installing | settled j0 r0 | updatefound r0\n"
-    ++ codes "- installed j0 -> ok | w0 installed\n"
-    ++ codes "- run j1 -> finished | unmapped r0 | settled j1 true | w0 redundant\n"
-    ++ codes "L0.3 await -> true\n"
-    ++ codes "- tryactivate r0 -> none\n"
-    ++ codes "end done\n";
+          codes "- restarted -> 0 registrations 0 caches\n"
+          ++ codes "L0.0 open -> none\n"
+          ++ codes "L0.1 register -> j0\n"
+          ++ codes "L0.2 unregister -> j1\n"
+          ++ codes "- run j0 -> fetch 0 | mapped r0\n"
+          ++ codes "- fetched j0 -> changed | w0 parsed\n"
+          ++ codes "- evaluated j0 -> installing | w0 installing | settled j0 r0 | updatefound r0\n"
+          ++ codes "- installed j0 -> ok | w0 installed\n"
+          ++ codes "- run j1 -> finished | unmapped r0 | settled j1 true | w0 redundant\n"
+          ++ codes "L0.3 await -> true\n"
+          ++ codes "- tryactivate r0 -> none\n"
+          ++ codes "end done\n";
       shown =
-    codes "registrations 0\n"
-    ++ codes "caches 0\n";
+          codes "registrations 0\n"
+          ++ codes "caches 0\n";
       durable =
-    codes "registrations 0\n"
-    ++ codes "caches 0\n";
+          codes "registrations 0\n"
+          ++ codes "caches 0\n";
     }
 unfolding digits escape_byte grammar_on_literals steps_on_literals
 row_046 = refl
@@ -205,18 +205,18 @@ row_055 :
     ++ codes "{\"lane\":0,\"do\":\"await\",\"of\":1}\n")
     ≡ record {
       transcript =
-    codes "- restarted -> 0 registrations 0 caches\n"
-    ++ codes "L0.0 open -> none\n"
-    ++ codes "L0.1 unregister -> j0\n"
-    ++ codes "- run j0 -> finished | settled j0 SecurityError scope-origin\n"
-    ++ codes "L0.2 await -> SecurityError scope-origin\n"
-    ++ codes "end done\n";
+          codes "- restarted -> 0 registrations 0 caches\n"
+          ++ codes "L0.0 open -> none\n"
+          ++ codes "L0.1 unregister -> j0\n"
+          ++ codes "- run j0 -> finished | settled j0 SecurityError scope-origin\n"
+          ++ codes "L0.2 await -> SecurityError scope-origin\n"
+          ++ codes "end done\n";
       shown =
-    codes "registrations 0\n"
-    ++ codes "caches 0\n";
+          codes "registrations 0\n"
+          ++ codes "caches 0\n";
       durable =
-    codes "registrations 0\n"
-    ++ codes "caches 0\n";
+          codes "registrations 0\n"
+          ++ codes "caches 0\n";
     }
 unfolding digits escape_byte grammar_on_literals steps_on_literals
 row_055 = refl
@@ -228,18 +228,18 @@ row_063 :
     ++ codes "{\"lane\":2,\"do\":\"await\",\"of\":1}\n")
     ≡ record {
       transcript =
-    codes "- restarted -> 0 registrations 0 caches\n"
-    ++ codes "L2.0 open -> none\n"
-    ++ codes "L2.1 unregister -> j0\n"
-    ++ codes "- run j0 -> finished | settled j0 false\n"
-    ++ codes "L2.2 await -> false\n"
-    ++ codes "end done\n";
+          codes "- restarted -> 0 registrations 0 caches\n"
+          ++ codes "L2.0 open -> none\n"
+          ++ codes "L2.1 unregister -> j0\n"
+          ++ codes "- run j0 -> finished | settled j0 false\n"
+          ++ codes "L2.2 await -> false\n"
+          ++ codes "end done\n";
       shown =
-    codes "registrations 0\n"
-    ++ codes "caches 0\n";
+          codes "registrations 0\n"
+          ++ codes "caches 0\n";
       durable =
-    codes "registrations 0\n"
-    ++ codes "caches 0\n";
+          codes "registrations 0\n"
+          ++ codes "caches 0\n";
     }
 unfolding digits escape_byte grammar_on_literals steps_on_literals
 row_063 = refl
@@ -251,20 +251,20 @@ row_066 :
     ++ codes "{\"lane\":1,\"do\":\"await\",\"of\":1}\n")
     ≡ record {
       transcript =
-    codes "- restarted -> 0 registrations 0 caches\n"
-    ++ codes "L1.0 cacheOpen -> made\n"
-    ++ codes "L1.1 addAll -> a0\n"
-    ++ codes "- added a0 -> TypeError network 0\n"
-    ++ codes "L1.2 await -> TypeError network 0\n"
-    ++ codes "end done\n";
+          codes "- restarted -> 0 registrations 0 caches\n"
+          ++ codes "L1.0 cacheOpen -> made\n"
+          ++ codes "L1.1 addAll -> a0\n"
+          ++ codes "- added a0 -> TypeError network 0\n"
+          ++ codes "L1.2 await -> TypeError network 0\n"
+          ++ codes "end done\n";
       shown =
-    codes "registrations 0\n"
-    ++ codes "caches 1\n"
-    ++ codes "cache \"https://xn--nxa.test\" \"w\" 0\n";
+          codes "registrations 0\n"
+          ++ codes "caches 1\n"
+          ++ codes "cache \"https://xn--nxa.test\" \"w\" 0\n";
       durable =
-    codes "registrations 0\n"
-    ++ codes "caches 1\n"
-    ++ codes "cache \"https://xn--nxa.test\" \"w\" 0\n";
+          codes "registrations 0\n"
+          ++ codes "caches 1\n"
+          ++ codes "cache \"https://xn--nxa.test\" \"w\" 0\n";
     }
 unfolding digits escape_byte grammar_on_literals steps_on_literals
 row_066 = refl
@@ -277,19 +277,19 @@ row_084 :
     ++ codes "{\"lane\":0,\"do\":\"await\",\"of\":1}\n")
     ≡ record {
       transcript =
-    codes "- restarted -> 0 registrations 0 caches\n"
-    ++ codes "L0.0 open -> none\n"
-    ++ codes "L0.1 register -> j0\n"
-    ++ codes "- run j0 -> fetch 0 | mapped r0\n"
-    ++ codes "- fetched j0 -> rejected | settled j0 TypeError status | unmapped r0\n"
-    ++ codes "L0.2 await -> TypeError status\n"
-    ++ codes "end done\n";
+          codes "- restarted -> 0 registrations 0 caches\n"
+          ++ codes "L0.0 open -> none\n"
+          ++ codes "L0.1 register -> j0\n"
+          ++ codes "- run j0 -> fetch 0 | mapped r0\n"
+          ++ codes "- fetched j0 -> rejected | settled j0 TypeError status | unmapped r0\n"
+          ++ codes "L0.2 await -> TypeError status\n"
+          ++ codes "end done\n";
       shown =
-    codes "registrations 0\n"
-    ++ codes "caches 0\n";
+          codes "registrations 0\n"
+          ++ codes "caches 0\n";
       durable =
-    codes "registrations 0\n"
-    ++ codes "caches 0\n";
+          codes "registrations 0\n"
+          ++ codes "caches 0\n";
     }
 unfolding digits escape_byte grammar_on_literals steps_on_literals
 row_084 = refl
@@ -304,26 +304,26 @@ row_089 :
     ++ codes "{\"lane\":0,\"do\":\"update\",\"client\":4,\"scope\":\"/\"}\n")
     ≡ record {
       transcript =
-    codes "- restarted -> 0 registrations 0 caches\n"
-    ++ codes "L0.0 open -> none\n"
-    ++ codes "L0.1 register -> j0\n"
-    ++ codes "- run j0 -> fetch 0 | mapped r0\n"
-    ++ codes "- fetched j0 -> changed | w0 parsed\n"
-    ++ codes "- evaluated j0 -> installing | w0 installing | settled j0 r0 | updatefound r0\n"
-    ++ codes "L0.2 await -> r0\n"
-    ++ codes "L0.3 unregister -> j1\n"
-    ++ codes "L0.4 update -> j2\n"
-    ++ codes "- installed j0 -> ok | w0 installed\n"
-    ++ codes "- run j1 -> finished | unmapped r0 | settled j1 true | w0 redundant\n"
-    ++ codes "- run j2 -> finished | settled j2 TypeError no-registration\n"
-    ++ codes "- tryactivate r0 -> none\n"
-    ++ codes "end done\n";
+          codes "- restarted -> 0 registrations 0 caches\n"
+          ++ codes "L0.0 open -> none\n"
+          ++ codes "L0.1 register -> j0\n"
+          ++ codes "- run j0 -> fetch 0 | mapped r0\n"
+          ++ codes "- fetched j0 -> changed | w0 parsed\n"
+          ++ codes "- evaluated j0 -> installing | w0 installing | settled j0 r0 | updatefound r0\n"
+          ++ codes "L0.2 await -> r0\n"
+          ++ codes "L0.3 unregister -> j1\n"
+          ++ codes "L0.4 update -> j2\n"
+          ++ codes "- installed j0 -> ok | w0 installed\n"
+          ++ codes "- run j1 -> finished | unmapped r0 | settled j1 true | w0 redundant\n"
+          ++ codes "- run j2 -> finished | settled j2 TypeError no-registration\n"
+          ++ codes "- tryactivate r0 -> none\n"
+          ++ codes "end done\n";
       shown =
-    codes "registrations 0\n"
-    ++ codes "caches 0\n";
+          codes "registrations 0\n"
+          ++ codes "caches 0\n";
       durable =
-    codes "registrations 0\n"
-    ++ codes "caches 0\n";
+          codes "registrations 0\n"
+          ++ codes "caches 0\n";
     }
 unfolding digits escape_byte grammar_on_literals steps_on_literals
 row_089 = refl
@@ -335,19 +335,19 @@ row_091 :
     ++ codes "{\"lane\":0,\"do\":\"await\",\"of\":1}\n")
     ≡ record {
       transcript =
-    codes "- restarted -> 0 registrations 0 caches\n"
-    ++ codes "L0.0 cacheOpen -> made\n"
-    ++ codes "L0.1 addAll -> TypeError method\n"
-    ++ codes "L0.2 await -> TypeError method\n"
-    ++ codes "end done\n";
+          codes "- restarted -> 0 registrations 0 caches\n"
+          ++ codes "L0.0 cacheOpen -> made\n"
+          ++ codes "L0.1 addAll -> TypeError method\n"
+          ++ codes "L0.2 await -> TypeError method\n"
+          ++ codes "end done\n";
       shown =
-    codes "registrations 0\n"
-    ++ codes "caches 1\n"
-    ++ codes "cache \"https://xn--nxa.test\" \"w\" 0\n";
+          codes "registrations 0\n"
+          ++ codes "caches 1\n"
+          ++ codes "cache \"https://xn--nxa.test\" \"w\" 0\n";
       durable =
-    codes "registrations 0\n"
-    ++ codes "caches 1\n"
-    ++ codes "cache \"https://xn--nxa.test\" \"w\" 0\n";
+          codes "registrations 0\n"
+          ++ codes "caches 1\n"
+          ++ codes "cache \"https://xn--nxa.test\" \"w\" 0\n";
     }
 unfolding digits escape_byte grammar_on_literals steps_on_literals
 row_091 = refl
@@ -358,16 +358,16 @@ row_103 :
     ++ codes "{\"lane\":0,\"do\":\"await\",\"of\":0}\n")
     ≡ record {
       transcript =
-    codes "- restarted -> 0 registrations 0 caches\n"
-    ++ codes "L0.0 addAll -> SecurityError untrusted\n"
-    ++ codes "L0.1 await -> SecurityError untrusted\n"
-    ++ codes "end done\n";
+          codes "- restarted -> 0 registrations 0 caches\n"
+          ++ codes "L0.0 addAll -> SecurityError untrusted\n"
+          ++ codes "L0.1 await -> SecurityError untrusted\n"
+          ++ codes "end done\n";
       shown =
-    codes "registrations 0\n"
-    ++ codes "caches 0\n";
+          codes "registrations 0\n"
+          ++ codes "caches 0\n";
       durable =
-    codes "registrations 0\n"
-    ++ codes "caches 0\n";
+          codes "registrations 0\n"
+          ++ codes "caches 0\n";
     }
 unfolding digits escape_byte grammar_on_literals steps_on_literals
 row_103 = refl
@@ -379,20 +379,20 @@ row_108 :
     ++ codes "{\"lane\":1,\"do\":\"await\",\"of\":1}\n")
     ≡ record {
       transcript =
-    codes "- restarted -> 0 registrations 0 caches\n"
-    ++ codes "L1.0 cacheOpen -> made\n"
-    ++ codes "L1.1 addAll -> a0\n"
-    ++ codes "- added a0 -> ok\n"
-    ++ codes "L1.2 await -> ok\n"
-    ++ codes "end done\n";
+          codes "- restarted -> 0 registrations 0 caches\n"
+          ++ codes "L1.0 cacheOpen -> made\n"
+          ++ codes "L1.1 addAll -> a0\n"
+          ++ codes "- added a0 -> ok\n"
+          ++ codes "L1.2 await -> ok\n"
+          ++ codes "end done\n";
       shown =
-    codes "registrations 0\n"
-    ++ codes "caches 1\n"
-    ++ codes "cache \"https://a.test:8443\" \"v1\" 0\n";
+          codes "registrations 0\n"
+          ++ codes "caches 1\n"
+          ++ codes "cache \"https://a.test:8443\" \"v1\" 0\n";
       durable =
-    codes "registrations 0\n"
-    ++ codes "caches 1\n"
-    ++ codes "cache \"https://a.test:8443\" \"v1\" 0\n";
+          codes "registrations 0\n"
+          ++ codes "caches 1\n"
+          ++ codes "cache \"https://a.test:8443\" \"v1\" 0\n";
     }
 unfolding digits escape_byte grammar_on_literals steps_on_literals
 row_108 = refl
@@ -405,20 +405,20 @@ row_124 :
     ++ codes "{\"lane\":0,\"do\":\"await\",\"of\":1}\n")
     ≡ record {
       transcript =
-    codes "- restarted -> 0 registrations 0 caches\n"
-    ++ codes "L0.0 cacheOpen -> made\n"
-    ++ codes "L0.1 addAll -> a0\n"
-    ++ codes "- added a0 -> TypeError partial 0\n"
-    ++ codes "L0.2 await -> TypeError partial 0\n"
-    ++ codes "end done\n";
+          codes "- restarted -> 0 registrations 0 caches\n"
+          ++ codes "L0.0 cacheOpen -> made\n"
+          ++ codes "L0.1 addAll -> a0\n"
+          ++ codes "- added a0 -> TypeError partial 0\n"
+          ++ codes "L0.2 await -> TypeError partial 0\n"
+          ++ codes "end done\n";
       shown =
-    codes "registrations 0\n"
-    ++ codes "caches 1\n"
-    ++ codes "cache \"http://x.localhost\" \"v\" 0\n";
+          codes "registrations 0\n"
+          ++ codes "caches 1\n"
+          ++ codes "cache \"http://x.localhost\" \"v\" 0\n";
       durable =
-    codes "registrations 0\n"
-    ++ codes "caches 1\n"
-    ++ codes "cache \"http://x.localhost\" \"v\" 0\n";
+          codes "registrations 0\n"
+          ++ codes "caches 1\n"
+          ++ codes "cache \"http://x.localhost\" \"v\" 0\n";
     }
 unfolding digits escape_byte grammar_on_literals steps_on_literals
 row_124 = refl
@@ -434,26 +434,26 @@ row_130 :
     ++ codes "{\"lane\":1,\"do\":\"await\",\"of\":4}\n")
     ≡ record {
       transcript =
-    codes "- restarted -> 0 registrations 0 caches\n"
-    ++ codes "L1.0 open -> none\n"
-    ++ codes "L1.1 register -> j0\n"
-    ++ codes "- run j0 -> fetch 0 | mapped r0\n"
-    ++ codes "- fetched j0 -> changed | w0 parsed\n"
-    ++ codes "- evaluated j0 -> installing | w0 installing | settled j0 r0 | updatefound r0\n"
-    ++ codes "L1.2 await -> r0\n"
-    ++ codes "L1.3 open -> none\n"
-    ++ codes "L1.4 update -> j1\n"
-    ++ codes "w0.install.0 addAll -> CacheGone\n"
-    ++ codes "- installed j0 -> failed | w0 redundant | unmapped r0\n"
-    ++ codes "- run j1 -> finished | settled j1 TypeError no-registration\n"
-    ++ codes "L1.5 await -> TypeError no-registration\n"
-    ++ codes "end done\n";
+          codes "- restarted -> 0 registrations 0 caches\n"
+          ++ codes "L1.0 open -> none\n"
+          ++ codes "L1.1 register -> j0\n"
+          ++ codes "- run j0 -> fetch 0 | mapped r0\n"
+          ++ codes "- fetched j0 -> changed | w0 parsed\n"
+          ++ codes "- evaluated j0 -> installing | w0 installing | settled j0 r0 | updatefound r0\n"
+          ++ codes "L1.2 await -> r0\n"
+          ++ codes "L1.3 open -> none\n"
+          ++ codes "L1.4 update -> j1\n"
+          ++ codes "w0.install.0 addAll -> CacheGone\n"
+          ++ codes "- installed j0 -> failed | w0 redundant | unmapped r0\n"
+          ++ codes "- run j1 -> finished | settled j1 TypeError no-registration\n"
+          ++ codes "L1.5 await -> TypeError no-registration\n"
+          ++ codes "end done\n";
       shown =
-    codes "registrations 0\n"
-    ++ codes "caches 0\n";
+          codes "registrations 0\n"
+          ++ codes "caches 0\n";
       durable =
-    codes "registrations 0\n"
-    ++ codes "caches 0\n";
+          codes "registrations 0\n"
+          ++ codes "caches 0\n";
     }
 unfolding digits escape_byte grammar_on_literals steps_on_literals
 row_130 = refl
@@ -466,20 +466,20 @@ row_135 :
     ++ codes "{\"lane\":1,\"do\":\"await\",\"of\":1}\n")
     ≡ record {
       transcript =
-    codes "- restarted -> 0 registrations 0 caches\n"
-    ++ codes "L1.0 open -> none\n"
-    ++ codes "L1.1 register -> j0\n"
-    ++ codes "- run j0 -> fetch 0 | mapped r0\n"
-    ++ codes "- fetched j0 -> changed | w0 parsed\n"
-    ++ codes "- evaluated j0 -> threw | w0 redundant | settled j0 TypeError threw | unmapped r0\n"
-    ++ codes "L1.2 await -> TypeError threw\n"
-    ++ codes "end done\n";
+          codes "- restarted -> 0 registrations 0 caches\n"
+          ++ codes "L1.0 open -> none\n"
+          ++ codes "L1.1 register -> j0\n"
+          ++ codes "- run j0 -> fetch 0 | mapped r0\n"
+          ++ codes "- fetched j0 -> changed | w0 parsed\n"
+          ++ codes "- evaluated j0 -> threw | w0 redundant | settled j0 TypeError threw | unmapped r0\n"
+          ++ codes "L1.2 await -> TypeError threw\n"
+          ++ codes "end done\n";
       shown =
-    codes "registrations 0\n"
-    ++ codes "caches 0\n";
+          codes "registrations 0\n"
+          ++ codes "caches 0\n";
       durable =
-    codes "registrations 0\n"
-    ++ codes "caches 0\n";
+          codes "registrations 0\n"
+          ++ codes "caches 0\n";
     }
 unfolding digits escape_byte grammar_on_literals steps_on_literals
 row_135 = refl
@@ -493,24 +493,24 @@ row_137 :
     ++ codes "{\"lane\":0,\"do\":\"unregister\",\"client\":4,\"scope\":\"/\"}\n")
     ≡ record {
       transcript =
-    codes "- restarted -> 0 registrations 0 caches\n"
-    ++ codes "L0.0 open -> none\n"
-    ++ codes "L0.1 register -> j0\n"
-    ++ codes "L0.2 unregister -> j1\n"
-    ++ codes "L0.3 unregister -> j2 joined j1\n"
-    ++ codes "- run j0 -> fetch 0 | mapped r0\n"
-    ++ codes "- fetched j0 -> changed | w0 parsed\n"
-    ++ codes "- evaluated j0 -> installing | w0 installing | settled j0 r0 | updatefound r0\n"
-    ++ codes "- installed j0 -> ok | w0 installed\n"
-    ++ codes "- run j1 -> finished | unmapped r0 | settled j1 true | settled j2 true | w0 redundant\n"
-    ++ codes "- tryactivate r0 -> none\n"
-    ++ codes "end done\n";
+          codes "- restarted -> 0 registrations 0 caches\n"
+          ++ codes "L0.0 open -> none\n"
+          ++ codes "L0.1 register -> j0\n"
+          ++ codes "L0.2 unregister -> j1\n"
+          ++ codes "L0.3 unregister -> j2 joined j1\n"
+          ++ codes "- run j0 -> fetch 0 | mapped r0\n"
+          ++ codes "- fetched j0 -> changed | w0 parsed\n"
+          ++ codes "- evaluated j0 -> installing | w0 installing | settled j0 r0 | updatefound r0\n"
+          ++ codes "- installed j0 -> ok | w0 installed\n"
+          ++ codes "- run j1 -> finished | unmapped r0 | settled j1 true | settled j2 true | w0 redundant\n"
+          ++ codes "- tryactivate r0 -> none\n"
+          ++ codes "end done\n";
       shown =
-    codes "registrations 0\n"
-    ++ codes "caches 0\n";
+          codes "registrations 0\n"
+          ++ codes "caches 0\n";
       durable =
-    codes "registrations 0\n"
-    ++ codes "caches 0\n";
+          codes "registrations 0\n"
+          ++ codes "caches 0\n";
     }
 unfolding digits escape_byte grammar_on_literals steps_on_literals
 row_137 = refl
@@ -523,20 +523,20 @@ row_139 :
     ++ codes "{\"lane\":0,\"do\":\"await\",\"of\":1}\n")
     ≡ record {
       transcript =
-    codes "- restarted -> 0 registrations 0 caches\n"
-    ++ codes "L0.0 cacheOpen -> made\n"
-    ++ codes "L0.1 addAll -> a0\n"
-    ++ codes "- added a0 -> TypeError status 0\n"
-    ++ codes "L0.2 await -> TypeError status 0\n"
-    ++ codes "end done\n";
+          codes "- restarted -> 0 registrations 0 caches\n"
+          ++ codes "L0.0 cacheOpen -> made\n"
+          ++ codes "L0.1 addAll -> a0\n"
+          ++ codes "- added a0 -> TypeError status 0\n"
+          ++ codes "L0.2 await -> TypeError status 0\n"
+          ++ codes "end done\n";
       shown =
-    codes "registrations 0\n"
-    ++ codes "caches 1\n"
-    ++ codes "cache \"http://127.9.0.1:99\" \"v1\" 0\n";
+          codes "registrations 0\n"
+          ++ codes "caches 1\n"
+          ++ codes "cache \"http://127.9.0.1:99\" \"v1\" 0\n";
       durable =
-    codes "registrations 0\n"
-    ++ codes "caches 1\n"
-    ++ codes "cache \"http://127.9.0.1:99\" \"v1\" 0\n";
+          codes "registrations 0\n"
+          ++ codes "caches 1\n"
+          ++ codes "cache \"http://127.9.0.1:99\" \"v1\" 0\n";
     }
 unfolding digits escape_byte grammar_on_literals steps_on_literals
 row_139 = refl
@@ -549,20 +549,20 @@ row_157 :
     ++ codes "{\"lane\":1,\"do\":\"await\",\"of\":1}\n")
     ≡ record {
       transcript =
-    codes "- restarted -> 0 registrations 0 caches\n"
-    ++ codes "L1.0 cacheOpen -> made\n"
-    ++ codes "L1.1 addAll -> a0\n"
-    ++ codes "- added a0 -> TypeError vary 0\n"
-    ++ codes "L1.2 await -> TypeError vary 0\n"
-    ++ codes "end done\n";
+          codes "- restarted -> 0 registrations 0 caches\n"
+          ++ codes "L1.0 cacheOpen -> made\n"
+          ++ codes "L1.1 addAll -> a0\n"
+          ++ codes "- added a0 -> TypeError vary 0\n"
+          ++ codes "L1.2 await -> TypeError vary 0\n"
+          ++ codes "end done\n";
       shown =
-    codes "registrations 0\n"
-    ++ codes "caches 1\n"
-    ++ codes "cache \"http://x.localhost\" \"v\" 0\n";
+          codes "registrations 0\n"
+          ++ codes "caches 1\n"
+          ++ codes "cache \"http://x.localhost\" \"v\" 0\n";
       durable =
-    codes "registrations 0\n"
-    ++ codes "caches 1\n"
-    ++ codes "cache \"http://x.localhost\" \"v\" 0\n";
+          codes "registrations 0\n"
+          ++ codes "caches 1\n"
+          ++ codes "cache \"http://x.localhost\" \"v\" 0\n";
     }
 unfolding digits escape_byte grammar_on_literals steps_on_literals
 row_157 = refl
@@ -574,17 +574,17 @@ row_188 :
     ++ codes "{\"lane\":0,\"do\":\"await\",\"of\":1}\n")
     ≡ record {
       transcript =
-    codes "- restarted -> 0 registrations 0 caches\n"
-    ++ codes "L0.0 open -> none\n"
-    ++ codes "L0.1 register -> TypeError scheme\n"
-    ++ codes "L0.2 await -> TypeError scheme\n"
-    ++ codes "end done\n";
+          codes "- restarted -> 0 registrations 0 caches\n"
+          ++ codes "L0.0 open -> none\n"
+          ++ codes "L0.1 register -> TypeError scheme\n"
+          ++ codes "L0.2 await -> TypeError scheme\n"
+          ++ codes "end done\n";
       shown =
-    codes "registrations 0\n"
-    ++ codes "caches 0\n";
+          codes "registrations 0\n"
+          ++ codes "caches 0\n";
       durable =
-    codes "registrations 0\n"
-    ++ codes "caches 0\n";
+          codes "registrations 0\n"
+          ++ codes "caches 0\n";
     }
 unfolding digits escape_byte grammar_on_literals steps_on_literals
 row_188 = refl
@@ -596,17 +596,17 @@ row_219 :
     ++ codes "{\"lane\":1,\"do\":\"await\",\"of\":1}\n")
     ≡ record {
       transcript =
-    codes "- restarted -> 0 registrations 0 caches\n"
-    ++ codes "L1.0 open -> none\n"
-    ++ codes "L1.1 register -> TypeError unparsed\n"
-    ++ codes "L1.2 await -> TypeError unparsed\n"
-    ++ codes "end done\n";
+          codes "- restarted -> 0 registrations 0 caches\n"
+          ++ codes "L1.0 open -> none\n"
+          ++ codes "L1.1 register -> TypeError unparsed\n"
+          ++ codes "L1.2 await -> TypeError unparsed\n"
+          ++ codes "end done\n";
       shown =
-    codes "registrations 0\n"
-    ++ codes "caches 0\n";
+          codes "registrations 0\n"
+          ++ codes "caches 0\n";
       durable =
-    codes "registrations 0\n"
-    ++ codes "caches 0\n";
+          codes "registrations 0\n"
+          ++ codes "caches 0\n";
     }
 unfolding digits escape_byte grammar_on_literals steps_on_literals
 row_219 = refl
@@ -622,26 +622,26 @@ row_297 :
     ++ codes "{\"lane\":0,\"do\":\"unregister\",\"client\":3,\"scope\":\"/\"}\n")
     ≡ record {
       transcript =
-    codes "- restarted -> 0 registrations 0 caches\n"
-    ++ codes "L0.0 open -> none\n"
-    ++ codes "L0.1 register -> j0\n"
-    ++ codes "L0.2 unregister -> j1\n"
-    ++ codes "L0.3 unregister -> j2 joined j1\n"
-    ++ codes "L0.4 unregister -> j3 joined j1\n"
-    ++ codes "L0.5 unregister -> j4 joined j1\n"
-    ++ codes "- run j0 -> fetch 0 | mapped r0\n"
-    ++ codes "- fetched j0 -> changed | w0 parsed\n"
-    ++ codes "- evaluated j0 -> installing | w0 installing | settled j0 r0 | updatefound r0\n"
-    ++ codes "- installed j0 -> ok | w0 installed\n"
-    ++ codes "- run j1 -> finished | unmapped r0 | settled j1 true | settled j2 true | settled j3 true | settled j4 true | w0 redundant\n"
-    ++ codes "- tryactivate r0 -> none\n"
-    ++ codes "end done\n";
+          codes "- restarted -> 0 registrations 0 caches\n"
+          ++ codes "L0.0 open -> none\n"
+          ++ codes "L0.1 register -> j0\n"
+          ++ codes "L0.2 unregister -> j1\n"
+          ++ codes "L0.3 unregister -> j2 joined j1\n"
+          ++ codes "L0.4 unregister -> j3 joined j1\n"
+          ++ codes "L0.5 unregister -> j4 joined j1\n"
+          ++ codes "- run j0 -> fetch 0 | mapped r0\n"
+          ++ codes "- fetched j0 -> changed | w0 parsed\n"
+          ++ codes "- evaluated j0 -> installing | w0 installing | settled j0 r0 | updatefound r0\n"
+          ++ codes "- installed j0 -> ok | w0 installed\n"
+          ++ codes "- run j1 -> finished | unmapped r0 | settled j1 true | settled j2 true | settled j3 true | settled j4 true | w0 redundant\n"
+          ++ codes "- tryactivate r0 -> none\n"
+          ++ codes "end done\n";
       shown =
-    codes "registrations 0\n"
-    ++ codes "caches 0\n";
+          codes "registrations 0\n"
+          ++ codes "caches 0\n";
       durable =
-    codes "registrations 0\n"
-    ++ codes "caches 0\n";
+          codes "registrations 0\n"
+          ++ codes "caches 0\n";
     }
 unfolding digits escape_byte grammar_on_literals steps_on_literals
 row_297 = refl
@@ -661,34 +661,34 @@ row_299 :
     ++ codes "{\"lane\":1,\"do\":\"forget\",\"at\":\"https://a.test/\"}\n")
     ≡ record {
       transcript =
-    codes "- restarted -> 0 registrations 0 caches\n"
-    ++ codes "L1.0 open -> none\n"
-    ++ codes "L1.1 register -> j0\n"
-    ++ codes "L1.2 open -> none\n"
-    ++ codes "L1.3 register -> j1\n"
-    ++ codes "L1.4 unregister -> j2\n"
-    ++ codes "- run j0 -> fetch 0 | mapped r0\n"
-    ++ codes "- run j1 -> fetch 0 | mapped r1\n"
-    ++ codes "- fetched j0 -> changed | w0 parsed\n"
-    ++ codes "- fetched j1 -> changed | w1 parsed\n"
-    ++ codes "- evaluated j0 -> installing | w0 installing | settled j0 r0 | updatefound r0\n"
-    ++ codes "- evaluated j1 -> installing | w1 installing | settled j1 r1 | updatefound r1\n"
-    ++ codes "- installed j0 -> ok | w0 installed\n"
-    ++ codes "- installed j1 -> ok | w1 installed\n"
-    ++ codes "- run j2 -> finished | unmapped r1 | settled j2 true | w1 redundant\n"
-    ++ codes "L1.5 await -> true\n"
-    ++ codes "L1.6 close -> ok\n"
-    ++ codes "L1.7 close -> ok\n"
-    ++ codes "L1.8 forget -> ok | unmapped r0 | w0 redundant\n"
-    ++ codes "- tryactivate r0 -> none\n"
-    ++ codes "- tryactivate r1 -> none\n"
-    ++ codes "end done\n";
+          codes "- restarted -> 0 registrations 0 caches\n"
+          ++ codes "L1.0 open -> none\n"
+          ++ codes "L1.1 register -> j0\n"
+          ++ codes "L1.2 open -> none\n"
+          ++ codes "L1.3 register -> j1\n"
+          ++ codes "L1.4 unregister -> j2\n"
+          ++ codes "- run j0 -> fetch 0 | mapped r0\n"
+          ++ codes "- run j1 -> fetch 0 | mapped r1\n"
+          ++ codes "- fetched j0 -> changed | w0 parsed\n"
+          ++ codes "- fetched j1 -> changed | w1 parsed\n"
+          ++ codes "- evaluated j0 -> installing | w0 installing | settled j0 r0 | updatefound r0\n"
+          ++ codes "- evaluated j1 -> installing | w1 installing | settled j1 r1 | updatefound r1\n"
+          ++ codes "- installed j0 -> ok | w0 installed\n"
+          ++ codes "- installed j1 -> ok | w1 installed\n"
+          ++ codes "- run j2 -> finished | unmapped r1 | settled j2 true | w1 redundant\n"
+          ++ codes "L1.5 await -> true\n"
+          ++ codes "L1.6 close -> ok\n"
+          ++ codes "L1.7 close -> ok\n"
+          ++ codes "L1.8 forget -> ok | unmapped r0 | w0 redundant\n"
+          ++ codes "- tryactivate r0 -> none\n"
+          ++ codes "- tryactivate r1 -> none\n"
+          ++ codes "end done\n";
       shown =
-    codes "registrations 0\n"
-    ++ codes "caches 0\n";
+          codes "registrations 0\n"
+          ++ codes "caches 0\n";
       durable =
-    codes "registrations 0\n"
-    ++ codes "caches 0\n";
+          codes "registrations 0\n"
+          ++ codes "caches 0\n";
     }
 unfolding digits escape_byte grammar_on_literals steps_on_literals
 row_299 = refl
@@ -706,34 +706,34 @@ row_313 :
     ++ codes "{\"lane\":1,\"do\":\"forget\",\"at\":\"https://b.test/\"}\n")
     ≡ record {
       transcript =
-    codes "- restarted -> 0 registrations 0 caches\n"
-    ++ codes "L0.0 open -> none\n"
-    ++ codes "L0.1 register -> j0\n"
-    ++ codes "L1.0 register -> j1\n"
-    ++ codes "- run j0 -> fetch 0 | mapped r0\n"
-    ++ codes "- run j1 -> fetch 1 | mapped r1\n"
-    ++ codes "- fetched j0 -> changed | w0 parsed\n"
-    ++ codes "- fetched j1 -> changed | w1 parsed\n"
-    ++ codes "- evaluated j0 -> installing | w0 installing | settled j0 r0 | updatefound r0\n"
-    ++ codes "- evaluated j1 -> installing | w1 installing | settled j1 r1 | updatefound r1\n"
-    ++ codes "L1.1 await -> r1\n"
-    ++ codes "L1.2 update -> j2\n"
-    ++ codes "- installed j0 -> ok | w0 installed\n"
-    ++ codes "- installed j1 -> ok | w1 installed\n"
-    ++ codes "- run j2 -> fetch 2\n"
-    ++ codes "- fetched j2 -> unchanged | settled j2 r1\n"
-    ++ codes "L1.3 await -> r1\n"
-    ++ codes "L1.4 close -> ok\n"
-    ++ codes "L1.5 forget -> ok | unmapped r0 | w0 redundant | unmapped r1 | w1 redundant\n"
-    ++ codes "- tryactivate r0 -> none\n"
-    ++ codes "- tryactivate r1 -> none\n"
-    ++ codes "end done\n";
+          codes "- restarted -> 0 registrations 0 caches\n"
+          ++ codes "L0.0 open -> none\n"
+          ++ codes "L0.1 register -> j0\n"
+          ++ codes "L1.0 register -> j1\n"
+          ++ codes "- run j0 -> fetch 0 | mapped r0\n"
+          ++ codes "- run j1 -> fetch 1 | mapped r1\n"
+          ++ codes "- fetched j0 -> changed | w0 parsed\n"
+          ++ codes "- fetched j1 -> changed | w1 parsed\n"
+          ++ codes "- evaluated j0 -> installing | w0 installing | settled j0 r0 | updatefound r0\n"
+          ++ codes "- evaluated j1 -> installing | w1 installing | settled j1 r1 | updatefound r1\n"
+          ++ codes "L1.1 await -> r1\n"
+          ++ codes "L1.2 update -> j2\n"
+          ++ codes "- installed j0 -> ok | w0 installed\n"
+          ++ codes "- installed j1 -> ok | w1 installed\n"
+          ++ codes "- run j2 -> fetch 2\n"
+          ++ codes "- fetched j2 -> unchanged | settled j2 r1\n"
+          ++ codes "L1.3 await -> r1\n"
+          ++ codes "L1.4 close -> ok\n"
+          ++ codes "L1.5 forget -> ok | unmapped r0 | w0 redundant | unmapped r1 | w1 redundant\n"
+          ++ codes "- tryactivate r0 -> none\n"
+          ++ codes "- tryactivate r1 -> none\n"
+          ++ codes "end done\n";
       shown =
-    codes "registrations 0\n"
-    ++ codes "caches 0\n";
+          codes "registrations 0\n"
+          ++ codes "caches 0\n";
       durable =
-    codes "registrations 0\n"
-    ++ codes "caches 0\n";
+          codes "registrations 0\n"
+          ++ codes "caches 0\n";
     }
 unfolding digits escape_byte grammar_on_literals steps_on_literals
 row_313 = refl
@@ -748,25 +748,25 @@ row_321 :
     ++ codes "{\"lane\":0,\"do\":\"unregister\",\"client\":5,\"scope\":\"/\"}\n")
     ≡ record {
       transcript =
-    codes "- restarted -> 0 registrations 0 caches\n"
-    ++ codes "L0.0 open -> none\n"
-    ++ codes "L0.1 register -> j0\n"
-    ++ codes "L0.2 unregister -> j1\n"
-    ++ codes "L0.3 unregister -> j2 joined j1\n"
-    ++ codes "L1.0 unregister -> j3 joined j1\n"
-    ++ codes "- run j0 -> fetch 0 | mapped r0\n"
-    ++ codes "- fetched j0 -> changed | w0 parsed\n"
-    ++ codes "- evaluated j0 -> installing | w0 installing | settled j0 r0 | updatefound r0\n"
-    ++ codes "- installed j0 -> ok | w0 installed\n"
-    ++ codes "- run j1 -> finished | unmapped r0 | settled j1 true | settled j2 true | settled j3 true | w0 redundant\n"
-    ++ codes "- tryactivate r0 -> none\n"
-    ++ codes "end done\n";
+          codes "- restarted -> 0 registrations 0 caches\n"
+          ++ codes "L0.0 open -> none\n"
+          ++ codes "L0.1 register -> j0\n"
+          ++ codes "L0.2 unregister -> j1\n"
+          ++ codes "L0.3 unregister -> j2 joined j1\n"
+          ++ codes "L1.0 unregister -> j3 joined j1\n"
+          ++ codes "- run j0 -> fetch 0 | mapped r0\n"
+          ++ codes "- fetched j0 -> changed | w0 parsed\n"
+          ++ codes "- evaluated j0 -> installing | w0 installing | settled j0 r0 | updatefound r0\n"
+          ++ codes "- installed j0 -> ok | w0 installed\n"
+          ++ codes "- run j1 -> finished | unmapped r0 | settled j1 true | settled j2 true | settled j3 true | w0 redundant\n"
+          ++ codes "- tryactivate r0 -> none\n"
+          ++ codes "end done\n";
       shown =
-    codes "registrations 0\n"
-    ++ codes "caches 0\n";
+          codes "registrations 0\n"
+          ++ codes "caches 0\n";
       durable =
-    codes "registrations 0\n"
-    ++ codes "caches 0\n";
+          codes "registrations 0\n"
+          ++ codes "caches 0\n";
     }
 unfolding digits escape_byte grammar_on_literals steps_on_literals
 row_321 = refl
