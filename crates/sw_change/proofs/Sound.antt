@@ -120,10 +120,6 @@ all_small limit [] below = tt
 all_small limit (step ∷ ops) below =
     (omega (arith, sum_by-cons op_size step ops, below), all_small limit ops (omega (arith, sum_by-cons op_size step ops, below)))
 
-quota_by : (pairs new : List Pair) (size : ℕ) (test : Bool) → leb size quota ≡ test → cond test (Ok pairs) (Err (Quota size)) ≡ Ok new → (size ≤ quota) × (pairs ≡ new)
-quota_by pairs new size true is e = (leb-true size quota is, went_is pairs new e)
-quota_by pairs new size false is e = absurd cc
-
 -- what a batch leaves that went so
 abbrev settled : ℕ → Result (List Pair) BatchFault → Result (List Pair) BatchFault
 settled size gone = elim gone [ Ok new ↦ within_quota size new | Err fault ↦ Err fault ]
