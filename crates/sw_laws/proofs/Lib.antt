@@ -3,6 +3,7 @@ pub mod BeginSteps
 pub mod ClaimSteps
 pub mod CoherentLaw
 pub mod ControlledLaw
+pub mod Contents
 pub mod Controls
 pub mod Cuts
 pub mod EndSteps
