@@ -1,7 +1,7 @@
 -- The kept registrations of a state as a list over its registrations and workers, and how a change of the rows moves it.
-use Rattle.std.proofs.Common.{◌≡◌, ◌∙◌, ℕ, zero, suc, ◌+◌, ◌<◌, ◌≤◌, Bool, true, false, not, ◌&&◌, ◌||◌, ◌==◌, List, [], ◌∷◌, ◌++◌, map, Option, Some, None, option_map, length, refl, sym, ap, arith, if◌then◌else◌}
-use Rattle.std.specs.List.{cons_option, list_all, list_any, filter_map, range_with_len}
-use Rattle.std.specs.Prelude.{find, is_some, nat_lt, option_and_then}
+use Rattle.std.proofs.Common.{◌≡◌, ◌∙◌, ℕ, Bool, true, false, not, ◌&&◌, ◌||◌, ◌==◌, List, [], ◌∷◌, map, Option, Some, None, option_map, length, refl, sym, ap, arith, if◌then◌else◌}
+use Rattle.std.specs.List.{cons_option, list_all, filter_map, range_with_len}
+use Rattle.std.specs.Prelude.{find, is_some, option_and_then}
 use Rattle.std.specs.Option.{option_map_or}
 use Rattle.std.proofs.lemmas.Bool.{and_parts}
 use Rattle.std.proofs.lemmas.Bool.Decides.{nat_tests}
@@ -10,7 +10,7 @@ use Rattle.sw_data.specs.declared.storage.KeptRegistration.{KeptRegistration}
 use Rattle.sw_data.specs.declared.storage.KeptWorker.{KeptWorker}
 use Rattle.sw_data.specs.declared.workers.Slot.{Slot}
 use Rattle.sw_data.specs.declared.workers.Slot.TheVariants as slot
-use Rattle.sw_rules.specs.Durable.{durable, durable_registration, kept_at}
+use Rattle.sw_rules.specs.Durable.{durable, durable_registration}
 use Rattle.sw_rules.specs.Installing.{kept_worker}
 use Rattle.sw_rules.specs.Rows.{in_slot, is_activated, is_number, slot_worker}
 use Rattle.sw_rules.specs.State.{State, Registration, Worker}

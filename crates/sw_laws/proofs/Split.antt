@@ -3,6 +3,7 @@
 use Rattle.std.proofs.Common.{◌≡◌, ℕ, Bool, true, false, not, ◌&&◌, ◌==◌, List, length, Some, None, Ok, arith}
 use Rattle.std.specs.Prelude.{option_and_then, is_none, is_some, map}
 use Rattle.std.specs.Option.{option_map_or}
+use Rattle.sw_data.specs.declared.answers.Fault.{Fault}
 use Rattle.sw_data.specs.declared.answers.Settlement.{Settlement}
 use Rattle.sw_data.specs.declared.answers.Settlement.TheVariants as settlement
 use Rattle.sw_data.specs.declared.events.Who.{Who}
@@ -19,7 +20,7 @@ use Rattle.sw_rules.specs.Batch.{batch}
 use Rattle.sw_rules.specs.Caching.{add_cache, add_task, carry_out, drop_cache, forget_key, is_busy, pairs_of, settle_task}
 use Rattle.sw_rules.specs.Calls.{note_call}
 use Rattle.sw_rules.specs.Clients.{add_client, add_event, claim_clients, flagged, leave, new_client, remove_event}
-use Rattle.sw_rules.specs.Installing.{begin_install, end_handler, ended_handler, fail_install, finish_install, job_worker, make_worker, tell_update, throw}
+use Rattle.sw_rules.specs.Installing.{begin_install, end_handler, ended_handler, fail_install, finish_install, job_worker, make_worker, reject_and_drop, tell_update, throw}
 use Rattle.sw_rules.specs.Jobs.{finish, promise, schedule, settle}
 use Rattle.sw_rules.specs.Matching.{Pair}
 use Rattle.sw_rules.specs.Preloading.{set_preload}
@@ -91,16 +92,27 @@ unload-law Law law leaving state client = grind (arith, law.nothing, law.further
 
 -- ---- what a law has to say
 
+-- a law of the steps in which a registration leaves the map because its job ends: that of unregistering, and that of a
+-- fetch which is rejected, as a whole
+pub record IsLeavingLaw (Law : State → Told → Type 0) : Type 0 where
+  pub unregistering : (state : State) (row : JobRow) (registration : Registration) → job_row state row.job.number ≡ Some row → may_run state row ≡ true → mapped_registration state row.job.key row.job.scope ≡ Some registration → Law state (unmap state registration.number)
+  pub rejecting : (state : State) (row : JobRow) (registration : ℕ) (why : Fault) → IsAt state is_fetching row registration → Law state (reject_and_drop state row.job.number registration why)
+
+-- a law of a registration that leaves the map: anywhere, or only there
+abbrev pub LeavesMap : Bool → (State → Told → Type 0) → Type 0
+LeavesMap true Law = (state : State) (registration : ℕ) → Law state (unmap state registration)
+LeavesMap false Law = IsLeavingLaw Law
+
 -- a law of all events: it holds of each least step, under the tests under which the step is taken; what gives a client
 -- a controller that it hadn't is asked for only where that counts
-pub record IsLaw (Law : State → Told → Type 0) (controls : Bool) : Type 0 where
+pub record IsLawWhere (Law : State → Told → Type 0) (controls anywhere : Bool) : Type 0 where
   pub rechecks : IsRecheckLaw Law
   pub scheduling : (state : State) (job : Job) → job.number ≡ length state.jobs → Law state (schedule state job)
   pub promising : (state : State) (who : Who) (awaited : Awaited) → is_there state.jobs state.tasks awaited ≡ true → Law state (promise state who awaited)
   pub settling : (state : State) (job : ℕ) (result : Settlement) → may_end state job ≡ true → Law state (settle state job result)
   pub finishing : (state : State) (job : ℕ) → may_finish state job ≡ true → Law state (finish state job)
   pub mapping : (state : State) (job : Job) → mapped_registration state job.key job.scope ≡ None → Law state (map_registration state job)
-  pub unmapping : (state : State) (registration : ℕ) → Law state (unmap state registration)
+  pub unmapping : LeavesMap anywhere Law
   pub moding : (state : State) (registration : ℕ) (mode : Mode) → Law state (set_mode state registration mode)
   pub preloading : (state : State) (registration : ℕ) (on : Bool) (text : List ℕ) → Law state (set_preload state registration on text)
   pub fetching : (state : State) (row : JobRow) (registration : Registration) → job_row state row.job.number ≡ Some row → may_run state row ≡ true → mapped_registration state row.job.key row.job.scope ≡ Some registration → Law state (fetch_script state row.job registration.number)
@@ -128,3 +140,7 @@ pub record IsLaw (Law : State → Told → Type 0) (controls : Bool) : Type 0 wh
   pub awaiting : (state : State) (who : Who) (key name : List ℕ) (requests : List Request) → is_running state.workers (maker_worker who) ≡ true → Law state (add_task state who key name requests)
   pub answering : (state : State) (number : ℕ) (result : Settlement) (faulted : Bool) → Law state (settle_task state number result faulted)
   pub noting : (state : State) (worker : ℕ) (faulted : Bool) → Law state (note_call state worker faulted)
+
+-- a law that holds of a registration which leaves the map anywhere
+abbrev pub IsLaw : (State → Told → Type 0) → Bool → Type 0
+IsLaw Law controls = IsLawWhere Law controls true
