@@ -27,6 +27,7 @@ pub mod MakeSteps
 pub mod Marks
 pub mod Moves
 pub mod Naming
+pub mod Ordered
 pub mod Places
 pub mod RegistrationSteps
 pub mod Reopened
