@@ -36,6 +36,7 @@ pub mod Restarts
 pub mod RowSteps
 pub mod SameCalls
 pub mod ScheduleSteps
+pub mod SlotMoves
 pub mod Split
 pub mod Twice
 pub mod WorkerSteps
