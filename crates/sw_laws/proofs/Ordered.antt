@@ -17,7 +17,7 @@ use Rattle.sw_rules.specs.Storage as storage
 use Rattle.sw_rules.specs.Told.{is_kept, kept_change}
 use Rattle.sw_laws.specs.Coherent.{SoundRegistrations, ArePlaces, apart, same_scope}
 use Rattle.sw_laws.proofs.Contents.{contents, contents_moved, is_worked, kept_in, kept_row, kept_with, same_first, slots_in, slots_of, Slots}
-use Rattle.sw_laws.proofs.Lists.{all_both, all_changed, all_weaker, apart_changed, by_test, bytes_eq_equal, bytes_eq_same, false_of, find_passes, found_by, none_found}
+use Rattle.sw_laws.proofs.Lists.{all_both, all_changed, all_true, all_weaker, apart_changed, by_test, bytes_eq_equal, bytes_eq_same, false_of, find_passes, found_by, map_same, none_found}
 use Rattle.sw_laws.proofs.Places.{all_as_found, all_known, places_apart}
 
 -- ---- the order
@@ -185,3 +185,25 @@ module _ (state : State) (new : List Worker) (number : ℕ) (g : Registration �
   pub recorded : (change_of : Registration → Change) → ((row : Registration) (kept : Kept) → (applied kept (change_of row)).registrations ≡ filter_map (only row.key row.scope f) kept.registrations)
       → (kept : Kept) → kept.registrations ≡ contents state.workers rows → (kept_after kept (kept_change state number change_of)).registrations ≡ now_kept
   recorded change_of does kept same = found_change change_of does (registration_row state number) refl kept same
+
+-- ---- no registration changes
+
+-- other workers, of which the same is kept
+pub contents_still : (old new : List Worker) (known : Registration → Bool) → ((x : Registration) → known x ≡ true → kept_in new x ≡ kept_in old x) → (rows : List Registration) → list_all known rows ≡ true → apart same_first rows ≡ true → contents new rows ≡ contents old rows
+contents_still old new known same rows knows fine =
+    ap (contents new) (sym (map_same rows))
+    ∙ (contents_moved old new (λ x. x) (λ row. Some row) known (λ x. refl) (λ x know. same x know ∙ sym (then_some (kept_in old x))) rows knows fine ∙ all_stay (contents old rows))
+
+pub ordered_still : (old new : List Worker) (known : Registration → Bool) → ((x : Registration) → known x ≡ true → x.mapped ≡ true → is_worked (slots_in new x.number) ≡ is_worked (slots_in old x.number)) → (rows : List Registration) → list_all known rows ≡ true → Ordered rows old → Ordered rows new
+ordered_still old new known same rows knows order = record {
+  sound = order.sound;
+  firsts = order.firsts;
+  below = order.below;
+  placed = subst (λ xs. list_all (has_place new) xs ≡ true) (map_same rows) (all_known known (has_place old) (has_place new) (λ x. x) (λ x know is. place_kept x.mapped x.mapped x.first x.first _ _ refl (λ mapped. (mapped, same x know mapped)) is) rows knows order.placed);
+}
+
+pub contents_same : (old new : List Worker) → ((n : ℕ) → slots_in new n ≡ slots_in old n) → (rows : List Registration) → apart same_first rows ≡ true → contents new rows ≡ contents old rows
+contents_same old new same rows fine = contents_still old new (λ x. true) (λ x know. ap (kept_with x) (same x.number)) rows (all_true rows) fine
+
+pub ordered_same : (old new : List Worker) → ((n : ℕ) → slots_in new n ≡ slots_in old n) → (rows : List Registration) → Ordered rows old → Ordered rows new
+ordered_same old new same rows order = ordered_still old new (λ x. true) (λ x know mapped. ap is_worked (same x.number)) rows (all_true rows) order

@@ -122,7 +122,7 @@ promote_waiting state x = grind arith
 promote_active : (state : WorkerState) (x : Worker) → in_slot slot.Active (promote (record x { state = state })).state ≡ in_slot slot.Waiting state
 promote_active state x = grind arith
 
-promote_registration : (state : WorkerState) (x : Worker) → (promote (record x { state = state })).registration ≡ x.registration
+pub promote_registration : (state : WorkerState) (x : Worker) → (promote (record x { state = state })).registration ≡ x.registration
 promote_registration state x = grind arith
 
 promote_kept : (state : WorkerState) (x : Worker) → kept_worker (promote (record x { state = state })) ≡ kept_worker x
