@@ -102,7 +102,7 @@ durable_is state = mapped_same _ _ (λ place. placed_is state place state.regist
 abbrev pub same_first : Registration → Registration → Bool
 same_first one other = option_map_or (is_number other.first) one.first false
 
-none_placed : (kept : Registration → Option KeptRegistration) (place : ℕ) (rows : List Registration) → list_all (λ row. not (is_number row.first place)) rows ≡ true → placed_at kept place rows ≡ None
+pub none_placed : (kept : Registration → Option KeptRegistration) (place : ℕ) (rows : List Registration) → list_all (λ row. not (is_number row.first place)) rows ≡ true → placed_at kept place rows ≡ None
 none_placed kept place [] is = refl
 none_placed kept place (row ∷ rows) is = grind (arith, is, none_placed kept place rows)
 

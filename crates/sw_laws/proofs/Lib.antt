@@ -22,6 +22,7 @@ pub mod JobMoves
 pub mod JobSteps
 pub mod KeptCaches
 pub mod KeptRechecks
+pub mod KeptRows
 pub mod LawProofs
 pub mod Lists
 pub mod MakeSteps

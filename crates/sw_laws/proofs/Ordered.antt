@@ -81,7 +81,7 @@ only_here key scope f x slots is = grind (arith, is)
 only_other : (key scope : List ℕ) (f : KeptRegistration → Option KeptRegistration) (x : Registration) (slots : Slots) → is_mapped_to key scope x ≡ false → option_and_then (only key scope f) (kept_with x slots) ≡ kept_with x slots
 only_other key scope f x slots is = grind (arith, is)
 
-then_some : {X : Type 0} (o : Option X) → option_and_then (λ x. Some x) o ≡ o
+pub then_some : {X : Type 0} (o : Option X) → option_and_then (λ x. Some x) o ≡ o
 then_some None = refl
 then_some (Some x) = refl
 
