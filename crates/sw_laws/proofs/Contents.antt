@@ -88,7 +88,7 @@ placed_is state place (row ∷ rows) =
     (λ here. grind (arith, here)) (λ other. placed_is state place rows ∙ grind (arith, other))
     ∙ kept_by state row (slot_worker state slot.Waiting row.number) (slot_worker state slot.Active row.number) place (placed_at (kept_in state.workers) place rows)
 
-mapped_same : {X Y : Type 0} (h k : X → Option Y) → ((x : X) → h x ≡ k x) → (xs : List X) → filter_map h xs ≡ filter_map k xs
+pub mapped_same : {X Y : Type 0} (h k : X → Option Y) → ((x : X) → h x ≡ k x) → (xs : List X) → filter_map h xs ≡ filter_map k xs
 mapped_same h k same [] = refl
 mapped_same h k same (x ∷ xs) = grind (arith, same x, mapped_same h k same xs)
 

@@ -153,7 +153,7 @@ module _ (Law : State → Told → Type 0) (controls : Bool) {anywhere : Bool} (
       (law.finishing (drop_registration settled registration).state job (rw (drop_jobs settled registration) may_now)))
 
   -- what holds of a registration that leaves the map anywhere holds of one that leaves it because its job ends
-  leaving-law : (where_ever : Bool) → LeavesMap where_ever Law → IsLeavingLaw Law
+  leaving-law : (everywhere : Bool) → LeavesMap everywhere Law → IsLeavingLaw Law
   leaving-law true unmapping = record {
     unregistering = λ state row registration found may mapped. unmapping state registration.number;
     rejecting = λ state row registration why at. reject_and_drop-law unmapping state row.job.number registration why (fetching_may_end state row registration at);

@@ -86,7 +86,7 @@ seen_some : (workers : List Worker) (registration : ℕ) → is_some (slots_in w
 unfolding slots_in
 seen_some workers registration = mapped_some kept_worker (found_in workers slot.Waiting registration)
 
-number_is : (a b : ℕ) → (a == b) ≡ true → a ≡ b
+pub number_is : (a b : ℕ) → (a == b) ≡ true → a ≡ b
 number_is a b is = grind (arith, nat_tests, is)
 
 module _ (state : State) (registration worker : ℕ) (is : chosen state registration ≡ Some worker) where

@@ -1,7 +1,7 @@
 -- What is kept where registrations are mapped, leave the map, and get a mode or a preload.
-use Rattle.std.proofs.Common.{◌≡◌, ◌∙◌, ℕ, zero, suc, ◌+◌, ◌≤◌, leb, Bool, true, false, not, ◌&&◌, ◌||◌, ◌==◌, List, [], ◌∷◌, ◌++◌, map, filter, Option, Some, None, length, refl, sym, ap, subst, true≢false, arith, if◌then◌else◌}
+use Rattle.std.proofs.Common.{◌≡◌, ◌∙◌, ℕ, zero, suc, ◌+◌, ◌≤◌, leb, Bool, true, false, not, ◌&&◌, ◌||◌, ◌==◌, List, [], ◌∷◌, ◌++◌, map, filter, Option, Some, None, option_map, length, refl, sym, ap, subst, true≢false, arith, if◌then◌else◌}
 use Rattle.std.specs.List.{list_all, list_any, filter_map, range_with_len}
-use Rattle.std.specs.Prelude.{bytes_eq, find, is_some, nat_lt, option_and_then}
+use Rattle.std.specs.Prelude.{bytes_eq, codes, find, is_some, nat_lt, option_and_then}
 use Rattle.std.specs.Option.{option_map_or}
 use Rattle.std.proofs.lemmas.Bool.Decides.{nat_tests}
 use Rattle.std.proofs.lemmas.List.{append-nil}
@@ -20,29 +20,30 @@ use Rattle.sw_rules.specs.Installing.{first_counter}
 use Rattle.sw_rules.specs.Jobs.{same_mode}
 use Rattle.sw_rules.specs.Preloading.{has_preload, set_preload}
 use Rattle.sw_rules.specs.Registrations.{has_mode, map_registration, new_registration, set_mode, unmap}
-use Rattle.sw_rules.specs.Rows.{changed, in_slot, is_number, is_registration, registration_row}
+use Rattle.sw_rules.specs.Rows.{active_worker, changed, in_slot, is_number, is_registration, registration_row}
 use Rattle.sw_rules.specs.State.{State, Registration, Worker}
 use Rattle.sw_rules.specs.Storage.{applied, kept_after}
 use Rattle.sw_rules.specs.Told.{Told, kept_change}
 use Rattle.sw_laws.specs.Coherent.{SoundRegistrations, apart}
-use Rattle.sw_laws.proofs.Contents.{Slots, contents, contents_moved, found_in, is_worked, kept_in, kept_with, none_placed, placed_at, same_first, slots_in}
-use Rattle.sw_laws.proofs.KeptRechecks.{KeepsRows}
-use Rattle.sw_laws.proofs.Lists.{all_true, all_weaker, by_test, bytes_eq_equal, length_pushed}
-use Rattle.sw_laws.proofs.Ordered.{ChangesOne, KeepsPlaces, Ordered, all_stay, has_place, is_below, only, ordered_moved, recorded, then_some, with_only, without_only}
+use Rattle.sw_laws.proofs.Contents.{Slots, contents, contents_moved, found_in, is_worked, kept_in, kept_with, mapped_same, none_placed, placed_at, same_first, slots_in}
+use Rattle.sw_laws.proofs.KeptRechecks.{KeepsRows, number_is}
+use Rattle.sw_laws.proofs.Lists.{all_true, all_weaker, by_test, bytes_eq_equal, bytes_eq_same, length_pushed}
+use Rattle.sw_laws.proofs.Ordered.{ChangesOne, KeepsPlaces, Ordered, all_stay, has_place, is_below, is_fresh, only, ordered_moved, recorded, then_some, with_only, without_only}
 use Rattle.sw_laws.proofs.Places.{all_as_found, all_not_found, all_pushed, apart_pushed, places_apart, range_pushed}
 use Rattle.sw_laws.proofs.SlotMoves.{slots_with}
 
 -- ---- changes of registrations alone
 
 -- a change of some registrations that keeps their places and maps none
-pub ordered_plain : (workers : List Worker) (test : Registration → Bool) (g : Registration → Registration) → ((x : Registration) → (g x).first ≡ x.first) → ((x : Registration) → (g x).number ≡ x.number) → ((x : Registration) → (g x).mapped ≡ true → x.mapped ≡ true)
-    → (rows : List Registration) → SoundRegistrations (changed test g rows) → Ordered rows workers → Ordered (changed test g rows) workers
-ordered_plain workers test g first number mapped rows sound order =
-    ordered_moved (λ row. if test row then g row else row) workers workers (λ x. true) (record {
+pub ordered_plain : (workers : List Worker) (test : Registration → Bool) (g : Registration → Registration) → ((x : Registration) → (g x).first ≡ x.first) → ((x : Registration) → (g x).number ≡ x.number) → ((x : Registration) → (g x).mapped ≡ true → x.mapped ≡ true) → (known : Registration → Bool) → ((x : Registration) → known x ≡ true → test x ≡ true → is_fresh x ≡ true → is_fresh (g x) ≡ true)
+    → (rows : List Registration) → list_all known rows ≡ true → SoundRegistrations (changed test g rows) → Ordered rows workers → Ordered (changed test g rows) workers
+ordered_plain workers test g first number mapped known fresh rows knows sound order =
+    ordered_moved (λ row. if test row then g row else row) workers workers known (record {
       first = λ x. by_test (λ (row : Registration). row.first ≡ x.first) (test x) _ x (λ here. first x) (λ other. refl);
       worked = λ x know. by_test (λ (row : Registration). row.mapped ≡ true → (x.mapped ≡ true) × (is_worked (slots_in workers row.number) ≡ is_worked (slots_in workers x.number))) (test x) _ x
           (λ here is. (mapped x is, ap (λ n. is_worked (slots_in workers n)) (number x))) (λ other is. (is, refl));
-    }) rows (all_true rows) sound order
+      fresh = λ x know was. by_test (λ (row : Registration). is_fresh row ≡ true) (test x) _ x (λ here. fresh x know here was) (λ other. was);
+    }) rows knows sound order
 
 -- a change of the registration of a number, of which what is kept changes as is recorded
 changes_plain : (workers : List Worker) (number : ℕ) (g : Registration → Registration) (f : KeptRegistration → Option KeptRegistration) → ((x : Registration) (slots : Slots) → kept_with (g x) slots ≡ option_and_then f (kept_with x slots)) → ((x : Registration) → (g x).number ≡ x.number)
@@ -66,7 +67,7 @@ gone_of x slots = grind arith
 
 pub unmap_ordered : (state : State) (registration : ℕ) → SoundRegistrations (unmap state registration).state.registrations → Ordered state.registrations state.workers → Ordered (unmap state registration).state.registrations state.workers
 unfolding unmap
-unmap_ordered state registration sound order = ordered_plain state.workers (is_registration registration) (λ row. record row { mapped = false }) (λ x. refl) (λ x. refl) (λ x is. absurd (true≢false (sym is))) state.registrations sound order
+unmap_ordered state registration sound order = ordered_plain state.workers (is_registration registration) (λ row. record row { mapped = false }) (λ x. refl) (λ x. refl) (λ x is. absurd (true≢false (sym is))) (λ x. true) (λ x know here was. refl) state.registrations (all_true state.registrations) sound order
 
 pub unmap_rows : (state : State) (registration : ℕ) → Ordered state.registrations state.workers → KeepsRows state (unmap state registration)
 unfolding unmap
@@ -107,7 +108,7 @@ mode_of_kept mode x slots = grind arith
 
 pub mode_ordered : (state : State) (registration : ℕ) (mode : Mode) → SoundRegistrations (set_mode state registration mode).state.registrations → Ordered state.registrations state.workers → Ordered (set_mode state registration mode).state.registrations state.workers
 unfolding set_mode
-mode_ordered state registration mode sound order = ordered_plain state.workers (is_registration registration) (λ row. record row { mode = mode }) (λ x. refl) (λ x. refl) (λ x is. is) state.registrations sound order
+mode_ordered state registration mode sound order = ordered_plain state.workers (is_registration registration) (λ row. record row { mode = mode }) (λ x. refl) (λ x. refl) (λ x is. is) (λ x. true) (λ x know here was. was) state.registrations (all_true state.registrations) sound order
 
 pub mode_rows : (state : State) (registration : ℕ) (mode : Mode) → Ordered state.registrations state.workers → KeepsRows state (set_mode state registration mode)
 unfolding set_mode
@@ -127,9 +128,20 @@ has_already on text x is =
     let value = bytes_eq_equal x.preload_value text (grind (arith, is)) in
     ap (λ b. record x { preload = b; preload_value = text }) (sym flag) ∙ ap (λ t. record x { preload_value = t }) (sym value)
 
-pub preload_ordered : (state : State) (registration : ℕ) (on : Bool) (text : List ℕ) → SoundRegistrations (set_preload state registration on text).state.registrations → Ordered state.registrations state.workers → Ordered (set_preload state registration on text).state.registrations state.workers
+active_seen : (workers : List Worker) (registration : ℕ) → is_some (option_map (λ (w : Worker). w.number) (found_in workers slot.Active registration)) ≡ true → is_worked (slots_in workers registration) ≡ true
+unfolding slots_in
+active_seen workers registration is = grind (arith, is)
+
+-- a mapped registration with an active worker has a place
+placed_fresh : (x : Registration) (on : Bool) (text : List ℕ) (worked : Bool) → (not x.mapped || same_truth (is_some x.first) worked) ≡ true → worked ≡ true → is_fresh (record x { preload = on; preload_value = text }) ≡ true
+placed_fresh x on text worked placed is = grind (arith, placed, is)
+
+pub preload_ordered : (state : State) (registration : ℕ) (on : Bool) (text : List ℕ) → is_some (active_worker state registration) ≡ true → SoundRegistrations (set_preload state registration on text).state.registrations → Ordered state.registrations state.workers → Ordered (set_preload state registration on text).state.registrations state.workers
 unfolding set_preload
-preload_ordered state registration on text sound order = ordered_plain state.workers (is_registration registration) (λ row. record row { preload = on; preload_value = text }) (λ x. refl) (λ x. refl) (λ x is. is) state.registrations sound order
+preload_ordered state registration on text active sound order =
+    let worked = active_seen state.workers registration active in
+    ordered_plain state.workers (is_registration registration) (λ row. record row { preload = on; preload_value = text }) (λ x. refl) (λ x. refl) (λ x is. is) (has_place state.workers)
+    (λ x placed here was. placed_fresh x on text (is_worked (slots_in state.workers x.number)) placed (subst (λ n. is_worked (slots_in state.workers n) ≡ true) (sym (number_is x.number registration here)) worked)) state.registrations order.placed sound order
 
 pub preload_rows : (state : State) (registration : ℕ) (on : Bool) (text : List ℕ) → Ordered state.registrations state.workers → KeepsRows state (set_preload state registration on text)
 unfolding set_preload
@@ -160,10 +172,6 @@ above_plain count place (Some n) few is = grind (arith, nat_tests, few, is)
 pub never_placed : (kept : Registration → Option KeptRegistration) (place : ℕ) (rows : List Registration) → first_counter rows ≤ place → list_all (λ row. is_below (first_counter rows) row.first) rows ≡ true → placed_at kept place rows ≡ None
 never_placed kept place rows few below = none_placed kept place rows (all_weaker (λ row. is_below (first_counter rows) row.first) _ (λ row is. above_plain (first_counter rows) place row.first few is) rows below)
 
-pub mapped_alike : {X Y : Type 0} (h k : X → Option Y) → ((x : X) → h x ≡ k x) → (xs : List X) → filter_map h xs ≡ filter_map k xs
-mapped_alike h k same [] = refl
-mapped_alike h k same (x ∷ xs) = grind (arith, same x, mapped_alike h k same xs)
-
 one_more : {Y : Type 0} (h : ℕ → Option Y) (n : ℕ) → h n ≡ None → filter_map h (range_with_len 0 (suc n)) ≡ filter_map h (range_with_len 0 n)
 one_more h n none =
     let last : 0 + n ≡ n = omega arith in
@@ -173,7 +181,7 @@ one_more h n none =
 contents_pushed : (workers : List Worker) (rows : List Registration) (new : Registration) → kept_in workers new ≡ None → list_all (λ row. is_below (first_counter rows) row.first) rows ≡ true → contents workers (rows ++ new ∷ []) ≡ contents workers rows
 contents_pushed workers rows new none below =
     let more : length (rows ++ new ∷ []) ≡ suc (length rows) = omega (arith, length_pushed rows new) in
-    mapped_alike _ _ (λ place. placed_pushed (kept_in workers) place rows new none) (range_with_len 0 (length (rows ++ new ∷ [])))
+    mapped_same _ _ (λ place. placed_pushed (kept_in workers) place rows new none) (range_with_len 0 (length (rows ++ new ∷ [])))
     ∙ (ap (λ n. filter_map (λ place. placed_at (kept_in workers) place rows) (range_with_len 0 n)) more
     ∙ one_more (λ place. placed_at (kept_in workers) place rows) (length rows) (never_placed (kept_in workers) (length rows) rows (counted_few rows) below))
 
@@ -209,6 +217,7 @@ mapped_keeps state job owners sound order =
       firsts = apart_pushed same_first rows new order.firsts (all_weaker (λ row. true) _ (λ row is. never_shared row.first) rows (all_true rows));
       below = rw (counted_pushed rows new refl) (all_pushed (λ row. is_below (first_counter rows) row.first) rows new order.below refl);
       placed = all_pushed (has_place state.workers) rows new order.placed (ap (λ (slots : Slots). same_truth false (is_worked slots)) none);
+      fresh = all_pushed is_fresh rows new order.fresh (bytes_eq_same (codes "true"));
     },
     λ kept same. same ∙ sym (contents_pushed state.workers rows new (ap (kept_with new) none ∙ unworked new) order.below))
 
@@ -218,7 +227,7 @@ paid_of : (x : Registration) (slots : Slots) → kept_with (record x { owed = fa
 paid_of x slots = grind arith
 
 pub paid_ordered : (state : State) (registration : ℕ) → SoundRegistrations (paid registration state).registrations → Ordered state.registrations state.workers → Ordered (paid registration state).registrations state.workers
-paid_ordered state registration sound order = ordered_plain state.workers (is_registration registration) (λ row. record row { owed = false }) (λ x. refl) (λ x. refl) (λ x is. is) state.registrations sound order
+paid_ordered state registration sound order = ordered_plain state.workers (is_registration registration) (λ row. record row { owed = false }) (λ x. refl) (λ x. refl) (λ x is. is) (λ x. true) (λ x know here was. was) state.registrations (all_true state.registrations) sound order
 
 pub paid_rows : (state : State) (registration : ℕ) → Ordered state.registrations state.workers → contents state.workers (paid registration state).registrations ≡ contents state.workers state.registrations
 paid_rows state registration order =

@@ -1,7 +1,7 @@
 -- In which order registrations got a waiting worker, and what a change of one registration makes of what is kept.
 use Rattle.std.proofs.Common.{◌≡◌, ◌∙◌, ℕ, Bool, true, false, not, ◌&&◌, ◌||◌, ◌==◌, List, [], ◌∷◌, map, filter, Option, Some, None, length, refl, sym, ap, subst, true≢false, arith, if◌then◌else◌}
 use Rattle.std.specs.List.{list_all, filter_map}
-use Rattle.std.specs.Prelude.{bytes_eq, find, is_some, nat_lt, option_and_then}
+use Rattle.std.specs.Prelude.{bytes_eq, codes, find, is_some, nat_lt, option_and_then}
 use Rattle.std.specs.Option.{option_map_or}
 use Rattle.std.proofs.lemmas.Bool.Decides.{nat_tests}
 use Rattle.sw_data.specs.Sameness.{same_truth}
@@ -29,12 +29,17 @@ is_below count first = option_map_or (λ place. nat_lt place count) first true
 abbrev pub has_place : List Worker → Registration → Bool
 has_place workers row = not row.mapped || same_truth (is_some row.first) (is_worked (slots_in workers row.number))
 
+-- a mapped registration without a place has the preload of a new one
+abbrev pub is_fresh : Registration → Bool
+is_fresh row = not row.mapped || is_some row.first || (not row.preload && bytes_eq row.preload_value (codes "true"))
+
 -- own: registrations have places of their own, counted from zero, and those that are kept have one
 pub record Ordered (rows : List Registration) (workers : List Worker) : Type 0 where
   pub sound : SoundRegistrations rows
   pub firsts : apart same_first rows ≡ true
   pub below : list_all (λ row. is_below (first_counter rows) row.first) rows ≡ true
   pub placed : list_all (has_place workers) rows ≡ true
+  pub fresh : list_all is_fresh rows ≡ true
 
 counted_same : (g : Registration → Registration) → ((x : Registration) → (g x).first ≡ x.first) → (rows : List Registration) → first_counter (map g rows) ≡ first_counter rows
 counted_same g first [] = refl
@@ -44,6 +49,7 @@ counted_same g first (row ∷ rows) = grind (arith, first row, counted_same g fi
 pub record KeepsPlaces (g : Registration → Registration) (old new : List Worker) (known : Registration → Bool) : Type 0 where
   pub first : (x : Registration) → (g x).first ≡ x.first
   pub worked : (x : Registration) → known x ≡ true → (g x).mapped ≡ true → (x.mapped ≡ true) × (is_worked (slots_in new (g x).number) ≡ is_worked (slots_in old x.number))
+  pub fresh : (x : Registration) → known x ≡ true → is_fresh x ≡ true → is_fresh (g x) ≡ true
 
 place_kept : (was mapped : Bool) (first now_first : Option ℕ) (worked now_worked : Bool) → now_first ≡ first → (mapped ≡ true → (was ≡ true) × (now_worked ≡ worked)) → (not was || same_truth (is_some first) worked) ≡ true → (not mapped || same_truth (is_some now_first) now_worked) ≡ true
 place_kept was false first now_first worked now_worked same goes is = refl
@@ -55,6 +61,7 @@ ordered_moved g old new known keeps rows knows sound order = record {
   firsts = apart_changed same_first g (λ x y fine. rw (keeps.first x, keeps.first y) fine) rows order.firsts;
   below = rw (counted_same g keeps.first rows) (all_changed _ _ g (λ x is. rw (keeps.first x) is) rows order.below);
   placed = all_known known (has_place old) (has_place new) g (λ x know is. place_kept x.mapped (g x).mapped x.first (g x).first _ _ (keeps.first x) (keeps.worked x know) is) rows knows order.placed;
+  fresh = all_known known is_fresh is_fresh g keeps.fresh rows knows order.fresh;
 }
 
 -- ---- changes of what is kept
@@ -200,6 +207,7 @@ ordered_still old new known same rows knows order = record {
   firsts = order.firsts;
   below = order.below;
   placed = subst (λ xs. list_all (has_place new) xs ≡ true) (map_same rows) (all_known known (has_place old) (has_place new) (λ x. x) (λ x know is. place_kept x.mapped x.mapped x.first x.first _ _ refl (λ mapped. (mapped, same x know mapped)) is) rows knows order.placed);
+  fresh = order.fresh;
 }
 
 pub contents_same : (old new : List Worker) → ((n : ℕ) → slots_in new n ≡ slots_in old n) → (rows : List Registration) → apart same_first rows ≡ true → contents new rows ≡ contents old rows

@@ -26,7 +26,7 @@ use Rattle.sw_rules.specs.Matching.{Pair}
 use Rattle.sw_rules.specs.Preloading.{set_preload}
 use Rattle.sw_rules.specs.Registering.{fetch_script, may_run}
 use Rattle.sw_rules.specs.Registrations.{activate, chosen, clear, left_by, map_registration, recheck, release, set_mode, try_activate, try_clear, unload, unmap}
-use Rattle.sw_rules.specs.Rows.{client_row, event_row, has_pending_worker, has_worker, in_phase, is_activating, is_active, is_evaluating, is_fetching, is_install, is_installing, is_mapped, is_used, job_row, maker_worker, mapped_registration, worker_row}
+use Rattle.sw_rules.specs.Rows.{active_worker, client_row, event_row, has_pending_worker, has_worker, in_phase, is_activating, is_active, is_evaluating, is_fetching, is_install, is_installing, is_mapped, is_used, job_row, maker_worker, mapped_registration, worker_row}
 use Rattle.sw_rules.specs.State.{State, Registration, Worker, Awaited, Handler}
 use Rattle.sw_rules.specs.Told.{Told, followed, quiet}
 use Rattle.sw_laws.specs.Coherent.{is_running, is_settled_phase, is_there}
@@ -103,6 +103,11 @@ abbrev pub LeavesMap : Bool → (State → Told → Type 0) → Type 0
 LeavesMap true Law = (state : State) (registration : ℕ) → Law state (unmap state registration)
 LeavesMap false Law = IsLeavingLaw Law
 
+-- a law of a registration that gets a preload: anywhere, or only where it has an active worker
+abbrev pub GetsPreload : Bool → (State → Told → Type 0) → Type 0
+GetsPreload true Law = (state : State) (registration : ℕ) (on : Bool) (text : List ℕ) → Law state (set_preload state registration on text)
+GetsPreload false Law = (state : State) (registration : ℕ) (on : Bool) (text : List ℕ) → is_some (active_worker state registration) ≡ true → Law state (set_preload state registration on text)
+
 -- a law of all events: it holds of each least step, under the tests under which the step is taken; what gives a client
 -- a controller that it hadn't is asked for only where that counts
 pub record IsLawWhere (Law : State → Told → Type 0) (controls anywhere : Bool) : Type 0 where
@@ -114,7 +119,7 @@ pub record IsLawWhere (Law : State → Told → Type 0) (controls anywhere : Boo
   pub mapping : (state : State) (job : Job) → mapped_registration state job.key job.scope ≡ None → Law state (map_registration state job)
   pub unmapping : LeavesMap anywhere Law
   pub moding : (state : State) (registration : ℕ) (mode : Mode) → Law state (set_mode state registration mode)
-  pub preloading : (state : State) (registration : ℕ) (on : Bool) (text : List ℕ) → Law state (set_preload state registration on text)
+  pub preloading : GetsPreload anywhere Law
   pub fetching : (state : State) (row : JobRow) (registration : Registration) → job_row state row.job.number ≡ Some row → may_run state row ≡ true → mapped_registration state row.job.key row.job.scope ≡ Some registration → Law state (fetch_script state row.job registration.number)
   pub making : (state : State) (row : JobRow) (registration : ℕ) (fetched : Fetched) → IsAt state is_fetching row registration → Law state (make_worker state row registration fetched)
   pub throwing : (state : State) (row : JobRow) (registration : ℕ) (worker : Worker) → IsAt state is_evaluating row registration → job_worker state row ≡ Some worker → Law state (throw state row.job.number registration worker.number)
@@ -141,6 +146,6 @@ pub record IsLawWhere (Law : State → Told → Type 0) (controls anywhere : Boo
   pub answering : (state : State) (number : ℕ) (result : Settlement) (faulted : Bool) → Law state (settle_task state number result faulted)
   pub noting : (state : State) (worker : ℕ) (faulted : Bool) → Law state (note_call state worker faulted)
 
--- a law that holds of a registration which leaves the map anywhere
+-- a law that holds of a registration which leaves the map or gets a preload anywhere
 abbrev pub IsLaw : (State → Told → Type 0) → Bool → Type 0
 IsLaw Law controls = IsLawWhere Law controls true
