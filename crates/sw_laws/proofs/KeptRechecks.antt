@@ -63,7 +63,7 @@ further state told next one other orderly =
 
 -- ---- Activate
 
-changed_none : {X : Type 0} (test : X → Bool) (xs : List X) → changed test (λ x. x) xs ≡ xs
+pub changed_none : {X : Type 0} (test : X → Bool) (xs : List X) → changed test (λ x. x) xs ≡ xs
 changed_none test [] = refl
 changed_none test (x ∷ xs) = by_test (λ y. y ∷ changed test (λ z. z) xs ≡ x ∷ xs) (test x) x x (λ is. ap (λ rest. x ∷ rest) (changed_none test xs)) (λ other. ap (λ rest. x ∷ rest) (changed_none test xs))
 

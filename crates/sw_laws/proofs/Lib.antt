@@ -23,6 +23,7 @@ pub mod JobSteps
 pub mod KeptCaches
 pub mod KeptRechecks
 pub mod KeptRows
+pub mod KeptWorkers
 pub mod LawProofs
 pub mod Lists
 pub mod MakeSteps

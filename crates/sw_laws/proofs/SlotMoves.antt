@@ -36,14 +36,14 @@ found_never : {X : Type 0} (xs : List X) → find (λ x. false) xs ≡ None
 found_never [] = refl
 found_never (x ∷ xs) = found_never xs
 
-seen_or : {X : Type 0} (test : X → Bool) (o : Option X) → option_map_or test o false ≡ option_map_or (λ b. b) (option_map test o) false
+pub seen_or : {X : Type 0} (test : X → Bool) (o : Option X) → option_map_or test o false ≡ option_map_or (λ b. b) (option_map test o) false
 seen_or test None = refl
 seen_or test (Some x) = refl
 
 abbrev pub slots_with : Option KeptWorker → Option KeptWorker → Bool → Slots
 slots_with waiting active activated = record { waiting = waiting; active = active; activated = activated }
 
-slots_equal : (w x a b : Option KeptWorker) (c d : Bool) → w ≡ x → a ≡ b → c ≡ d → slots_with w a c ≡ slots_with x b d
+pub slots_equal : (w x a b : Option KeptWorker) (c d : Bool) → w ≡ x → a ≡ b → c ≡ d → slots_with w a c ≡ slots_with x b d
 slots_equal w x a b c d waiting active activated = cc (waiting, active, activated)
 
 -- ---- workers that look the same
