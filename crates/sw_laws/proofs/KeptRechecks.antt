@@ -128,7 +128,7 @@ module _ (state : State) (registration worker : ℕ) (is : chosen state registra
 
 -- ---- Clear
 
-unkept : (x : Registration) (slots : Slots) → x.mapped ≡ false → kept_with x slots ≡ None
+pub unkept : (x : Registration) (slots : Slots) → x.mapped ≡ false → kept_with x slots ≡ None
 unkept x slots is = grind (arith, is)
 
 module _ (state : State) (registration : ℕ) (gone : is_mapped state registration ≡ false) where

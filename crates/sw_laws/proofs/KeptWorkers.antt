@@ -4,6 +4,7 @@ use Rattle.std.specs.List.{list_all}
 use Rattle.std.specs.Prelude.{find, is_some, option_and_then}
 use Rattle.std.specs.Option.{option_map_or}
 use Rattle.std.proofs.lemmas.Bool.Decides.{nat_tests}
+use Rattle.sw_data.specs.declared.storage.Change.{Change}
 use Rattle.sw_data.specs.declared.storage.Change.TheVariants as change
 use Rattle.sw_data.specs.declared.storage.Kept.{Kept}
 use Rattle.sw_data.specs.declared.storage.KeptRegistration.{KeptRegistration}
@@ -13,20 +14,20 @@ use Rattle.sw_data.specs.declared.workers.Slot.TheVariants as slot
 use Rattle.sw_data.specs.declared.workers.WorkerState.{WorkerState}
 use Rattle.sw_data.specs.declared.workers.WorkerState.TheVariants as worker_state
 use Rattle.sw_rules.specs.Activating.{become_activated}
-use Rattle.sw_rules.specs.Installing.{end_handler, kept_worker}
-use Rattle.sw_rules.specs.Rows.{changed, in_slot, is_activated, is_activating, is_active, is_registration, is_worker, worker_row}
+use Rattle.sw_rules.specs.Installing.{advance, end_handler, kept_worker}
+use Rattle.sw_rules.specs.Rows.{changed, in_slot, is_activated, is_activating, is_active, is_registration, is_worker, registration_row, worker_row}
 use Rattle.sw_rules.specs.State.{State, Registration, Worker}
 use Rattle.sw_rules.specs.Storage.{applied, kept_after, marked_activated}
-use Rattle.sw_rules.specs.Told.{Told, kept_change}
+use Rattle.sw_rules.specs.Told.{Told, is_kept, kept_change}
 use Rattle.sw_laws.specs.Coherent.{Coherent, share_slot}
 use Rattle.sw_laws.proofs.Contents.{Slots, contents, found_in, is_worked, kept_in, kept_with, slots_in}
 use Rattle.sw_laws.proofs.HandlerSteps.{ended_in, ended_in_keeps, ends_in}
 use Rattle.sw_laws.proofs.KeptRechecks.{KeepsRows, changed_none, number_is}
 use Rattle.sw_laws.proofs.Lists.{all_both, all_true, by_test, find_passes, found_by}
 use Rattle.sw_laws.proofs.Moves.{all_of_number}
-use Rattle.sw_laws.proofs.Ordered.{ChangesOne, Ordered, ordered_still, recorded, with_only}
+use Rattle.sw_laws.proofs.Ordered.{ChangesOne, Ordered, contents_same, is_kept_in, ordered_same, ordered_still, recorded, with_only}
 use Rattle.sw_laws.proofs.Places.{all_as_found}
-use Rattle.sw_laws.proofs.SlotMoves.{LooksSame, look_moved, looks_same, slots_equal, slots_same, slots_with, seen_or}
+use Rattle.sw_laws.proofs.SlotMoves.{LooksSame, look_moved, looks_same, slots_equal, slots_plain, slots_same, slots_with, seen_or}
 
 -- ---- a worker that is in neither slot, before and after
 
@@ -172,3 +173,56 @@ module _ (state : State) (worker : Worker) (sound : Coherent state) (found : wor
   activated_change kept same =
       recorded state after of (λ x. x) (λ k. Some (marked_activated k)) (λ x. true) activates (λ x. refl) (all_true state.registrations) order (λ row. change.Activated row.key row.scope) (λ row k. with_only row.key row.scope marked_activated k.registrations) kept same
       ∙ ap (contents after) (changed_none (is_registration of) state.registrations)
+
+-- ---- the end of a handler
+
+pub ended_slots : (state : State) (worker n : ℕ) → slots_in (end_handler state worker).state.workers n ≡ slots_in state.workers n
+unfolding end_handler
+ended_slots state worker n = slots_plain (is_worker worker) (λ row. record row { handler = None }) (λ x. record { registration = refl; waiting = refl; active = refl; activated = refl; kept = refl }) state.workers n
+
+-- other workers, of which the same is kept
+pub rows_same : (state after : State) → after.registrations ≡ state.registrations → ((n : ℕ) → slots_in after.workers n ≡ slots_in state.workers n) → Ordered state.registrations state.workers
+    → Ordered after.registrations after.workers × (contents after.workers after.registrations ≡ contents state.workers state.registrations)
+rows_same state after registrations slots order = rw registrations (ordered_same state.workers after.workers slots state.registrations order, contents_same state.workers after.workers slots state.registrations order.firsts)
+
+ended_registrations : (state : State) (worker : ℕ) → (end_handler state worker).state.registrations ≡ state.registrations
+unfolding end_handler
+ended_registrations state worker = refl
+
+end_rows : (state : State) (worker : ℕ) → contents (end_handler state worker).state.workers (end_handler state worker).state.registrations ≡ contents state.workers state.registrations → KeepsRows state (end_handler state worker)
+unfolding end_handler
+end_rows state worker is kept same = same ∙ sym is
+
+pub ended_keeps : (state : State) (worker : ℕ) → Ordered state.registrations state.workers → Ordered (end_handler state worker).state.registrations (end_handler state worker).state.workers × KeepsRows state (end_handler state worker)
+ended_keeps state worker order =
+    let both = rows_same state (end_handler state worker).state (ended_registrations state worker) (ended_slots state worker) order in
+    (both.0, end_rows state worker both.1)
+
+changes_by : (one other : State) (number : ℕ) (change_of : Registration → Change) (found : Option Registration) → ((row : Registration) → is_kept one row ≡ is_kept other row)
+    → option_map_or (λ (row : Registration). if is_kept one row then change_of row ∷ [] else []) found [] ≡ option_map_or (λ (row : Registration). if is_kept other row then change_of row ∷ [] else []) found []
+changes_by one other number change_of None same = refl
+changes_by one other number change_of (Some row) same = ap (λ b. if b then change_of row ∷ [] else []) (same row)
+
+same_change : (state : State) (worker number : ℕ) (change_of : Registration → Change) → kept_change (end_handler state worker).state number change_of ≡ kept_change state number change_of
+same_change state worker number change_of =
+    rw (ended_registrations state worker)
+    (changes_by (end_handler state worker).state state number change_of (registration_row state number)
+    (λ row. is_kept_in (end_handler state worker).state row ∙ (ap (λ slots. is_some (kept_with row slots)) (ended_slots state worker row.number) ∙ sym (is_kept_in state row))))
+
+activated_last : (state : State) (worker : Worker) → Coherent state → worker_row state worker.number ≡ Some worker → is_activating worker ≡ true → Ordered state.registrations state.workers
+    → Ordered (end_handler state worker.number).state.registrations (advance worker.number worker_state.Activated (end_handler state worker.number).state.workers)
+unfolding end_handler
+activated_last state worker sound found is order = rw (ends_in worker_state.Activated worker.number state.workers) (activated_order state worker sound found is order)
+
+activated_by : (state : State) (worker : Worker) → Coherent state → worker_row state worker.number ≡ Some worker → is_activating worker ≡ true → Ordered state.registrations state.workers
+    → (kept : Kept) → kept.registrations ≡ contents state.workers state.registrations
+    → (kept_after kept (kept_change (end_handler state worker.number).state worker.registration (λ row. change.Activated row.key row.scope))).registrations ≡ contents (advance worker.number worker_state.Activated (end_handler state worker.number).state.workers) (end_handler state worker.number).state.registrations
+unfolding end_handler
+activated_by state worker sound found is order kept same =
+    rw (ends_in worker_state.Activated worker.number state.workers)
+    (ap (λ changes. (kept_after kept changes).registrations) (same_change state worker.number worker.registration (λ row. change.Activated row.key row.scope)) ∙ activated_change state worker sound found is order kept same)
+
+pub activated_keeps : (state : State) (worker : Worker) → Coherent state → worker_row state worker.number ≡ Some worker → is_activating worker ≡ true → Ordered state.registrations state.workers
+    → let ended = (end_handler state worker.number).state in let told = become_activated ended worker.registration worker.number in Ordered told.state.registrations told.state.workers × KeepsRows ended told
+unfolding become_activated
+activated_keeps state worker sound found is order = (activated_last state worker sound found is order, λ kept same. activated_by state worker sound found is order kept (same ∙ (rows_same state (end_handler state worker.number).state (ended_registrations state worker.number) (ended_slots state worker.number) order).1))

@@ -21,6 +21,7 @@ pub mod JobEvents
 pub mod JobMoves
 pub mod JobSteps
 pub mod KeptCaches
+pub mod KeptForget
 pub mod KeptRechecks
 pub mod KeptRows
 pub mod KeptWorkers

@@ -80,6 +80,10 @@ pub by_test : {X : Type 0} (P : X → Type 0) (b : Bool) (x y : X) → (b ≡ tr
 by_test P true x y one other = one refl
 by_test P false x y one other = other refl
 
+pub by_truth : {P : Type 0} (b : Bool) → (b ≡ true → P) → (b ≡ false → P) → P
+by_truth true one other = one refl
+by_truth false one other = other refl
+
 pub by_option : {A X : Type 0} (P : X → Type 0) (o : Option A) (gone : X) (there : A → X) → (o ≡ None → P gone) → ((a : A) → o ≡ Some a → P (there a)) → P (elim o [ None ↦ gone | Some a ↦ there a ])
 by_option P None gone there one other = one refl
 by_option P (Some a) gone there one other = other a refl
