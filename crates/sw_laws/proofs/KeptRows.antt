@@ -92,7 +92,7 @@ set_by state number g q changes same order makes kept rows =
     (λ has. rows ∙ ap (contents state.workers) (sym (changed_same (is_registration number) q g same state.registrations (as_found q number state.registrations (places_apart (λ (x : Registration). x.number) state.registrations order.sound.numbers) (registration_row state number) refl has))))
     (λ other. makes kept rows)
 
-same_mode_equal : (one other : Mode) → same_mode one other ≡ true → one ≡ other
+pub same_mode_equal : (one other : Mode) → same_mode one other ≡ true → one ≡ other
 same_mode_equal mode_of.Imports mode_of.Imports is = refl
 same_mode_equal mode_of.Imports mode_of.All is = absurd cc
 same_mode_equal mode_of.Imports mode_of.Never is = absurd cc
@@ -160,7 +160,7 @@ counted_more : (b : Bool) (xs : List Registration) (x : Registration) (n : ℕ) 
 counted_more true xs x n is = omega (arith, is)
 counted_more false xs x n is = omega (arith, is)
 
-counted_few : (rows : List Registration) → first_counter rows ≤ length rows
+pub counted_few : (rows : List Registration) → first_counter rows ≤ length rows
 counted_few [] = omega arith
 counted_few (row ∷ rows) = counted_more (is_some row.first) (filter (λ x. is_some x.first) rows) row (length rows) (counted_few rows)
 

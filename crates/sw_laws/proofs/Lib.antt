@@ -21,7 +21,9 @@ pub mod JobEvents
 pub mod JobMoves
 pub mod JobSteps
 pub mod KeptCaches
+pub mod KeptFirst
 pub mod KeptForget
+pub mod KeptInstall
 pub mod KeptRechecks
 pub mod KeptRows
 pub mod KeptWorkers

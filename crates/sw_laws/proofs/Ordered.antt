@@ -169,7 +169,7 @@ module _ (state : State) (new : List Worker) (number : ℕ) (g : Registration �
       stays_by (λ x. not (x.number == number) || not (is_some (kept_in state.workers x))) (λ x is know here. none_of (kept_in state.workers x) (grind (arith, is, here)))
       (all_as_found (λ x y. x.number == y.number) (is_registration number) (λ x. not (is_some (kept_in state.workers x))) (λ x y one other. grind (arith, nat_tests, one, other)) rows row numbered found (grind (arith, not_kept)))
 
-  moves_kept : (row : Registration) → find (is_registration number) rows ≡ Some row → is_some (kept_in state.workers row) ≡ true → now_kept ≡ filter_map (only row.key row.scope f) (contents state.workers rows)
+  pub moves_kept : (row : Registration) → find (is_registration number) rows ≡ Some row → is_some (kept_in state.workers row) ≡ true → now_kept ≡ filter_map (only row.key row.scope f) (contents state.workers rows)
   moves_kept row found is_kept_now =
       let keyed = λ (x : Registration). bytes_eq x.key row.key && bytes_eq x.scope row.scope in
       let own = all_as_found (λ x y. x.number == y.number) (is_registration number) keyed (λ x y one other. grind (arith, nat_tests, one, other)) rows row numbered found (grind (arith, bytes_eq_same row.key, bytes_eq_same row.scope)) in
