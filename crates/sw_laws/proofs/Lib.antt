@@ -45,4 +45,5 @@ pub mod ScheduleSteps
 pub mod SlotMoves
 pub mod Split
 pub mod Twice
+pub mod Underway
 pub mod WorkerSteps
