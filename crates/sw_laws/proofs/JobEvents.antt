@@ -160,7 +160,7 @@ module _ (Law : State → Told → Type 0) (controls : Bool) {anywhere : Bool} (
   }
   leaving-law false unmapping = unmapping
 
-  leaving : IsLeavingLaw Law
+  pub leaving : IsLeavingLaw Law
   leaving = leaving-law anywhere law.unmapping
 
   unregister_mapped-law : (state : State) (row : JobRow) (found : Registration) → job_row state row.job.number ≡ Some row → may_run state row ≡ true → mapped_registration state row.job.key row.job.scope ≡ Some found → Law state (unregister_mapped state row.job found.number)

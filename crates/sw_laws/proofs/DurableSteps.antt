@@ -1,0 +1,193 @@
+-- What is kept by the steps that make a worker, end a handler, or end a job.
+use Rattle.std.proofs.Common.{◌≡◌, ◌∙◌, ℕ, Bool, true, false, not, ◌&&◌, ◌||◌, ◌==◌, List, [], ◌∷◌, ◌++◌, map, Option, Some, None, option_map, refl, sym, ap, subst, true≢false, arith, if◌then◌else◌}
+use Rattle.std.specs.List.{list_all, list_any}
+use Rattle.std.specs.Prelude.{find, is_none, is_some}
+use Rattle.std.specs.Option.{option_map_or}
+use Rattle.std.proofs.lemmas.Bool.{and_parts}
+use Rattle.std.proofs.lemmas.Bool.Decides.{nat_tests}
+use Rattle.sw_data.specs.declared.answers.Cause.TheVariants as cause
+use Rattle.sw_data.specs.declared.answers.Fault.{Fault}
+use Rattle.sw_data.specs.declared.answers.Settlement.{Settlement}
+use Rattle.sw_data.specs.declared.answers.Settlement.TheVariants as settlement
+use Rattle.sw_data.specs.declared.events.Who.{Who}
+use Rattle.sw_data.specs.declared.events.Who.TheVariants as who
+use Rattle.sw_data.specs.declared.recordings.Fetched.{Fetched}
+use Rattle.sw_data.specs.declared.rows.JobPhase.TheVariants as job_phase
+use Rattle.sw_data.specs.declared.rows.JobRow.{JobRow}
+use Rattle.sw_data.specs.declared.storage.Kept.{Kept}
+use Rattle.sw_data.specs.declared.workers.Slot.TheVariants as slot
+use Rattle.sw_data.specs.declared.workers.WorkerState.TheVariants as worker_state
+use Rattle.sw_rules.specs.Installing.{advance, become_waiting, begin_install, discard, end_handler, fail_install, finish_install, first_counter, installing, job_worker, kept_worker, make_worker, placed, reject_and_drop, tell_update, throw}
+use Rattle.sw_rules.specs.Jobs.{finish, gets_value, promise, settle}
+use Rattle.sw_rules.specs.Registering.{fetch_script, may_run}
+use Rattle.sw_rules.specs.Registrations.{drop_registration, unmap}
+use Rattle.sw_rules.specs.Rows.{changed, in_phase, in_slot, is_evaluating, is_fetching, is_installing, is_job, is_registration, is_worker, job_row, mapped_registration, newest_worker, registration_row, worker_row}
+use Rattle.sw_rules.specs.State.{State, Registration, Worker, Awaited, Handler}
+use Rattle.sw_rules.specs.Storage.{kept_after}
+use Rattle.sw_rules.specs.Told.{Told, followed, quiet, type_error}
+use Rattle.sw_laws.specs.Coherent.{Coherent, SoundRegistrations, is_being_installed, is_parsed, same_scope, share_slot}
+use Rattle.sw_laws.proofs.Contents.{contents, found_in, slots_in}
+use Rattle.sw_laws.proofs.InstallSteps.{installing_of, knows_parsed, made_of}
+use Rattle.sw_laws.proofs.KeptInstall.{waiting_keeps}
+use Rattle.sw_laws.proofs.KeptRechecks.{KeepsOrder, KeepsRows, Orderly, is_underway, rows_further}
+use Rattle.sw_laws.proofs.KeptRows.{unmap_ordered, unmap_rows}
+use Rattle.sw_laws.proofs.KeptWorkers.{ended_keeps, ended_slots, is_aside, rows_same, slots_aside}
+use Rattle.sw_laws.proofs.Lists.{all_changed, all_weaker, apart_changed, by_test, found_by}
+use Rattle.sw_laws.proofs.Moves.{all_of_number}
+use Rattle.sw_laws.proofs.Ordered.{Ordered}
+use Rattle.sw_laws.proofs.Places.{places_changed}
+use Rattle.sw_laws.proofs.RegistrationSteps.{KeepsRegistration, plain_keeps}
+use Rattle.sw_laws.proofs.Split.{IsAt, IsInstalled}
+use Rattle.sw_laws.proofs.Underway.{AllMapped, all_of_them, ended_settled, is_free, mapped_ended, mapped_finished, mapped_jobs, mapped_plain, mapped_settled, others_free}
+
+-- ---- steps that leave registrations and what is kept of their workers
+
+-- the same registrations, and workers of which the same is kept
+pub still_keeps : (state : State) (told : Told) → told.state.registrations ≡ state.registrations → ((n : ℕ) → slots_in told.state.workers n ≡ slots_in state.workers n)
+    → (AllMapped state.registrations state.jobs → AllMapped state.registrations told.state.jobs) → ((kept : Kept) → (kept_after kept told.changes).registrations ≡ kept.registrations) → KeepsOrder state told
+still_keeps state told registrations slots jobs same orderly =
+    let both = rows_same state told.state registrations slots orderly.order in
+    (record { order = both.0; jobs = rw registrations (jobs orderly.jobs) }, λ kept is. same kept ∙ (is ∙ sym both.1))
+
+-- ---- steps in a row, but for jobs
+
+abbrev pub KeepsPlaced : State → Told → Type 0
+KeepsPlaced state told = Ordered state.registrations state.workers → Ordered told.state.registrations told.state.workers × KeepsRows state told
+
+placed_order : (state : State) (told : Told) (next : State → Told) → Ordered (next told.state).state.registrations (next told.state).state.workers → Ordered (followed told next).state.registrations (followed told next).state.workers
+unfolding followed
+placed_order state told next order = order
+
+placed_further : (state : State) (told : Told) (next : State → Told) → KeepsPlaced state told → KeepsPlaced told.state (next told.state) → KeepsPlaced state (followed told next)
+placed_further state told next one other order =
+    let first = one order in
+    let second = other first.0 in
+    (placed_order state told next second.0, rows_further state told next first.1 second.1)
+
+placed_still : (state : State) (told : Told) → told.state.registrations ≡ state.registrations → ((n : ℕ) → slots_in told.state.workers n ≡ slots_in state.workers n) → told.changes ≡ [] → KeepsPlaced state told
+placed_still state told registrations slots none order =
+    let both = rows_same state told.state registrations slots order in
+    (both.0, λ kept is. ap (λ changes. (kept_after kept changes).registrations) none ∙ (is ∙ sym both.1))
+
+settle_placed : (state : State) (job : ℕ) (result : Settlement) → KeepsPlaced state (settle state job result)
+unfolding settle
+settle_placed state job result = placed_still state (settle state job result) refl (λ n. refl) refl
+
+finish_placed : (state : State) (job : ℕ) → KeepsPlaced state (finish state job)
+unfolding finish
+finish_placed state job = placed_still state (finish state job) refl (λ n. refl) refl
+
+-- a change of registrations keeps them sound
+sound_moved : (f : Registration → Registration) → KeepsRegistration f → (rows : List Registration) → SoundRegistrations rows → SoundRegistrations (map f rows)
+sound_moved f keeps rows sound = record {
+  numbers = places_changed (λ row. row.number) f keeps.number rows sound.numbers;
+  scopes = apart_changed same_scope f keeps.mapped rows sound.scopes;
+}
+
+unmap_sound : (state : State) (registration : ℕ) → SoundRegistrations state.registrations → SoundRegistrations (unmap state registration).state.registrations
+unfolding unmap
+unmap_sound state registration sound = sound_moved _ (plain_keeps (is_registration registration) (λ row. record row { mapped = false }) (λ x. refl) (λ x. refl) (λ x. refl) (λ x is. absurd cc)) state.registrations sound
+
+unmap_workers : (state : State) (registration : ℕ) → Ordered (unmap state registration).state.registrations state.workers → Ordered (unmap state registration).state.registrations (unmap state registration).state.workers
+unfolding unmap
+unmap_workers state registration order = order
+
+pub unmap_placed : (state : State) (registration : ℕ) → KeepsPlaced state (unmap state registration)
+unmap_placed state registration order = (unmap_workers state registration (unmap_ordered state registration (unmap_sound state registration order.sound) order), unmap_rows state registration order)
+
+drop_placed : (state : State) (registration : ℕ) → KeepsPlaced state (drop_registration state registration)
+unfolding drop_registration
+drop_placed state registration = by_test (KeepsPlaced state) (is_none (newest_worker state registration)) _ _ (λ gone. unmap_placed state registration) (λ there order. (order, λ kept is. is))
+
+reject_placed : (state : State) (job registration : ℕ) (why : Fault) → KeepsPlaced state (reject_and_drop state job registration why)
+unfolding reject_and_drop
+reject_placed state job registration why =
+    let one = (settle state job (settlement.Fault why)).state in
+    placed_further state _ _ (settle_placed state job (settlement.Fault why)) (placed_further one _ _ (drop_placed one registration) (finish_placed (drop_registration one registration).state job))
+
+-- ---- a job is over, and its registration may have left the map
+
+-- no other job that is underway has the registration
+abbrev AloneAt : ℕ → ℕ → List JobRow → Type 0
+AloneAt job registration jobs = list_all (λ x. is_job job x || is_free registration x) jobs ≡ true
+
+reject_jobs : (state : State) (job registration : ℕ) (why : Fault) → AloneAt job registration state.jobs → AllMapped state.registrations state.jobs → let after = (reject_and_drop state job registration why).state in AllMapped after.registrations after.jobs
+unfolding reject_and_drop drop_registration followed finish unmap settle
+reject_jobs state job registration why free is =
+    let result = settlement.Fault why in
+    by_test (λ (told : Told). AllMapped (finish told.state job).state.registrations (finish told.state job).state.jobs) (is_none (newest_worker (settle state job result).state registration)) _ _
+    (λ gone. mapped_finished _ job _ (ended_settled _ job (gets_value job) result state.jobs (mapped_ended state.registrations registration job state.jobs free is)))
+    (λ stays. mapped_finished state.registrations job _ (ended_settled state.registrations job (gets_value job) result state.jobs (all_of_them state.registrations job state.jobs is)))
+
+throw_jobs : (state : State) (job registration worker : ℕ) → AloneAt job registration state.jobs → AllMapped state.registrations state.jobs → let after = (throw state job registration worker).state in AllMapped after.registrations after.jobs
+unfolding throw followed discard
+throw_jobs state job registration worker free is = reject_jobs (discard state worker).state job registration (type_error cause.Threw) free is
+
+fail_jobs : (state : State) (row : JobRow) (registration worker : ℕ) → AloneAt row.job.number registration state.jobs → AllMapped state.registrations state.jobs → let after = (fail_install state row registration worker).state in AllMapped after.registrations after.jobs
+unfolding fail_install followed finish unmap discard end_handler
+fail_jobs state row registration worker free is =
+    let job = row.job.number in
+    by_test (λ (told : Told). AllMapped (finish told.state job).state.registrations (finish told.state job).state.jobs) (is_none row.remembered) _ _
+    (λ gone. mapped_finished _ job _ (mapped_ended state.registrations registration job state.jobs free is))
+    (λ stays. mapped_finished state.registrations job _ (all_of_them state.registrations job state.jobs is))
+
+install_jobs : (state : State) (job registration : ℕ) (worker : Worker) → AllMapped state.registrations state.jobs → let after = (finish_install state job registration worker).state in AllMapped after.registrations after.jobs
+unfolding finish_install followed finish become_waiting end_handler
+install_jobs state job registration worker is =
+    let rows = changed (is_registration registration) (placed (first_counter state.registrations)) state.registrations in
+    mapped_finished rows job state.jobs (all_of_them rows job state.jobs (mapped_plain (is_registration registration) (placed (first_counter state.registrations)) (λ x. refl) (λ x. refl) state.registrations state.jobs is))
+
+-- ---- jobs that go on
+
+pub reject_keeps : (state : State) (row : JobRow) (registration : ℕ) (why : Fault) → IsAt state is_fetching row registration → Coherent state → KeepsOrder state (reject_and_drop state row.job.number registration why)
+reject_keeps state row registration why at sound orderly =
+    let free = others_free state row registration at.found (grind (arith, at.phase)) at.registered sound in
+    let both = reject_placed state row.job.number registration why orderly.order in
+    (record { order = both.0; jobs = reject_jobs state row.job.number registration why free orderly.jobs }, both.1)
+
+discard_placed : (state : State) (worker : ℕ) → list_all (λ x. not (x.number == worker) || is_aside x.state) state.workers ≡ true → KeepsPlaced state (discard state worker)
+unfolding discard
+discard_placed state worker knows = placed_still state (discard state worker) refl (slots_aside worker (λ row. record row { state = worker_state.Redundant }) (λ x. refl) (λ x. refl) (λ x. refl) state.workers knows) refl
+
+throw_placed : (state : State) (job registration worker : ℕ) → list_all (λ x. not (x.number == worker) || is_aside x.state) state.workers ≡ true → KeepsPlaced state (throw state job registration worker)
+unfolding throw
+throw_placed state job registration worker knows = placed_further state (discard state worker) _ (discard_placed state worker knows) (reject_placed (discard state worker).state job registration (type_error cause.Threw))
+
+parsed_aside : (x : Worker) → is_parsed x ≡ true → is_aside x.state ≡ true
+parsed_aside x is = grind (arith, is)
+
+installing_aside : (x : Worker) → is_being_installed x ≡ true → is_aside x.state ≡ true
+installing_aside x is = grind (arith, is)
+
+pub throw_keeps : (state : State) (row : JobRow) (registration : ℕ) (worker : Worker) → IsAt state is_evaluating row registration → job_worker state row ≡ Some worker → Coherent state → KeepsOrder state (throw state row.job.number registration worker.number)
+throw_keeps state row registration worker at made sound orderly =
+    let free = others_free state row registration at.found (grind (arith, at.phase)) at.registered sound in
+    let knows = all_weaker (λ x. not (x.number == worker.number) || is_parsed x) _ (λ x is. grind (arith, is, parsed_aside x)) state.workers (knows_parsed state row registration worker at made sound) in
+    let both = throw_placed state row.job.number registration worker.number knows orderly.order in
+    (record { order = both.0; jobs = throw_jobs state row.job.number registration worker.number free orderly.jobs }, both.1)
+
+aside_ended : (worker : ℕ) (rows : List Worker) → list_all (λ x. not (x.number == worker) || is_aside x.state) rows ≡ true → list_all (λ x. not (x.number == worker) || is_aside x.state) (changed (is_worker worker) (λ row. record row { handler = None }) rows) ≡ true
+aside_ended worker rows is = all_changed (λ x. not (x.number == worker) || is_aside x.state) _ _ (λ x here. by_test (λ (w : Worker). (not (w.number == worker) || is_aside w.state) ≡ true) (is_worker worker x) _ x (λ a. here) (λ b. here)) rows is
+
+ended_aside : (state : State) (worker : ℕ) → list_all (λ x. not (x.number == worker) || is_aside x.state) state.workers ≡ true → list_all (λ x. not (x.number == worker) || is_aside x.state) (end_handler state worker).state.workers ≡ true
+unfolding end_handler
+ended_aside state worker is = aside_ended worker state.workers is
+
+fail_placed : (state : State) (row : JobRow) (registration worker : ℕ) → list_all (λ x. not (x.number == worker) || is_aside x.state) state.workers ≡ true → KeepsPlaced state (fail_install state row registration worker)
+unfolding fail_install
+fail_placed state row registration worker knows =
+    let one = (end_handler state worker).state in
+    let two = (discard one worker).state in
+    let three = if is_none row.remembered then unmap two registration else quiet two in
+    placed_further state (end_handler state worker) _ (ended_keeps state worker)
+    (placed_further one (discard one worker) _ (discard_placed one worker (ended_aside state worker knows))
+    (placed_further two three _ (by_test (KeepsPlaced two) (is_none row.remembered) _ _ (λ gone. unmap_placed two registration) (λ there order. (order, λ kept is. is))) (finish_placed three.state row.job.number)))
+
+pub fail_keeps : (state : State) (row : JobRow) (registration : ℕ) (worker : Worker) (handler : Handler) → IsInstalled state row registration worker handler → Coherent state → KeepsOrder state (fail_install state row registration worker.number)
+fail_keeps state row registration worker handler is sound orderly =
+    let free = others_free state row registration is.at.found (grind (arith, is.at.phase)) is.at.registered sound in
+    let own = (made_of state row.worker worker is.made).1 in
+    let knows = all_weaker (λ x. not (x.number == worker.number) || is_being_installed x) _ (λ x here. grind (arith, here, installing_aside x)) state.workers
+    (all_of_number is_being_installed state.workers worker.number worker sound.workers.numbers own (grind (arith, installing_of state row registration worker handler is sound))) in
+    let both = fail_placed state row registration worker.number knows orderly.order in
+    (record { order = both.0; jobs = fail_jobs state row registration worker.number free orderly.jobs }, both.1)
