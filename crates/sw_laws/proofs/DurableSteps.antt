@@ -17,26 +17,30 @@ use Rattle.sw_data.specs.declared.rows.JobRow.{JobRow}
 use Rattle.sw_data.specs.declared.storage.Kept.{Kept}
 use Rattle.sw_data.specs.declared.workers.Slot.TheVariants as slot
 use Rattle.sw_data.specs.declared.workers.WorkerState.TheVariants as worker_state
-use Rattle.sw_rules.specs.Installing.{advance, become_waiting, begin_install, discard, end_handler, fail_install, finish_install, first_counter, installing, job_worker, kept_worker, make_worker, placed, reject_and_drop, tell_update, throw}
+use Rattle.sw_rules.specs.Activating.{become_activated}
+use Rattle.sw_rules.specs.Installing.{advance, become_waiting, begin_install, discard, end_handler, ended_handler, fail_install, finish_install, first_counter, installing, job_worker, kept_worker, make_worker, placed, reject_and_drop, tell_update, throw}
 use Rattle.sw_rules.specs.Jobs.{finish, gets_value, promise, settle}
 use Rattle.sw_rules.specs.Registering.{fetch_script, may_run}
 use Rattle.sw_rules.specs.Registrations.{drop_registration, unmap}
-use Rattle.sw_rules.specs.Rows.{changed, in_phase, in_slot, is_evaluating, is_fetching, is_installing, is_job, is_registration, is_worker, job_row, mapped_registration, newest_worker, registration_row, worker_row}
+use Rattle.sw_rules.specs.Rows.{changed, in_phase, in_slot, is_activating, is_evaluating, is_fetching, is_install, is_installing, is_job, is_mapped_to, is_registration, is_worker, job_row, mapped_registration, newest_worker, registration_row, worker_row}
 use Rattle.sw_rules.specs.State.{State, Registration, Worker, Awaited, Handler}
 use Rattle.sw_rules.specs.Storage.{kept_after}
 use Rattle.sw_rules.specs.Told.{Told, followed, quiet, type_error}
-use Rattle.sw_laws.specs.Coherent.{Coherent, SoundRegistrations, is_being_installed, is_parsed, same_scope, share_slot}
+use Rattle.sw_laws.specs.Coherent.{Coherent, SoundRegistrations, apart, is_being_installed, is_parsed, same_scope, share_slot}
 use Rattle.sw_laws.proofs.Contents.{contents, found_in, slots_in}
+use Rattle.sw_laws.proofs.HandlerSteps.{activating_rows, ended_from}
 use Rattle.sw_laws.proofs.InstallSteps.{installing_of, knows_parsed, made_of}
+use Rattle.sw_laws.proofs.JobMoves.{jobs_of_number}
 use Rattle.sw_laws.proofs.KeptInstall.{waiting_keeps}
-use Rattle.sw_laws.proofs.KeptRechecks.{KeepsOrder, KeepsRows, Orderly, is_underway, rows_further}
+use Rattle.sw_laws.proofs.KeptRechecks.{KeepsOrder, KeepsRows, Orderly, followed_orderly, has_mapped, is_underway, rows_further}
 use Rattle.sw_laws.proofs.KeptRows.{unmap_ordered, unmap_rows}
-use Rattle.sw_laws.proofs.KeptWorkers.{ended_keeps, ended_slots, is_aside, rows_same, slots_aside}
-use Rattle.sw_laws.proofs.Lists.{all_changed, all_weaker, apart_changed, by_test, found_by}
+use Rattle.sw_laws.proofs.KeptWorkers.{activated_keeps, ended_keeps, ended_slots, is_aside, rows_same, slots_aside}
+use Rattle.sw_laws.proofs.Lists.{all_changed, all_true, all_weaker, any_weaker, apart_changed, by_test, find_any, find_passes, found_by}
 use Rattle.sw_laws.proofs.Moves.{all_of_number}
 use Rattle.sw_laws.proofs.Ordered.{Ordered}
-use Rattle.sw_laws.proofs.Places.{places_changed}
+use Rattle.sw_laws.proofs.Places.{all_at_found, found_any, found_numbered, places_apart, places_changed}
 use Rattle.sw_laws.proofs.RegistrationSteps.{KeepsRegistration, plain_keeps}
+use Rattle.sw_laws.proofs.SlotMoves.{look_moved, slots_pushed}
 use Rattle.sw_laws.proofs.Split.{IsAt, IsInstalled}
 use Rattle.sw_laws.proofs.Underway.{AllMapped, all_of_them, ended_settled, is_free, mapped_ended, mapped_finished, mapped_jobs, mapped_plain, mapped_settled, others_free}
 
@@ -137,7 +141,7 @@ install_jobs state job registration worker is =
     let rows = changed (is_registration registration) (placed (first_counter state.registrations)) state.registrations in
     mapped_finished rows job state.jobs (all_of_them rows job state.jobs (mapped_plain (is_registration registration) (placed (first_counter state.registrations)) (λ x. refl) (λ x. refl) state.registrations state.jobs is))
 
--- ---- jobs that go on
+-- ---- jobs that end
 
 pub reject_keeps : (state : State) (row : JobRow) (registration : ℕ) (why : Fault) → IsAt state is_fetching row registration → Coherent state → KeepsOrder state (reject_and_drop state row.job.number registration why)
 reject_keeps state row registration why at sound orderly =
@@ -191,3 +195,120 @@ fail_keeps state row registration worker handler is sound orderly =
     (all_of_number is_being_installed state.workers worker.number worker sound.workers.numbers own (grind (arith, installing_of state row registration worker handler is sound))) in
     let both = fail_placed state row registration worker.number knows orderly.order in
     (record { order = both.0; jobs = fail_jobs state row registration worker.number free orderly.jobs }, both.1)
+
+-- ---- an install that succeeds
+
+-- the registration of a job that is underway, mapped
+found_mapped : (rows : List Registration) (number : ℕ) → apart (λ x y. x.number == y.number) rows ≡ true → list_any (λ found. found.number == number && found.mapped) rows ≡ true → (row : Registration) × (find (is_registration number) rows ≡ Some row) × (row.mapped ≡ true)
+found_mapped rows number fine is =
+    let found = found_any (is_registration number) rows (any_weaker (λ (r : Registration). r.number == number && r.mapped) _ (λ r here. grind (arith, here)) rows is) in
+    (found.0, found.1, found_numbered (λ (r : Registration). r.number) (λ r. r.mapped) rows number found.0 fine found.1 is)
+
+maps_its : (rows : List Registration) (row : JobRow) (registration : Option ℕ) (number : ℕ) → registration ≡ Some number → is_underway row ≡ true → (not (is_underway row) || option_map_or (λ n. list_any (λ found. found.number == n && found.mapped) rows) registration true) ≡ true → list_any (λ found. found.number == number && found.mapped) rows ≡ true
+maps_its rows row None number is underway has = absurd cc
+maps_its rows row (Some n) number is underway has = let same : n ≡ number = cc in subst (λ m. list_any (λ found. found.number == m && found.mapped) rows ≡ true) same (grind (arith, underway, has))
+
+installing_found : (state : State) (worker : Worker) (registration : ℕ) → Coherent state → worker_row state worker.number ≡ Some worker → (worker.registration == registration && is_being_installed worker) ≡ true → found_in state.workers slot.Installing registration ≡ Some worker
+installing_found state worker registration sound found is =
+    found_by share_slot (is_worker worker.number) (λ x. x.registration == registration && in_slot slot.Installing x.state) state.workers worker sound.workers.slots found (grind (arith, is)) (λ y here. grind (arith, nat_tests, here, is))
+
+ended_installing : (state : State) (worker registration : ℕ) → option_map kept_worker (found_in (end_handler state worker).state.workers slot.Installing registration) ≡ option_map kept_worker (found_in state.workers slot.Installing registration)
+unfolding end_handler
+ended_installing state worker registration =
+    look_moved kept_worker kept_worker (λ x. x.registration == registration && in_slot slot.Installing x.state) (λ x. x.registration == registration && in_slot slot.Installing x.state) (λ x. true) (λ x. if is_worker worker x then record x { handler = None } else x)
+    (λ x know. by_test (λ (w : Worker). (w.registration == registration && in_slot slot.Installing w.state) ≡ (x.registration == registration && in_slot slot.Installing x.state)) (is_worker worker x) _ x (λ a. refl) (λ b. refl))
+    (λ x know passes. by_test (λ (w : Worker). kept_worker w ≡ kept_worker x) (is_worker worker x) _ x (λ a. refl) (λ b. refl)) state.workers (all_true state.workers)
+
+waiting_sound : (state : State) (registration : ℕ) (worker : Worker) → SoundRegistrations state.registrations → SoundRegistrations (become_waiting state registration worker).state.registrations
+unfolding become_waiting
+waiting_sound state registration worker sound = sound_moved _ (plain_keeps (is_registration registration) (placed (first_counter state.registrations)) (λ x. refl) (λ x. refl) (λ x. refl) (λ x is. is)) state.registrations sound
+
+install_placed : (state : State) (job registration : ℕ) (worker : Worker) (row : Registration) → registration_row (end_handler state worker.number).state registration ≡ Some row → row.mapped ≡ true
+    → option_map kept_worker (found_in (end_handler state worker.number).state.workers slot.Installing registration) ≡ Some (kept_worker worker) → KeepsPlaced state (finish_install state job registration worker)
+unfolding finish_install
+install_placed state job registration worker row found mapped installs =
+    let one = (end_handler state worker.number).state in
+    placed_further state (end_handler state worker.number) _ (ended_keeps state worker.number)
+    (placed_further one (become_waiting one registration worker) _ (λ order. waiting_keeps one registration worker row found mapped installs order (waiting_sound one registration worker order.sound)) (finish_placed (become_waiting one registration worker).state job))
+
+ended_row : (state : State) (worker registration : ℕ) (row : Registration) → registration_row state registration ≡ Some row → registration_row (end_handler state worker).state registration ≡ Some row
+unfolding end_handler
+ended_row state worker registration row is = is
+
+pub install_keeps : (state : State) (row : JobRow) (registration : ℕ) (worker : Worker) (handler : Handler) → IsInstalled state row registration worker handler → Coherent state → KeepsOrder state (finish_install state row.job.number registration worker)
+install_keeps state row registration worker handler is sound orderly =
+    let underway : is_underway row ≡ true = grind (arith, is.at.phase) in
+    let maps = maps_its state.registrations row row.registration registration is.at.registered underway (all_at_found (is_job row.job.number) (has_mapped state.registrations) state.jobs row is.at.found orderly.jobs) in
+    let found = found_mapped state.registrations registration (places_apart (λ (r : Registration). r.number) state.registrations orderly.order.sound.numbers) maps in
+    let own = (made_of state row.worker worker is.made).1 in
+    let installs = ended_installing state worker.number registration ∙ ap (option_map kept_worker) (installing_found state worker registration sound own (installing_of state row registration worker handler is sound)) in
+    let both = install_placed state row.job.number registration worker found.0 (ended_row state worker.number registration found.0 found.1) found.2 installs orderly.order in
+    (record { order = both.0; jobs = install_jobs state row.job.number registration worker orderly.jobs }, both.1)
+
+-- ---- jobs that go on
+
+still_mapped : (now was other : Bool) → was ≡ true → (not was || other) ≡ true → (not now || other) ≡ true
+still_mapped now was other is here = grind (arith, is, here)
+
+-- a job that is underway goes on with its registration
+goes_on : (rows : List Registration) (jobs : List JobRow) (job : ℕ) (g : JobRow → JobRow) → ((x : JobRow) → (g x).registration ≡ x.registration) → list_all (λ x. not (is_job job x) || is_underway x) jobs ≡ true → AllMapped rows jobs → AllMapped rows (changed (is_job job) g jobs)
+goes_on rows jobs job g same knows is =
+    mapped_jobs (λ x. if is_job job x then g x else x) (λ x. not (is_job job x) || is_underway x) rows
+    (λ x know here. by_test (λ (r : JobRow). has_mapped rows r ≡ true) (is_job job x) _ x (λ own. rw (same x) (still_mapped (is_underway (g x)) (is_underway x) _ (grind (arith, know, own)) here)) (λ other. here)) jobs knows is
+
+make_placed : (state : State) (row : JobRow) (registration : ℕ) (fetched : Fetched) (n : ℕ) → slots_in (make_worker state row registration fetched).state.workers n ≡ slots_in state.workers n
+unfolding make_worker
+make_placed state row registration fetched n = slots_pushed state.workers _ n refl refl
+
+pub make_keeps : (state : State) (row : JobRow) (registration : ℕ) (fetched : Fetched) → IsAt state is_fetching row registration → Coherent state → KeepsOrder state (make_worker state row registration fetched)
+unfolding make_worker
+make_keeps state row registration fetched at sound =
+    still_keeps state (make_worker state row registration fetched) refl (make_placed state row registration fetched)
+    (λ is. goes_on state.registrations state.jobs row.job.number _ (λ x. refl) (jobs_of_number is_underway state.jobs row.job.number row sound.jobs.numbers at.found (grind (arith, at.phase))) is) (λ kept. refl)
+
+begun_slots : (state : State) (job registration worker n : ℕ) → list_all (λ x. not (x.number == worker) || is_aside x.state) state.workers ≡ true → slots_in (begin_install state job registration worker).state.workers n ≡ slots_in state.workers n
+unfolding begin_install
+begun_slots state job registration worker n knows = slots_aside worker installing (λ x. refl) (λ x. refl) (λ x. refl) state.workers knows n
+
+pub begin_keeps : (state : State) (row : JobRow) (registration : ℕ) (worker : Worker) → IsAt state is_evaluating row registration → job_worker state row ≡ Some worker → Coherent state
+    → KeepsOrder state (followed (begin_install state row.job.number registration worker.number) (λ begun. followed (settle begun row.job.number (settlement.Registration registration)) (λ settled. tell_update settled registration)))
+unfolding followed begin_install settle tell_update
+begin_keeps state row registration worker at made sound =
+    let job = row.job.number in
+    let knows : list_all (λ x. not (x.number == worker.number) || is_aside x.state) state.workers ≡ true =
+    all_weaker (λ x. not (x.number == worker.number) || is_parsed x) _ (λ x is. grind (arith, is, parsed_aside x)) state.workers (knows_parsed state row registration worker at made sound) in
+    still_keeps state (followed (begin_install state job registration worker.number) (λ begun. followed (settle begun job (settlement.Registration registration)) (λ settled. tell_update settled registration))) refl
+    (λ n. begun_slots state job registration worker.number n knows)
+    (λ is. mapped_settled state.registrations (gets_value job) (settlement.Registration registration) _ (goes_on state.registrations state.jobs job _ (λ x. refl) (jobs_of_number is_underway state.jobs job row sound.jobs.numbers at.found (grind (arith, at.phase))) is)) (λ kept. refl)
+
+or_last : (a b : Bool) → b ≡ true → (a || b) ≡ true
+or_last a b is = grind (arith, is)
+
+fetching_mapped : (rows : List Registration) (row : JobRow) (registration : Registration) → find (is_mapped_to row.job.key row.job.scope) rows ≡ Some registration → list_any (λ found. found.number == registration.number && found.mapped) rows ≡ true
+fetching_mapped rows row registration is = find_any (is_mapped_to row.job.key row.job.scope) _ rows registration is (grind (arith, nat_tests, find_passes (is_mapped_to row.job.key row.job.scope) rows registration is))
+
+pub fetch_keeps : (state : State) (row : JobRow) (registration : Registration) → mapped_registration state row.job.key row.job.scope ≡ Some registration → KeepsOrder state (fetch_script state row.job registration.number)
+unfolding fetch_script
+fetch_keeps state row registration mapped =
+    let there = fetching_mapped state.registrations row registration mapped in
+    still_keeps state (fetch_script state row.job registration.number) refl (λ n. refl)
+    (λ is. all_changed (has_mapped state.registrations) (has_mapped state.registrations) _ (λ x here. by_test (λ (r : JobRow). has_mapped state.registrations r ≡ true) (is_job row.job.number x) _ x (λ own. or_last _ _ there) (λ other. here)) state.jobs is) (λ kept. refl)
+
+-- ---- an activate handler ends
+
+activated_jobs : (state : State) (worker : Worker) → AllMapped state.registrations state.jobs → let told = become_activated (end_handler state worker.number).state worker.registration worker.number in AllMapped told.state.registrations told.state.jobs
+unfolding become_activated end_handler
+activated_jobs state worker is = is
+
+pub activated_then : (state : State) (worker : Worker) (handler : Handler) (next : State → Told) → worker_row state worker.number ≡ Some worker → ended_handler state (λ phase. not (is_install phase)) worker ≡ Some handler → Coherent state
+    → KeepsOrder (become_activated (end_handler state worker.number).state worker.registration worker.number).state (next (become_activated (end_handler state worker.number).state worker.registration worker.number).state)
+    → KeepsOrder state (followed (end_handler state worker.number) (λ ended. followed (become_activated ended worker.registration worker.number) next))
+activated_then state worker handler next found ended sound rest orderly =
+    let is = ended_from state (λ phase. not (is_install phase)) worker handler found ended in
+    let activating : is_activating worker ≡ true = grind (arith, nat_tests, all_at_found (is_worker worker.number) _ state.workers worker found (activating_rows state worker handler is.1 (grind (arith, is.0)) sound), find_passes (is_worker worker.number) state.workers worker found) in
+    let one = (end_handler state worker.number).state in
+    let told = become_activated one worker.registration worker.number in
+    let middle = activated_keeps state worker sound found activating orderly.order in
+    let last = rest (record { order = middle.0; jobs = activated_jobs state worker orderly.jobs }) in
+    (followed_orderly state (end_handler state worker.number) _ (followed_orderly one told next last.0),
+    rows_further state (end_handler state worker.number) _ (ended_keeps state worker.number orderly.order).1 (rows_further one told next middle.1 last.1))

@@ -51,7 +51,7 @@ unfolding followed
 rows_further state told next one other kept is =
     ap (λ (k : Kept). k.registrations) (fold-append applied kept told.changes (next told.state).changes) ∙ other (kept_after kept told.changes) (one kept is)
 
-followed_orderly : (state : State) (told : Told) (next : State → Told) → Orderly (next told.state).state → Orderly (followed told next).state
+pub followed_orderly : (state : State) (told : Told) (next : State → Told) → Orderly (next told.state).state → Orderly (followed told next).state
 unfolding followed
 followed_orderly state told next orderly = record { order = orderly.order; jobs = orderly.jobs }
 

@@ -6,6 +6,7 @@ pub mod ControlledLaw
 pub mod Contents
 pub mod Controls
 pub mod Cuts
+pub mod DurableLaw
 pub mod DurableSteps
 pub mod EndSteps
 pub mod Events

@@ -10,7 +10,7 @@ use Rattle.sw_data.specs.declared.answers.Settlement.{Settlement}
 use Rattle.sw_data.specs.declared.rows.Job.{Job}
 use Rattle.sw_data.specs.declared.rows.JobRow.{JobRow}
 use Rattle.sw_data.specs.declared.rows.JobPhase.TheVariants as job_phase
-use Rattle.sw_rules.specs.Caching.{is_mapped_of}
+use Rattle.sw_rules.specs.Caching.{is_busy, is_mapped_of, is_worker_of_key}
 use Rattle.sw_rules.specs.Jobs.{finish, gets_value, new_job_row, settle}
 use Rattle.sw_rules.specs.Registering.{may_run}
 use Rattle.sw_rules.specs.Rows.{changed, first_job, in_phase, is_first, is_job, is_mapped_to, is_number, is_registration, is_unfinished, is_waiting, job_row, mapped_registration}
@@ -19,7 +19,7 @@ use Rattle.sw_laws.specs.Coherent.{Coherent, apart, has_own_registration, is_ear
 use Rattle.sw_laws.proofs.FetchSteps.{bytes_joined, first_is, in_queue}
 use Rattle.sw_laws.proofs.JobMoves.{jobs_of_number}
 use Rattle.sw_laws.proofs.KeptRechecks.{has_mapped, is_underway}
-use Rattle.sw_laws.proofs.Lists.{all_both, all_changed, all_weaker, any_changed, any_weaker, by_test, by_truth, bytes_eq_equal, bytes_eq_same, bytes_eq_symmetric, find_any, find_passes, found_by, or_from, where_there}
+use Rattle.sw_laws.proofs.Lists.{all_both, all_changed, all_not, all_weaker, any_changed, any_weaker, by_test, by_truth, bytes_eq_equal, bytes_eq_same, bytes_eq_symmetric, find_any, find_passes, found_by, or_from, where_there}
 use Rattle.sw_laws.proofs.Moves.{from_any}
 use Rattle.sw_laws.proofs.Places.{all_as_found, all_at_found, all_known, all_pushed, both_numbered, places_apart}
 
@@ -185,3 +185,36 @@ mapped_ended rows number job jobs free is =
 
 pub ended_settled : (rows : List Registration) (job : ℕ) (test : JobRow → Bool) (result : Settlement) (jobs : List JobRow) → list_all (λ x. is_job job x || has_mapped rows x) jobs ≡ true → list_all (λ x. is_job job x || has_mapped rows x) (changed test (λ row. record row { settled = Some result }) jobs) ≡ true
 ended_settled rows job test result jobs is = all_changed (λ x. is_job job x || has_mapped rows x) _ _ (λ x here. by_test (λ (r : JobRow). (is_job job r || has_mapped rows r) ≡ true) (test x) _ x (λ a. here) (λ b. here)) jobs is
+
+-- ---- a key is forgotten
+
+none_of_jobs : (a b c d e : Bool) → (a || b || c || d || e) ≡ false → b ≡ false
+none_of_jobs a b c d e is = grind (arith, is)
+
+-- a registration of another key stays mapped
+other_stays : (rows : List Registration) (key : List ℕ) (job : JobRow) (registration : Option ℕ) → apart (λ x y. x.number == y.number) rows ≡ true → bytes_eq job.job.key key ≡ false
+    → option_map_or (λ n. list_any (λ found. found.number == n && bytes_eq found.key job.job.key && bytes_eq found.scope job.job.scope) rows) registration true ≡ true
+    → option_map_or (λ n. list_any (λ found. found.number == n && found.mapped) rows) registration true ≡ true
+    → option_map_or (λ n. list_any (λ found. found.number == n && found.mapped) (changed (is_mapped_of key) (λ row. record row { mapped = false }) rows)) registration true ≡ true
+other_stays rows key job None fine other own is = refl
+other_stays rows key job (Some n) fine other own is =
+    any_changed (λ found. found.number == n && (bytes_eq found.key job.job.key && found.mapped)) _ _
+    (λ x both. by_test (λ (r : Registration). (r.number == n && r.mapped) ≡ true) (is_mapped_of key x) _ x (λ here. absurd (true≢false (sym (bytes_joined x.key job.job.key key (grind (arith, both)) (grind (arith, here))) ∙ other))) (λ stays. grind (arith, both))) rows
+    (both_numbered (λ (r : Registration). r.number) (λ r. bytes_eq r.key job.job.key) (λ r. r.mapped) rows n fine (any_weaker (λ (r : Registration). r.number == n && bytes_eq r.key job.job.key && bytes_eq r.scope job.job.scope) _ (λ r here. grind (arith, here)) rows own) is)
+
+forgotten_job : (rows : List Registration) (key : List ℕ) (job : JobRow) → apart (λ x y. x.number == y.number) rows ≡ true → not (is_unfinished job && bytes_eq job.job.key key) ≡ true → has_own_registration rows job ≡ true → has_mapped rows job ≡ true
+    → has_mapped (changed (is_mapped_of key) (λ row. record row { mapped = false }) rows) job ≡ true
+forgotten_job rows key job fine idle own is =
+    by_truth (is_underway job)
+    (λ here. and_or (is_underway job) _ (other_stays rows key job job.registration fine (grind (arith, idle, here)) own (grind (arith, is, here))))
+    (λ other. grind (arith, other))
+
+pub mapped_forgotten : (state : State) (key : List ℕ) → is_busy state key ≡ false → Coherent state → AllMapped state.registrations state.jobs → AllMapped (changed (is_mapped_of key) (λ row. record row { mapped = false }) state.registrations) state.jobs
+mapped_forgotten state key free sound is =
+    let idle = all_not (λ (x : JobRow). is_unfinished x && bytes_eq x.job.key key) state.jobs
+    (none_of_jobs (list_any (λ row. bytes_eq row.key key) state.clients) (list_any (λ row. is_unfinished row && bytes_eq row.job.key key) state.jobs)
+    (list_any (λ row. is_some row.handler && is_worker_of_key state key row.number) state.workers) (list_any (λ row. is_worker_of_key state key row.worker) state.fetch_events) (list_any (λ row. is_none row.settled && bytes_eq row.key key) state.tasks) free) in
+    let fine = places_apart (λ (r : Registration). r.number) state.registrations sound.registrations.numbers in
+    all_weaker (λ x. not (is_unfinished x && bytes_eq x.job.key key) && (has_own_registration state.registrations x && has_mapped state.registrations x)) _
+    (λ x all. let parts = and_parts _ _ all in let both = and_parts _ _ parts.1 in forgotten_job state.registrations key x fine parts.0 both.0 both.1) state.jobs
+    (all_both _ _ state.jobs idle (all_both _ _ state.jobs sound.work.keys is))
