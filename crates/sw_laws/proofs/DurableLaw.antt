@@ -108,7 +108,7 @@ promise_keeps state (who.Handler worker in_phase number) awaited = nothing_keeps
 -- ---- each least step
 
 -- a coherent and orderly state stays so, and the changes make what is kept after the step
-abbrev KeepsAll : State → Told → Type 0
+abbrev pub KeepsAll : State → Told → Type 0
 KeepsAll state told = Coherent state → Coherent told.state × KeepsOrder state told
 
 all_further : (state : State) (told : Told) (next : State → Told) → KeepsAll state told → KeepsAll told.state (next told.state) → KeepsAll state (followed told next)
@@ -152,7 +152,7 @@ unfolding settle_task
 settled_slots state number result faulted n =
     slots_plain (is_maker (option_and_then (λ (row : AddAll). maker_worker row.maker) (task_row state number))) (λ row. record row { handler = option_map (noted_task faulted) row.handler }) (λ x. looks_plain x (record x { handler = option_map (noted_task faulted) x.handler }) refl refl refl) state.workers n
 
-all_law : IsLawWhere KeepsAll true false
+pub all_law : IsLawWhere KeepsAll true false
 unfolding followed schedule settle finish add_client add_event remove_event add_cache drop_cache carry_out add_task settle_task note_call
 all_law = record {
   rechecks = all_recheck;

@@ -36,12 +36,11 @@ use Rattle.sw_rules.specs.State.{State, Registration, Worker, Awaited}
 use Rattle.sw_rules.specs.Step.{changes_of, step}
 use Rattle.sw_rules.specs.Storage.{applied, is_cache, kept_after, with_batch}
 use Rattle.sw_rules.specs.Told.{Told, Outcome, followed, is_kept, kept_change, quiet, type_error}
-use Rattle.sw_laws.specs.Laws.{CachesAreKept, changes_along, changes_of_history}
 use Rattle.sw_laws.proofs.Events.{step-law}
 use Rattle.sw_laws.proofs.Lists.{by_test}
 use Rattle.sw_laws.proofs.Split.{IsLaw, IsRecheckLaw, unload-law}
 
-abbrev KeepsCaches : State → Told → Type 0
+abbrev pub KeepsCaches : State → Told → Type 0
 KeepsCaches state told = (kept : Kept) → kept.caches ≡ state.caches → (kept_after kept told.changes).caches ≡ told.state.caches
 
 further : (state : State) (told : Told) (next : State → Told) → KeepsCaches state told → KeepsCaches told.state (next told.state) → KeepsCaches state (followed told next)
@@ -192,7 +191,7 @@ claims_cache (number ∷ numbers) state worker registration =
 
 -- ---- each least step
 
-cache_law : IsLaw KeepsCaches true
+pub cache_law : IsLaw KeepsCaches true
 unfolding followed schedule map_registration fetch_script make_worker begin_install settle tell_update add_client add_event remove_event add_cache drop_cache add_task settle_task forget_key note_call
 cache_law = record {
   rechecks = rechecks_cache;
@@ -232,23 +231,3 @@ cache_law = record {
   answering = λ state number result faulted kept same. same;
   noting = λ state worker faulted kept same. same;
 }
-
--- ---- along histories
-
-step_after : (state : State) (o : Option Outcome) → IfSome o (λ outcome. KeepsCaches state outcome.told) → (kept : Kept) → kept.caches ≡ state.caches
-    → (kept_after kept (option_map_or (λ (outcome : Outcome). outcome.told.changes) o [])).caches ≡ (option_map_or (λ (outcome : Outcome). outcome.told.state) o state).caches
-step_after state None law kept same = same
-step_after state (Some outcome) law kept same = law kept same
-
-entries_keep : (entries : List Entry) (state : State) (kept : Kept) → kept.caches ≡ state.caches → (kept_after kept (changes_along state entries)).caches ≡ (after_entries state entries).caches
-entries_keep [] state kept same = same
-entries_keep (entry ∷ entries) state kept same =
-    ap (λ (k : Kept). k.caches) (fold-append applied kept (changes_of state entry.event) (changes_along (moved state entry) entries))
-    ∙ entries_keep entries (moved state entry) (kept_after kept (changes_of state entry.event)) (step_after state (step state entry.event) (step-law KeepsCaches true cache_law state entry.event (λ may. refl)) kept same)
-
-prefixes_keep : (base : Kept) (history : List Entry) (n : ℕ) → Opens base history → (kept_after base (changes_of_history base (take (suc n) history))).caches ≡ (after base (take (suc n) history)).caches
-prefixes_keep base [] n opens = absurd opens
-prefixes_keep base (opening ∷ entries) n opens = entries_keep (take n entries) (restart base) (applied base change.Restarted) refl
-
-pub caches_are_kept : CachesAreKept
-caches_are_kept = record { prefixes = λ base history n legal. prefixes_keep base history n legal.opens }

@@ -6,7 +6,9 @@ pub mod ControlledLaw
 pub mod Contents
 pub mod Controls
 pub mod Cuts
+pub mod DurableKept
 pub mod DurableLaw
+pub mod DurableRestart
 pub mod DurableSteps
 pub mod EndSteps
 pub mod Events
