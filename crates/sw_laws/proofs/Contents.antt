@@ -126,7 +126,6 @@ kept_else_none (Some row) = refl
 -- where each row keeps its place, and what is kept of it is f of what was kept
 module _ (kept now : Registration → Option KeptRegistration) (g : Registration → Registration) (f : KeptRegistration → Option KeptRegistration) (known : Registration → Bool)
     (first : (x : Registration) → (g x).first ≡ x.first) (moves : (x : Registration) → known x ≡ true → now (g x) ≡ option_and_then f (kept x)) where
-
   placed_here : (place : ℕ) (row : Registration) (rows : List Registration) → is_number row.first place ≡ true → list_all (λ y. not (same_first row y)) rows ≡ true
       → placed_at kept place (row ∷ rows) ≡ kept row
   placed_here place row rows here fine =

@@ -8,7 +8,7 @@ use Rattle.sw_data.specs.declared.storage.Kept.{Kept}
 use Rattle.sw_data.specs.declared.storage.KeptCache.{KeptCache}
 use Rattle.sw_data.specs.declared.storage.KeptRegistration.{KeptRegistration}
 use Rattle.sw_rules.specs.Durable as kept
-use Rattle.sw_rules.specs.History.{Legal, Opens, after, after_entries, moved}
+use Rattle.sw_rules.specs.History.{Opens, after, after_entries, moved}
 use Rattle.sw_rules.specs.Restart.{restart}
 use Rattle.sw_rules.specs.State.{State}
 use Rattle.sw_rules.specs.Step.{changes_of, step}

@@ -1,56 +1,44 @@
 -- The changes of each event make the durable part of the state after it of that of the state before it.
-use Rattle.std.proofs.Common.{◌≡◌, ◌∙◌, ℕ, Bool, true, false, not, ◌&&◌, List, [], ◌∷◌, ◌++◌, map, filter, Option, Some, None, option_map, IfSome, refl, sym, ap, take, suc, arith, if◌then◌else◌}
+use Rattle.std.proofs.Common.{◌≡◌, ◌∙◌, ℕ, Bool, true, false, List, [], ◌∷◌, map, None, option_map, refl, sym, ap}
 use Rattle.std.specs.List.{list_all, list_any}
-use Rattle.std.specs.Option.{option_map_or}
 use Rattle.std.specs.Prelude.{is_some, option_and_then}
-use Rattle.std.proofs.lemmas.List.Sums.{fold-append}
 use Rattle.sw_data.specs.declared.answers.Settlement.{Settlement}
 use Rattle.sw_data.specs.declared.events.Who.{Who}
 use Rattle.sw_data.specs.declared.events.Who.TheVariants as who
 use Rattle.sw_data.specs.declared.exchange.Op.{Op}
-use Rattle.sw_data.specs.declared.histories.Entry.{Entry}
 use Rattle.sw_data.specs.declared.rows.Job.{Job}
-use Rattle.sw_data.specs.declared.rows.JobRow.{JobRow}
 use Rattle.sw_data.specs.declared.storage.Change.TheVariants as change
 use Rattle.sw_data.specs.declared.storage.Kept.{Kept}
-use Rattle.sw_data.specs.declared.storage.KeptCache.{KeptCache}
-use Rattle.sw_data.specs.declared.storage.KeptRegistration.{KeptRegistration}
 use Rattle.sw_data.specs.declared.workers.Mode.{Mode}
 use Rattle.sw_data.specs.declared.workers.Slot.TheVariants as slot
 use Rattle.sw_rules.specs.Activating.{become_activated, paid}
 use Rattle.sw_rules.specs.Caching.{add_cache, add_task, carry_out, drop_cache, forget_key, is_busy, is_maker, noted_task, settle_task}
 use Rattle.sw_rules.specs.Calls.{note_call}
 use Rattle.sw_rules.specs.Clients.{add_client, add_event, flagged, new_client, remove_event}
-use Rattle.sw_rules.specs.Durable as kept
-use Rattle.sw_rules.specs.History.{Legal, Opens, after, after_entries, moved}
 use Rattle.sw_rules.specs.Installing.{end_handler, kept_worker}
 use Rattle.sw_rules.specs.Jobs.{finish, gets_value, joined_job, promise, schedule, settle}
 use Rattle.sw_rules.specs.Matching.{Pair}
 use Rattle.sw_rules.specs.Preloading.{set_preload}
 use Rattle.sw_rules.specs.Registrations.{map_registration, set_mode, unmap}
-use Rattle.sw_rules.specs.Restart.{restart}
 use Rattle.sw_rules.specs.Rows.{active_worker, in_slot, is_activated, is_registration, is_worker, maker_worker, mapped_registration, task_row}
-use Rattle.sw_rules.specs.State.{State, Registration, Worker, AddAll, Awaited}
-use Rattle.sw_rules.specs.Step.{changes_of, step}
-use Rattle.sw_rules.specs.Storage.{IsMade, applied, is_cache, kept_after}
-use Rattle.sw_rules.specs.Told.{Told, Outcome, followed, quiet}
+use Rattle.sw_rules.specs.State.{State, Worker, AddAll, Awaited}
+use Rattle.sw_rules.specs.Storage.{applied, is_cache, kept_after}
+use Rattle.sw_rules.specs.Told.{Told, followed, quiet}
 use Rattle.sw_laws.specs.Coherent.{Coherent}
-use Rattle.sw_laws.specs.Laws.{changes_along, changes_of_history}
 use Rattle.sw_laws.proofs.ClaimSteps.{StaysCoherent, rechecks_coherently}
 use Rattle.sw_laws.proofs.CoherentLaw.{coherent_law}
-use Rattle.sw_laws.proofs.Contents.{contents, durable_is, slots_in}
+use Rattle.sw_laws.proofs.Contents.{slots_in}
 use Rattle.sw_laws.proofs.DurableSteps.{activated_then, begin_keeps, fail_keeps, fetch_keeps, install_keeps, make_keeps, reject_keeps, still_keeps, throw_keeps, unmap_placed}
-use Rattle.sw_laws.proofs.Events.{step-law}
 use Rattle.sw_laws.proofs.HandlerSteps.{activated_from}
 use Rattle.sw_laws.proofs.JobEvents.{leaving}
 use Rattle.sw_laws.proofs.KeptForget.{forget_ordered, forget_rows}
-use Rattle.sw_laws.proofs.KeptRechecks.{KeepsOrder, KeepsRows, Orderly, activate_keeps, claims_keep, clear_keeps, further, leave_keeps, nothing_keeps}
+use Rattle.sw_laws.proofs.KeptRechecks.{KeepsOrder, Orderly, activate_keeps, claims_keep, clear_keeps, further, leave_keeps, nothing_keeps}
 use Rattle.sw_laws.proofs.KeptRows.{mapped_keeps, mode_ordered, mode_rows, paid_ordered, paid_rows, preload_ordered, preload_rows}
 use Rattle.sw_laws.proofs.Lists.{by_test}
 use Rattle.sw_laws.proofs.RegistrationSteps.{paid-coherent, unmap-coherent}
 use Rattle.sw_laws.proofs.SlotMoves.{LooksSame, slots_plain}
 use Rattle.sw_laws.proofs.Split.{IsLawWhere, IsLeavingLaw, IsRecheckLaw}
-use Rattle.sw_laws.proofs.Underway.{AllMapped, all_of_them, is_free, mapped_finished, mapped_forgotten, mapped_left, mapped_plain, mapped_pushed, mapped_scheduled, mapped_settled, unregister_free}
+use Rattle.sw_laws.proofs.Underway.{all_of_them, is_free, mapped_finished, mapped_forgotten, mapped_left, mapped_plain, mapped_pushed, mapped_scheduled, mapped_settled, unregister_free}
 
 -- ---- the steps on registrations, with jobs
 
@@ -68,21 +56,23 @@ map_keeps state job free sound orderly =
 
 mode_keeps : (state : State) (registration : ℕ) (mode : Mode) → Coherent state → KeepsOrder state (set_mode state registration mode)
 unfolding set_mode
-mode_keeps state registration mode sound orderly =
-    (record {
-      order = mode_ordered state registration mode (coherent_law.moding state registration mode sound).registrations orderly.order;
-      jobs = mapped_plain (is_registration registration) (λ row. record row { mode = mode }) (λ x. refl) (λ x. refl) state.registrations state.jobs orderly.jobs;
-    },
-    mode_rows state registration mode orderly.order)
+mode_keeps state registration mode sound orderly = (
+  record {
+    order = mode_ordered state registration mode (coherent_law.moding state registration mode sound).registrations orderly.order;
+    jobs = mapped_plain (is_registration registration) (λ row. record row { mode = mode }) (λ x. refl) (λ x. refl) state.registrations state.jobs orderly.jobs;
+  },
+  mode_rows state registration mode orderly.order,
+)
 
 preload_keeps : (state : State) (registration : ℕ) (on : Bool) (text : List ℕ) → is_some (active_worker state registration) ≡ true → Coherent state → KeepsOrder state (set_preload state registration on text)
 unfolding set_preload
-preload_keeps state registration on text active sound orderly =
-    (record {
-      order = preload_ordered state registration on text active (coherent_law.preloading state registration on text sound).registrations orderly.order;
-      jobs = mapped_plain (is_registration registration) (λ row. record row { preload = on; preload_value = text }) (λ x. refl) (λ x. refl) state.registrations state.jobs orderly.jobs;
-    },
-    preload_rows state registration on text orderly.order)
+preload_keeps state registration on text active sound orderly = (
+  record {
+    order = preload_ordered state registration on text active (coherent_law.preloading state registration on text sound).registrations orderly.order;
+    jobs = mapped_plain (is_registration registration) (λ row. record row { preload = on; preload_value = text }) (λ x. refl) (λ x. refl) state.registrations state.jobs orderly.jobs;
+  },
+  preload_rows state registration on text orderly.order,
+)
 
 paid_orderly : (state : State) (registration : ℕ) → Coherent state → Orderly state → Orderly (paid registration state)
 paid_orderly state registration sound orderly = record {
@@ -92,12 +82,13 @@ paid_orderly state registration sound orderly = record {
 
 forget_keeps : (state : State) (key : List ℕ) → is_busy state key ≡ false → Coherent state → KeepsOrder state (forget_key state key)
 unfolding forget_key
-forget_keeps state key free sound orderly =
-    (record {
-      order = forget_ordered state key orderly.order (coherent_law.forgetting state key free sound).registrations;
-      jobs = mapped_forgotten state key free sound orderly.jobs;
-    },
-    forget_rows state key orderly.order)
+forget_keeps state key free sound orderly = (
+  record {
+    order = forget_ordered state key orderly.order (coherent_law.forgetting state key free sound).registrations;
+    jobs = mapped_forgotten state key free sound orderly.jobs;
+  },
+  forget_rows state key orderly.order,
+)
 
 promise_keeps : (state : State) (maker : Who) (awaited : Awaited) → KeepsOrder state (promise state maker awaited)
 unfolding promise

@@ -1,11 +1,9 @@
 -- A restart leaves the registrations in order.
-use Rattle.std.proofs.Common.{◌≡◌, ◌∙◌, ℕ, ◌+◌, leb, Bool, true, false, not, ◌&&◌, ◌||◌, ◌==◌, List, [], ◌∷◌, map, filter, Option, Some, None, option_map, length, refl, sym, ap, subst, arith}
+use Rattle.std.proofs.Common.{◌≡◌, ◌∙◌, ℕ, ◌+◌, leb, Bool, true, false, ◌&&◌, ◌||◌, ◌==◌, List, [], ◌∷◌, map, Option, Some, None, option_map, length, refl, sym, ap, subst, arith}
 use Rattle.std.specs.List.{list_all, list_any, enumerate_from}
-use Rattle.std.specs.Prelude.{find, is_some, nat_lt}
-use Rattle.std.specs.Option.{option_map_or}
+use Rattle.std.specs.Prelude.{is_some}
 use Rattle.std.proofs.lemmas.Bool.{and_from, and_parts}
 use Rattle.std.proofs.lemmas.Bool.Decides.{nat_tests}
-use Rattle.sw_data.specs.Sameness.{same_truth}
 use Rattle.sw_data.specs.declared.storage.Kept.{Kept}
 use Rattle.sw_data.specs.declared.storage.KeptRegistration.{KeptRegistration}
 use Rattle.sw_data.specs.declared.workers.Slot.TheVariants as slot
@@ -16,7 +14,7 @@ use Rattle.sw_rules.specs.State.{Registration, Worker}
 use Rattle.sw_rules.specs.Storage.{IsMade}
 use Rattle.sw_laws.specs.Coherent.{apart}
 use Rattle.sw_laws.proofs.Contents.{found_in, is_worked, same_first, slots_in}
-use Rattle.sw_laws.proofs.KeptRechecks.{Orderly}
+use Rattle.sw_laws.proofs.KeptRechecks.{Orderly, mapped_some}
 use Rattle.sw_laws.proofs.Lists.{all_weaker}
 use Rattle.sw_laws.proofs.Ordered.{has_place, is_below, is_fresh}
 use Rattle.sw_laws.proofs.Places.{found_any}
@@ -76,15 +74,12 @@ restored_worked (row ∷ rows) number from worked =
     (and_from _ _ (head_worked there.0 later from row (restored_of number from row there.0 there.1) (restored_active number from row there.0 there.1))
     (worked_more there.0 later (restored (from + 1) rows) (restored_worked rows (number + 1) (from + 1) parts.1)))
 
-active_of : (o : Option Worker) (w : Worker) → o ≡ Some w → is_some (option_map kept_worker o) ≡ true
-active_of None w is = absurd cc
-active_of (Some x) w is = refl
-
 active_worked : (workers : List Worker) (number : ℕ) → list_any (λ w. w.registration == number && in_slot slot.Active w.state) workers ≡ true → is_worked (slots_in workers number) ≡ true
 unfolding slots_in
 active_worked workers number is =
     let found = found_any (λ w. w.registration == number && in_slot slot.Active w.state) workers is in
-    grind (arith, active_of (found_in workers slot.Active number) found.0 found.1)
+    let active : is_some (option_map kept_worker (found_in workers slot.Active number)) ≡ true = mapped_some kept_worker (found_in workers slot.Active number) ∙ ap is_some found.1 in
+    grind (arith, active)
 
 place_of : (workers : List Worker) (row : Registration) → has_active workers row ≡ true → has_place workers row ≡ true
 place_of workers row is = grind (arith, is, active_worked workers row.number)

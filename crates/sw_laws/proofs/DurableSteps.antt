@@ -1,40 +1,36 @@
 -- What is kept by the steps that make a worker, end a handler, or end a job.
-use Rattle.std.proofs.Common.{◌≡◌, ◌∙◌, ℕ, Bool, true, false, not, ◌&&◌, ◌||◌, ◌==◌, List, [], ◌∷◌, ◌++◌, map, Option, Some, None, option_map, refl, sym, ap, subst, true≢false, arith, if◌then◌else◌}
+use Rattle.std.proofs.Common.{◌≡◌, ◌∙◌, ℕ, Bool, true, false, not, ◌&&◌, ◌||◌, ◌==◌, List, [], map, Option, Some, None, option_map, refl, sym, ap, subst, arith, if◌then◌else◌}
 use Rattle.std.specs.List.{list_all, list_any}
-use Rattle.std.specs.Prelude.{find, is_none, is_some}
+use Rattle.std.specs.Prelude.{find, is_none}
 use Rattle.std.specs.Option.{option_map_or}
-use Rattle.std.proofs.lemmas.Bool.{and_parts}
 use Rattle.std.proofs.lemmas.Bool.Decides.{nat_tests}
 use Rattle.sw_data.specs.declared.answers.Cause.TheVariants as cause
 use Rattle.sw_data.specs.declared.answers.Fault.{Fault}
 use Rattle.sw_data.specs.declared.answers.Settlement.{Settlement}
 use Rattle.sw_data.specs.declared.answers.Settlement.TheVariants as settlement
-use Rattle.sw_data.specs.declared.events.Who.{Who}
-use Rattle.sw_data.specs.declared.events.Who.TheVariants as who
 use Rattle.sw_data.specs.declared.recordings.Fetched.{Fetched}
-use Rattle.sw_data.specs.declared.rows.JobPhase.TheVariants as job_phase
 use Rattle.sw_data.specs.declared.rows.JobRow.{JobRow}
 use Rattle.sw_data.specs.declared.storage.Kept.{Kept}
 use Rattle.sw_data.specs.declared.workers.Slot.TheVariants as slot
 use Rattle.sw_data.specs.declared.workers.WorkerState.TheVariants as worker_state
 use Rattle.sw_rules.specs.Activating.{become_activated}
-use Rattle.sw_rules.specs.Installing.{advance, become_waiting, begin_install, discard, end_handler, ended_handler, fail_install, finish_install, first_counter, installing, job_worker, kept_worker, make_worker, placed, reject_and_drop, tell_update, throw}
-use Rattle.sw_rules.specs.Jobs.{finish, gets_value, promise, settle}
-use Rattle.sw_rules.specs.Registering.{fetch_script, may_run}
+use Rattle.sw_rules.specs.Installing.{become_waiting, begin_install, discard, end_handler, ended_handler, fail_install, finish_install, first_counter, installing, job_worker, kept_worker, make_worker, placed, reject_and_drop, tell_update, throw}
+use Rattle.sw_rules.specs.Jobs.{finish, gets_value, settle}
+use Rattle.sw_rules.specs.Registering.{fetch_script}
 use Rattle.sw_rules.specs.Registrations.{drop_registration, unmap}
-use Rattle.sw_rules.specs.Rows.{changed, in_phase, in_slot, is_activating, is_evaluating, is_fetching, is_install, is_installing, is_job, is_mapped_to, is_registration, is_worker, job_row, mapped_registration, newest_worker, registration_row, worker_row}
-use Rattle.sw_rules.specs.State.{State, Registration, Worker, Awaited, Handler}
+use Rattle.sw_rules.specs.Rows.{changed, in_slot, is_activating, is_evaluating, is_fetching, is_install, is_job, is_mapped_to, is_registration, is_worker, mapped_registration, newest_worker, registration_row, worker_row}
+use Rattle.sw_rules.specs.State.{State, Registration, Worker, Handler}
 use Rattle.sw_rules.specs.Storage.{kept_after}
 use Rattle.sw_rules.specs.Told.{Told, followed, quiet, type_error}
 use Rattle.sw_laws.specs.Coherent.{Coherent, SoundRegistrations, apart, is_being_installed, is_parsed, same_scope, share_slot}
-use Rattle.sw_laws.proofs.Contents.{contents, found_in, slots_in}
+use Rattle.sw_laws.proofs.Contents.{found_in, slots_in}
 use Rattle.sw_laws.proofs.HandlerSteps.{activating_rows, ended_from}
 use Rattle.sw_laws.proofs.InstallSteps.{installing_of, knows_parsed, made_of}
 use Rattle.sw_laws.proofs.JobMoves.{jobs_of_number}
 use Rattle.sw_laws.proofs.KeptInstall.{waiting_keeps}
-use Rattle.sw_laws.proofs.KeptRechecks.{KeepsOrder, KeepsRows, Orderly, followed_orderly, has_mapped, is_underway, rows_further}
+use Rattle.sw_laws.proofs.KeptRechecks.{KeepsOrder, KeepsRows, followed_orderly, has_mapped, is_underway, rows_further}
 use Rattle.sw_laws.proofs.KeptRows.{unmap_ordered, unmap_rows}
-use Rattle.sw_laws.proofs.KeptWorkers.{activated_keeps, ended_keeps, ended_slots, is_aside, rows_same, slots_aside}
+use Rattle.sw_laws.proofs.KeptWorkers.{activated_keeps, ended_keeps, is_aside, rows_same, slots_aside}
 use Rattle.sw_laws.proofs.Lists.{all_changed, all_true, all_weaker, any_weaker, apart_changed, by_test, find_any, find_passes, found_by}
 use Rattle.sw_laws.proofs.Moves.{all_of_number}
 use Rattle.sw_laws.proofs.Ordered.{Ordered}
@@ -42,7 +38,7 @@ use Rattle.sw_laws.proofs.Places.{all_at_found, found_any, found_numbered, place
 use Rattle.sw_laws.proofs.RegistrationSteps.{KeepsRegistration, plain_keeps}
 use Rattle.sw_laws.proofs.SlotMoves.{look_moved, slots_pushed}
 use Rattle.sw_laws.proofs.Split.{IsAt, IsInstalled}
-use Rattle.sw_laws.proofs.Underway.{AllMapped, all_of_them, ended_settled, is_free, mapped_ended, mapped_finished, mapped_jobs, mapped_plain, mapped_settled, others_free}
+use Rattle.sw_laws.proofs.Underway.{AllMapped, all_of_them, ended_settled, is_free, mapped_ended, mapped_finished, mapped_jobs, mapped_plain, mapped_settled, or_true, others_free}
 
 -- ---- steps that leave registrations and what is kept of their workers
 
@@ -281,9 +277,6 @@ begin_keeps state row registration worker at made sound =
     (λ n. begun_slots state job registration worker.number n knows)
     (λ is. mapped_settled state.registrations (gets_value job) (settlement.Registration registration) _ (goes_on state.registrations state.jobs job _ (λ x. refl) (jobs_of_number is_underway state.jobs job row sound.jobs.numbers at.found (grind (arith, at.phase))) is)) (λ kept. refl)
 
-or_last : (a b : Bool) → b ≡ true → (a || b) ≡ true
-or_last a b is = grind (arith, is)
-
 fetching_mapped : (rows : List Registration) (row : JobRow) (registration : Registration) → find (is_mapped_to row.job.key row.job.scope) rows ≡ Some registration → list_any (λ found. found.number == registration.number && found.mapped) rows ≡ true
 fetching_mapped rows row registration is = find_any (is_mapped_to row.job.key row.job.scope) _ rows registration is (grind (arith, nat_tests, find_passes (is_mapped_to row.job.key row.job.scope) rows registration is))
 
@@ -292,7 +285,7 @@ unfolding fetch_script
 fetch_keeps state row registration mapped =
     let there = fetching_mapped state.registrations row registration mapped in
     still_keeps state (fetch_script state row.job registration.number) refl (λ n. refl)
-    (λ is. all_changed (has_mapped state.registrations) (has_mapped state.registrations) _ (λ x here. by_test (λ (r : JobRow). has_mapped state.registrations r ≡ true) (is_job row.job.number x) _ x (λ own. or_last _ _ there) (λ other. here)) state.jobs is) (λ kept. refl)
+    (λ is. all_changed (has_mapped state.registrations) (has_mapped state.registrations) _ (λ x here. by_test (λ (r : JobRow). has_mapped state.registrations r ≡ true) (is_job row.job.number x) _ x (λ own. or_true _ _ there) (λ other. here)) state.jobs is) (λ kept. refl)
 
 -- ---- an activate handler ends
 
@@ -309,6 +302,7 @@ activated_then state worker handler next found ended sound rest orderly =
     let one = (end_handler state worker.number).state in
     let told = become_activated one worker.registration worker.number in
     let middle = activated_keeps state worker sound found activating orderly.order in
-    let last = rest (record { order = middle.0; jobs = activated_jobs state worker orderly.jobs }) in
-    (followed_orderly state (end_handler state worker.number) _ (followed_orderly one told next last.0),
-    rows_further state (end_handler state worker.number) _ (ended_keeps state worker.number orderly.order).1 (rows_further one told next middle.1 last.1))
+    let last = rest (record { order = middle.0; jobs = activated_jobs state worker orderly.jobs }) in (
+      followed_orderly state (end_handler state worker.number) _ (followed_orderly one told next last.0),
+      rows_further state (end_handler state worker.number) _ (ended_keeps state worker.number orderly.order).1 (rows_further one told next middle.1 last.1),
+    )

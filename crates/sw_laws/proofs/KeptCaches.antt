@@ -1,5 +1,5 @@
 -- The changes of each event make the caches of the state after it of those before it.
-use Rattle.std.proofs.Common.{◌≡◌, ◌∙◌, ℕ, Bool, true, false, not, List, [], ◌∷◌, ◌++◌, map, filter, Option, Some, None, Ok, IfSome, refl, sym, ap, subst, true≢false, take, suc, arith, if◌then◌else◌}
+use Rattle.std.proofs.Common.{◌≡◌, ◌∙◌, ℕ, Bool, true, false, not, List, [], ◌∷◌, ◌++◌, map, filter, Option, Some, None, Ok, refl, sym, ap, subst, true≢false, arith, if◌then◌else◌}
 use Rattle.std.specs.List.{list_any}
 use Rattle.std.specs.Prelude.{bytes_eq, is_none, is_some}
 use Rattle.std.specs.Option.{option_map_or}
@@ -11,7 +11,6 @@ use Rattle.sw_data.specs.declared.answers.Settlement.{Settlement}
 use Rattle.sw_data.specs.declared.events.Who.{Who}
 use Rattle.sw_data.specs.declared.events.Who.TheVariants as who
 use Rattle.sw_data.specs.declared.exchange.Op.{Op}
-use Rattle.sw_data.specs.declared.histories.Entry.{Entry}
 use Rattle.sw_data.specs.declared.rows.JobRow.{JobRow}
 use Rattle.sw_data.specs.declared.storage.Change.{Change}
 use Rattle.sw_data.specs.declared.storage.Change.TheVariants as change
@@ -23,20 +22,16 @@ use Rattle.sw_rules.specs.Batch.{batch}
 use Rattle.sw_rules.specs.Caching.{add_cache, add_task, carry_out, drop_cache, forget_key, pairs_of, settle_task, with_pairs}
 use Rattle.sw_rules.specs.Calls.{note_call}
 use Rattle.sw_rules.specs.Clients.{add_client, add_event, claim_client, claim_clients, claims, leave, remove_client, remove_event, take_control}
-use Rattle.sw_rules.specs.History.{Opens, after, after_entries, moved}
 use Rattle.sw_rules.specs.Installing.{begin_install, become_waiting, kept_worker, discard, end_handler, fail_install, finish_install, make_worker, reject_and_drop, tell_update, throw}
 use Rattle.sw_rules.specs.Jobs.{finish, promise, schedule, settle}
 use Rattle.sw_rules.specs.Matching.{Pair}
 use Rattle.sw_rules.specs.Preloading.{has_preload, set_preload}
 use Rattle.sw_rules.specs.Registering.{fetch_script}
 use Rattle.sw_rules.specs.Registrations.{activate, clear, drop_registration, has_mode, map_registration, set_mode, unload, unmap}
-use Rattle.sw_rules.specs.Restart.{restart}
 use Rattle.sw_rules.specs.Rows.{client_row, newest_worker, registration_row}
 use Rattle.sw_rules.specs.State.{State, Registration, Worker, Awaited}
-use Rattle.sw_rules.specs.Step.{changes_of, step}
 use Rattle.sw_rules.specs.Storage.{applied, is_cache, kept_after, with_batch}
-use Rattle.sw_rules.specs.Told.{Told, Outcome, followed, is_kept, kept_change, quiet, type_error}
-use Rattle.sw_laws.proofs.Events.{step-law}
+use Rattle.sw_rules.specs.Told.{Told, followed, is_kept, kept_change, quiet, type_error}
 use Rattle.sw_laws.proofs.Lists.{by_test}
 use Rattle.sw_laws.proofs.Split.{IsLaw, IsRecheckLaw, unload-law}
 

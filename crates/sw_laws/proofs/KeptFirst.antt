@@ -1,25 +1,23 @@
 -- What is kept where a registration gets its first waiting worker.
-use Rattle.std.proofs.Common.{◌≡◌, ◌∙◌, ℕ, zero, suc, ◌+◌, ◌<◌, ◌≤◌, Bool, true, false, not, ◌&&◌, ◌||◌, ◌==◌, List, [], ◌∷◌, ◌++◌, map, filter, Option, Some, None, option_map, length, refl, sym, ap, subst, true≢false, arith, if◌then◌else◌}
-use Rattle.std.specs.List.{cons_option, list_all, list_any, filter_map, range_with_len}
-use Rattle.std.specs.Prelude.{bytes_eq, codes, find, is_none, is_some, nat_lt}
+use Rattle.std.proofs.Common.{◌≡◌, ◌∙◌, ℕ, zero, suc, ◌+◌, ◌<◌, ◌≤◌, Bool, true, false, not, ◌&&◌, ◌||◌, ◌==◌, List, [], ◌∷◌, ◌++◌, map, filter, Option, Some, None, length, refl, sym, ap, arith, if◌then◌else◌}
+use Rattle.std.specs.List.{cons_option, list_all, filter_map, range_with_len}
+use Rattle.std.specs.Prelude.{bytes_eq, codes, find, is_none, is_some}
 use Rattle.std.specs.Option.{option_map_or, option_or}
-use Rattle.std.proofs.lemmas.Bool.{and_from, and_parts}
+use Rattle.std.proofs.lemmas.Bool.{and_parts}
 use Rattle.std.proofs.lemmas.Bool.Decides.{nat_tests}
 use Rattle.std.proofs.lemmas.List.{length-map}
-use Rattle.sw_data.specs.Sameness.{same_truth}
 use Rattle.sw_data.specs.declared.storage.KeptRegistration.{KeptRegistration}
 use Rattle.sw_data.specs.declared.storage.KeptWorker.{KeptWorker}
 use Rattle.sw_data.specs.declared.workers.Slot.TheVariants as slot
 use Rattle.sw_rules.specs.Installing.{first_counter, placed}
-use Rattle.sw_rules.specs.Rows.{changed, is_mapped_to, is_number, is_registration}
+use Rattle.sw_rules.specs.Rows.{changed, is_number, is_registration}
 use Rattle.sw_rules.specs.State.{Registration, Worker}
 use Rattle.sw_rules.specs.Storage.{first_waiting}
-use Rattle.sw_rules.specs.Storage as storage
 use Rattle.sw_laws.specs.Coherent.{SoundRegistrations, apart}
 use Rattle.sw_laws.proofs.Contents.{Slots, contents, found_in, is_worked, kept_in, kept_with, mapped_same, placed_at, same_first, slots_in, slots_of}
 use Rattle.sw_laws.proofs.KeptRows.{counted_few, never_placed}
-use Rattle.sw_laws.proofs.Lists.{all_both, all_changed, all_true, all_weaker, by_test, by_truth, bytes_eq_equal, false_of, find_passes}
-use Rattle.sw_laws.proofs.Ordered.{Ordered, has_place, is_below, is_fresh, mapped_alone}
+use Rattle.sw_laws.proofs.Lists.{all_both, all_true, all_weaker, by_truth, bytes_eq_equal, false_of, find_passes}
+use Rattle.sw_laws.proofs.Ordered.{Ordered, has_place, is_below, is_fresh}
 use Rattle.sw_laws.proofs.Places.{all_as_found, all_at_found, all_known, apart_both, apart_known, places_apart}
 use Rattle.sw_laws.proofs.SlotMoves.{slots_with}
 
@@ -90,7 +88,7 @@ counted_placed number count (x ∷ xs) row fine found none =
     let was : first_counter (x ∷ xs) ≡ first_counter xs = grind (arith, gone) in
     let now : first_counter (changed (is_registration number) (placed count) (x ∷ xs)) ≡ first_counter xs + 1 = grind (arith, here, gone, rest) in
     now ∙ ap (λ n. n + 1) (sym was))
-    (λ other. 
+    (λ other.
     let now : first_counter (changed (is_registration number) (placed count) (x ∷ xs)) ≡ first_counter (x ∷ changed (is_registration number) (placed count) xs) = grind (arith, other) in
     now ∙ more_by (is_some x.first) x (filter (λ r. is_some r.first) (changed (is_registration number) (placed count) xs)) (filter (λ r. is_some r.first) xs) (counted_placed number count xs row parts.1 (grind (arith, found, other)) none))
 

@@ -1,7 +1,7 @@
 -- What is kept where a key is forgotten.
 use Rattle.std.proofs.Common.{◌≡◌, ◌∙◌, ℕ, Bool, true, false, not, ◌&&◌, ◌||◌, ◌==◌, List, [], ◌∷◌, map, filter, Option, Some, None, refl, sym, ap, true≢false, arith, if◌then◌else◌}
 use Rattle.std.specs.List.{list_all, list_any, filter_map}
-use Rattle.std.specs.Prelude.{bytes_eq, is_some, option_and_then}
+use Rattle.std.specs.Prelude.{bytes_eq, option_and_then}
 use Rattle.std.proofs.lemmas.Bool.Decides.{nat_tests}
 use Rattle.sw_data.specs.Sameness.{same_truth}
 use Rattle.sw_data.specs.declared.storage.KeptRegistration.{KeptRegistration}
@@ -14,7 +14,7 @@ use Rattle.sw_laws.proofs.ForgetSteps.{any_of_filter}
 use Rattle.sw_laws.proofs.KeptRechecks.{KeepsRows, unkept}
 use Rattle.sw_laws.proofs.Lists.{all_members, all_true, all_weaker, any_weaker, by_test, by_truth, not_true}
 use Rattle.sw_laws.proofs.Moves.{from_any}
-use Rattle.sw_laws.proofs.Ordered.{KeepsPlaces, Ordered, is_fresh, ordered_moved, then_some}
+use Rattle.sw_laws.proofs.Ordered.{Ordered, is_fresh, ordered_moved}
 use Rattle.sw_laws.proofs.Places.{both_numbered, places_apart}
 use Rattle.sw_laws.proofs.SlotMoves.{LooksSame, looks_same, slots_same}
 

@@ -1,13 +1,10 @@
 -- What is kept where an installing worker becomes the waiting one.
-use Rattle.std.proofs.Common.{◌≡◌, ◌∙◌, ℕ, zero, suc, ◌+◌, ◌<◌, ◌≤◌, Bool, true, false, not, ◌&&◌, ◌||◌, ◌==◌, List, [], ◌∷◌, ◌++◌, map, Option, Some, None, option_map, length, refl, sym, ap, subst, true≢false, arith, if◌then◌else◌}
+use Rattle.std.proofs.Common.{◌≡◌, ◌∙◌, ℕ, zero, suc, ◌+◌, ◌<◌, ◌≤◌, Bool, true, false, not, ◌&&◌, ◌||◌, ◌==◌, List, [], ◌∷◌, ◌++◌, Option, Some, None, option_map, length, refl, sym, ap, subst, true≢false, arith, if◌then◌else◌}
 use Rattle.std.specs.List.{cons_option, list_all, list_any, filter_map, range_with_len}
-use Rattle.std.specs.Prelude.{bytes_eq, find, is_some, nat_lt, option_and_then}
+use Rattle.std.specs.Prelude.{bytes_eq, find, is_some, option_and_then}
 use Rattle.std.specs.Option.{option_map_or, option_or}
-use Rattle.std.proofs.lemmas.Bool.{and_from, and_parts}
+use Rattle.std.proofs.lemmas.Bool.{and_parts}
 use Rattle.std.proofs.lemmas.Bool.Decides.{nat_tests}
-use Rattle.sw_data.specs.Sameness.{same_truth}
-use Rattle.sw_data.specs.declared.storage.Change.{Change}
-use Rattle.sw_data.specs.declared.storage.Change.TheVariants as change
 use Rattle.sw_data.specs.declared.storage.Kept.{Kept}
 use Rattle.sw_data.specs.declared.storage.KeptRegistration.{KeptRegistration}
 use Rattle.sw_data.specs.declared.storage.KeptWorker.{KeptWorker}
@@ -21,14 +18,13 @@ use Rattle.sw_rules.specs.Rows.{changed, is_mapped_to, is_number, is_registratio
 use Rattle.sw_rules.specs.State.{State, Registration, Worker}
 use Rattle.sw_rules.specs.Storage.{applied, first_waiting, kept_after, with_registration, with_waiting}
 use Rattle.sw_rules.specs.Storage as storage
-use Rattle.sw_rules.specs.Told.{Told}
 use Rattle.sw_laws.specs.Coherent.{SoundRegistrations, apart}
 use Rattle.sw_laws.proofs.Contents.{Slots, contents, found_in, is_worked, kept_in, kept_row, kept_with, placed_at, same_first, slots_in}
-use Rattle.sw_laws.proofs.KeptFirst.{first_contents, first_ordered, idle_slots}
+use Rattle.sw_laws.proofs.KeptFirst.{first_contents, first_ordered}
 use Rattle.sw_laws.proofs.KeptRechecks.{KeepsRows, number_is}
 use Rattle.sw_laws.proofs.KeptRows.{counted_few, same_mode_equal}
-use Rattle.sw_laws.proofs.Lists.{all_both, all_weaker, by_option, by_test, by_truth, bytes_eq_same, find_passes, found_clear}
-use Rattle.sw_laws.proofs.Ordered.{ChangesOne, KeepsPlaces, Ordered, has_place, is_below, is_fresh, mapped_alone, moves_kept, only, ordered_moved, with_only}
+use Rattle.sw_laws.proofs.Lists.{all_both, all_weaker, by_test, by_truth, bytes_eq_same, find_passes, found_clear}
+use Rattle.sw_laws.proofs.Ordered.{ChangesOne, Ordered, has_place, is_below, is_fresh, mapped_alone, moves_kept, only, ordered_moved, with_only}
 use Rattle.sw_laws.proofs.Places.{all_as_found, all_at_found, places_apart}
 use Rattle.sw_laws.proofs.SlotMoves.{slots_apart, slots_installed, slots_with}
 

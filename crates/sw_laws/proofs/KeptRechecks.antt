@@ -1,5 +1,5 @@
 -- What is kept where a registration is rechecked and where clients leave it.
-use Rattle.std.proofs.Common.{◌≡◌, ◌∙◌, ℕ, Bool, true, false, not, ◌&&◌, ◌||◌, ◌==◌, List, [], ◌∷◌, ◌++◌, map, Option, Some, None, option_map, refl, sym, ap, subst, arith, if◌then◌else◌}
+use Rattle.std.proofs.Common.{◌≡◌, ◌∙◌, ℕ, Bool, true, false, not, ◌&&◌, ◌||◌, ◌==◌, List, [], ◌∷◌, Option, Some, None, option_map, refl, sym, ap, subst, arith}
 use Rattle.std.specs.List.{list_all, list_any}
 use Rattle.std.specs.Prelude.{is_some, option_and_then}
 use Rattle.std.specs.Option.{option_map_or}
@@ -8,19 +8,18 @@ use Rattle.std.proofs.lemmas.List.Sums.{fold-append}
 use Rattle.sw_data.specs.declared.rows.JobRow.{JobRow}
 use Rattle.sw_data.specs.declared.storage.Change.TheVariants as change
 use Rattle.sw_data.specs.declared.storage.Kept.{Kept}
-use Rattle.sw_data.specs.declared.storage.KeptRegistration.{KeptRegistration}
 use Rattle.sw_data.specs.declared.storage.KeptWorker.{KeptWorker}
 use Rattle.sw_data.specs.declared.workers.Slot.TheVariants as slot
 use Rattle.sw_rules.specs.Clients.{claim_client, claim_clients, claims, leave, remove_client, take_control}
 use Rattle.sw_rules.specs.Installing.{kept_worker}
-use Rattle.sw_rules.specs.Registrations.{activate, chosen, clear, clear_state, left_by, may_replace, promote, shift, unload}
+use Rattle.sw_rules.specs.Registrations.{activate, chosen, clear, clear_state, left_by, promote, shift, unload}
 use Rattle.sw_rules.specs.Rows.{changed, client_row, is_mapped, is_registration, is_unfinished, is_waiting, slot_worker}
 use Rattle.sw_rules.specs.State.{State, Registration, Worker}
 use Rattle.sw_rules.specs.Storage.{applied, kept_after, promoted}
 use Rattle.sw_rules.specs.Told.{Told, followed, quiet}
 use Rattle.sw_laws.proofs.Contents.{Slots, contents, found_in, is_worked, kept_in, kept_with, slots_in}
 use Rattle.sw_laws.proofs.Lists.{all_not, all_true, by_test}
-use Rattle.sw_laws.proofs.Ordered.{ChangesOne, Ordered, contents_still, only, ordered_still, recorded, with_only}
+use Rattle.sw_laws.proofs.Ordered.{ChangesOne, Ordered, contents_still, ordered_still, recorded, with_only}
 use Rattle.sw_laws.proofs.SlotMoves.{promote_registration, slots_apart, slots_promoted, slots_with}
 use Rattle.sw_laws.proofs.Split.{IsRecheckLaw, unload-law}
 
@@ -63,9 +62,9 @@ further state told next one other orderly =
 
 -- ---- Activate
 
-pub changed_none : {X : Type 0} (test : X → Bool) (xs : List X) → changed test (λ x. x) xs ≡ xs
-changed_none test [] = refl
-changed_none test (x ∷ xs) = by_test (λ y. y ∷ changed test (λ z. z) xs ≡ x ∷ xs) (test x) x x (λ is. ap (λ rest. x ∷ rest) (changed_none test xs)) (λ other. ap (λ rest. x ∷ rest) (changed_none test xs))
+pub unchanged : {X : Type 0} (test : X → Bool) (xs : List X) → changed test (λ x. x) xs ≡ xs
+unchanged test [] = refl
+unchanged test (x ∷ xs) = by_test (λ y. y ∷ changed test (λ z. z) xs ≡ x ∷ xs) (test x) x x (λ is. ap (λ rest. x ∷ rest) (unchanged test xs)) (λ other. ap (λ rest. x ∷ rest) (unchanged test xs))
 
 waiting_of : {A : Type 0} (o : Option Worker) (f : Worker → Option A) (a : A) → option_and_then f o ≡ Some a → is_some o ≡ true
 waiting_of None f a is = absurd cc
@@ -78,7 +77,7 @@ promoted_plain x (Some w) active activated is = grind arith
 promoted_worked : (waiting active : Option KeptWorker) (activated : Bool) → is_some waiting ≡ true → is_worked (slots_with None waiting false) ≡ is_worked (slots_with waiting active activated)
 promoted_worked waiting active activated is = grind (arith, is)
 
-mapped_some : {X Y : Type 0} (f : X → Y) (o : Option X) → is_some (option_map f o) ≡ is_some o
+pub mapped_some : {X Y : Type 0} (f : X → Y) (o : Option X) → is_some (option_map f o) ≡ is_some o
 mapped_some f None = refl
 mapped_some f (Some x) = refl
 
@@ -120,11 +119,12 @@ module _ (state : State) (registration worker : ℕ) (is : chosen state registra
 
   pub activate_keeps : KeepsOrder state (activate state registration worker)
   unfolding activate
-  activate_keeps orderly =
-      (record { order = ordered_still state.workers now (λ x. true) (λ x know mapped. still_worked x.number) state.registrations (all_true state.registrations) orderly.order; jobs = orderly.jobs },
-      λ kept same.
-      recorded state now registration (λ x. x) (λ k. Some (promoted k)) (λ x. true) promotes (λ x. refl) (all_true state.registrations) orderly.order (λ row. change.Active row.key row.scope) (λ row k. with_only row.key row.scope promoted k.registrations) kept same
-      ∙ ap (contents now) (changed_none (is_registration registration) state.registrations))
+  activate_keeps orderly = (
+    record { order = ordered_still state.workers now (λ x. true) (λ x know mapped. still_worked x.number) state.registrations (all_true state.registrations) orderly.order; jobs = orderly.jobs },
+    λ kept same.
+        recorded state now registration (λ x. x) (λ k. Some (promoted k)) (λ x. true) promotes (λ x. refl) (all_true state.registrations) orderly.order (λ row. change.Active row.key row.scope) (λ row k. with_only row.key row.scope promoted k.registrations) kept same
+        ∙ ap (contents now) (unchanged (is_registration registration) state.registrations),
+  )
 
 -- ---- Clear
 
@@ -151,9 +151,10 @@ module _ (state : State) (registration : ℕ) (gone : is_mapped state registrati
   pub clear_keeps : KeepsOrder state (clear state registration)
   unfolding clear
   clear_keeps orderly =
-      let knows = all_not (λ (x : Registration). x.number == registration && x.mapped) state.registrations gone in
-      (record { order = ordered_still state.workers cleared _ cleared_worked state.registrations knows orderly.order; jobs = orderly.jobs },
-      λ kept same. same ∙ sym (contents_still state.workers cleared _ cleared_kept state.registrations knows orderly.order.firsts))
+      let knows = all_not (λ (x : Registration). x.number == registration && x.mapped) state.registrations gone in (
+        record { order = ordered_still state.workers cleared _ cleared_worked state.registrations knows orderly.order; jobs = orderly.jobs },
+        λ kept same. same ∙ sym (contents_still state.workers cleared _ cleared_kept state.registrations knows orderly.order.firsts),
+      )
 
 -- ---- leaving and claiming
 

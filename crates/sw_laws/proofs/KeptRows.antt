@@ -1,7 +1,7 @@
 -- What is kept where registrations are mapped, leave the map, and get a mode or a preload.
-use Rattle.std.proofs.Common.{◌≡◌, ◌∙◌, ℕ, zero, suc, ◌+◌, ◌≤◌, leb, Bool, true, false, not, ◌&&◌, ◌||◌, ◌==◌, List, [], ◌∷◌, ◌++◌, map, filter, Option, Some, None, option_map, length, refl, sym, ap, subst, true≢false, arith, if◌then◌else◌}
-use Rattle.std.specs.List.{list_all, list_any, filter_map, range_with_len}
-use Rattle.std.specs.Prelude.{bytes_eq, codes, find, is_some, nat_lt, option_and_then}
+use Rattle.std.proofs.Common.{◌≡◌, ◌∙◌, ℕ, suc, ◌+◌, ◌≤◌, Bool, true, false, not, ◌&&◌, ◌||◌, ◌==◌, List, [], ◌∷◌, ◌++◌, filter, Option, Some, None, option_map, length, refl, sym, ap, subst, true≢false, arith, if◌then◌else◌}
+use Rattle.std.specs.List.{list_all, filter_map, range_with_len}
+use Rattle.std.specs.Prelude.{codes, find, is_some, nat_lt, option_and_then}
 use Rattle.std.specs.Option.{option_map_or}
 use Rattle.std.proofs.lemmas.Bool.Decides.{nat_tests}
 use Rattle.std.proofs.lemmas.List.{append-nil}
@@ -19,16 +19,16 @@ use Rattle.sw_rules.specs.Activating.{paid}
 use Rattle.sw_rules.specs.Installing.{first_counter}
 use Rattle.sw_rules.specs.Jobs.{same_mode}
 use Rattle.sw_rules.specs.Preloading.{has_preload, set_preload}
-use Rattle.sw_rules.specs.Registrations.{has_mode, map_registration, new_registration, set_mode, unmap}
+use Rattle.sw_rules.specs.Registrations.{map_registration, new_registration, set_mode, unmap}
 use Rattle.sw_rules.specs.Rows.{active_worker, changed, in_slot, is_number, is_registration, registration_row}
 use Rattle.sw_rules.specs.State.{State, Registration, Worker}
 use Rattle.sw_rules.specs.Storage.{applied, kept_after}
-use Rattle.sw_rules.specs.Told.{Told, kept_change}
+use Rattle.sw_rules.specs.Told.{kept_change}
 use Rattle.sw_laws.specs.Coherent.{SoundRegistrations, apart}
 use Rattle.sw_laws.proofs.Contents.{Slots, contents, contents_moved, found_in, is_worked, kept_in, kept_with, mapped_same, none_placed, placed_at, same_first, slots_in}
 use Rattle.sw_laws.proofs.KeptRechecks.{KeepsRows, number_is}
 use Rattle.sw_laws.proofs.Lists.{all_true, all_weaker, by_test, bytes_eq_equal, bytes_eq_same, length_pushed}
-use Rattle.sw_laws.proofs.Ordered.{ChangesOne, KeepsPlaces, Ordered, all_stay, has_place, is_below, is_fresh, only, ordered_moved, recorded, then_some, with_only, without_only}
+use Rattle.sw_laws.proofs.Ordered.{ChangesOne, Ordered, all_stay, has_place, is_below, is_fresh, only, ordered_moved, recorded, then_some, with_only, without_only}
 use Rattle.sw_laws.proofs.Places.{all_as_found, all_not_found, all_pushed, apart_pushed, places_apart, range_pushed}
 use Rattle.sw_laws.proofs.SlotMoves.{slots_with}
 
@@ -211,15 +211,16 @@ unfolding map_registration
 mapped_keeps state job owners sound order =
     let rows = state.registrations in
     let new = new_registration (length rows) job in
-    let none = no_slots state.workers (length rows) owners in
-    (record {
-      sound = sound;
-      firsts = apart_pushed same_first rows new order.firsts (all_weaker (λ row. true) _ (λ row is. never_shared row.first) rows (all_true rows));
-      below = rw (counted_pushed rows new refl) (all_pushed (λ row. is_below (first_counter rows) row.first) rows new order.below refl);
-      placed = all_pushed (has_place state.workers) rows new order.placed (ap (λ (slots : Slots). same_truth false (is_worked slots)) none);
-      fresh = all_pushed is_fresh rows new order.fresh (bytes_eq_same (codes "true"));
-    },
-    λ kept same. same ∙ sym (contents_pushed state.workers rows new (ap (kept_with new) none ∙ unworked new) order.below))
+    let none = no_slots state.workers (length rows) owners in (
+      record {
+        sound = sound;
+        firsts = apart_pushed same_first rows new order.firsts (all_weaker (λ row. true) _ (λ row is. never_shared row.first) rows (all_true rows));
+        below = rw (counted_pushed rows new refl) (all_pushed (λ row. is_below (first_counter rows) row.first) rows new order.below refl);
+        placed = all_pushed (has_place state.workers) rows new order.placed (ap (λ (slots : Slots). same_truth false (is_worked slots)) none);
+        fresh = all_pushed is_fresh rows new order.fresh (bytes_eq_same (codes "true"));
+      },
+      λ kept same. same ∙ sym (contents_pushed state.workers rows new (ap (kept_with new) none ∙ unworked new) order.below),
+    )
 
 -- ---- an owed Try Activate
 

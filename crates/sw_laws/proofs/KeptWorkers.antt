@@ -1,7 +1,7 @@
 -- What is kept where workers are made, discarded, begin to install and become activated.
-use Rattle.std.proofs.Common.{◌≡◌, ◌∙◌, ℕ, Bool, true, false, not, ◌&&◌, ◌||◌, ◌==◌, List, [], ◌∷◌, ◌++◌, map, Option, Some, None, option_map, refl, sym, ap, subst, true≢false, arith, if◌then◌else◌}
+use Rattle.std.proofs.Common.{◌≡◌, ◌∙◌, ℕ, Bool, true, false, not, ◌&&◌, ◌||◌, ◌==◌, List, [], ◌∷◌, map, Option, Some, None, option_map, refl, sym, ap, subst, true≢false, arith, if◌then◌else◌}
 use Rattle.std.specs.List.{list_all}
-use Rattle.std.specs.Prelude.{find, is_some, option_and_then}
+use Rattle.std.specs.Prelude.{is_some, option_and_then}
 use Rattle.std.specs.Option.{option_map_or}
 use Rattle.std.proofs.lemmas.Bool.Decides.{nat_tests}
 use Rattle.sw_data.specs.declared.storage.Change.{Change}
@@ -15,15 +15,15 @@ use Rattle.sw_data.specs.declared.workers.WorkerState.{WorkerState}
 use Rattle.sw_data.specs.declared.workers.WorkerState.TheVariants as worker_state
 use Rattle.sw_rules.specs.Activating.{become_activated}
 use Rattle.sw_rules.specs.Installing.{advance, end_handler, kept_worker}
-use Rattle.sw_rules.specs.Rows.{changed, in_slot, is_activated, is_activating, is_active, is_registration, is_worker, registration_row, worker_row}
+use Rattle.sw_rules.specs.Rows.{changed, in_slot, is_activated, is_activating, is_registration, is_worker, registration_row, worker_row}
 use Rattle.sw_rules.specs.State.{State, Registration, Worker}
-use Rattle.sw_rules.specs.Storage.{applied, kept_after, marked_activated}
-use Rattle.sw_rules.specs.Told.{Told, is_kept, kept_change}
+use Rattle.sw_rules.specs.Storage.{kept_after, marked_activated}
+use Rattle.sw_rules.specs.Told.{is_kept, kept_change}
 use Rattle.sw_laws.specs.Coherent.{Coherent, share_slot}
-use Rattle.sw_laws.proofs.Contents.{Slots, contents, found_in, is_worked, kept_in, kept_with, slots_in}
+use Rattle.sw_laws.proofs.Contents.{contents, found_in, is_worked, kept_with, slots_in}
 use Rattle.sw_laws.proofs.HandlerSteps.{ended_in, ended_in_keeps, ends_in}
-use Rattle.sw_laws.proofs.KeptRechecks.{KeepsRows, changed_none, number_is}
-use Rattle.sw_laws.proofs.Lists.{all_both, all_true, by_test, find_passes, found_by}
+use Rattle.sw_laws.proofs.KeptRechecks.{KeepsRows, mapped_some, number_is, unchanged}
+use Rattle.sw_laws.proofs.Lists.{all_both, all_true, by_test, found_by}
 use Rattle.sw_laws.proofs.Moves.{all_of_number}
 use Rattle.sw_laws.proofs.Ordered.{ChangesOne, Ordered, contents_same, is_kept_in, ordered_same, ordered_still, recorded, with_only}
 use Rattle.sw_laws.proofs.Places.{all_as_found}
@@ -105,13 +105,9 @@ module _ (workers : List Worker) (number registration : ℕ)
       ∙ (ap (λ (o : Option Bool). option_map_or (λ b. b) o false) (look_moved is_activated (λ x. true) _ _ known f (in_place slot.Active) (λ x know passes. grind (arith, know, passes)) workers all_known)
       ∙ found_true (found_in workers slot.Active registration) found))
 
-mapped_some : (o : Option Worker) → is_some o ≡ true → is_some (option_map kept_worker o) ≡ true
-mapped_some None is = absurd cc
-mapped_some (Some w) is = refl
-
 active_some : (workers : List Worker) (registration : ℕ) → is_some (found_in workers slot.Active registration) ≡ true → is_some (slots_in workers registration).active ≡ true
 unfolding slots_in
-active_some workers registration is = mapped_some (found_in workers slot.Active registration) is
+active_some workers registration is = mapped_some kept_worker (found_in workers slot.Active registration) ∙ is
 
 actives_clash : (x y : Worker) (n : ℕ) → (x.registration == n && in_slot slot.Active x.state) ≡ true → (y.registration == n && in_slot slot.Active y.state) ≡ true → share_slot x y ≡ true
 actives_clash x y n one other = grind (arith, nat_tests, one, other)
@@ -172,7 +168,7 @@ module _ (state : State) (worker : Worker) (sound : Coherent state) (found : wor
   activated_change : (kept : Kept) → kept.registrations ≡ contents state.workers state.registrations → (kept_after kept (kept_change state of (λ row. change.Activated row.key row.scope))).registrations ≡ contents after state.registrations
   activated_change kept same =
       recorded state after of (λ x. x) (λ k. Some (marked_activated k)) (λ x. true) activates (λ x. refl) (all_true state.registrations) order (λ row. change.Activated row.key row.scope) (λ row k. with_only row.key row.scope marked_activated k.registrations) kept same
-      ∙ ap (contents after) (changed_none (is_registration of) state.registrations)
+      ∙ ap (contents after) (unchanged (is_registration of) state.registrations)
 
 -- ---- the end of a handler
 

@@ -1,5 +1,5 @@
 -- In which order registrations got a waiting worker, and what a change of one registration makes of what is kept.
-use Rattle.std.proofs.Common.{◌≡◌, ◌∙◌, ℕ, Bool, true, false, not, ◌&&◌, ◌||◌, ◌==◌, List, [], ◌∷◌, map, filter, Option, Some, None, length, refl, sym, ap, subst, true≢false, arith, if◌then◌else◌}
+use Rattle.std.proofs.Common.{◌≡◌, ◌∙◌, ℕ, Bool, true, false, not, ◌&&◌, ◌||◌, ◌==◌, List, [], ◌∷◌, map, filter, Option, Some, None, refl, sym, ap, subst, true≢false, arith, if◌then◌else◌}
 use Rattle.std.specs.List.{list_all, filter_map}
 use Rattle.std.specs.Prelude.{bytes_eq, codes, find, is_some, nat_lt, option_and_then}
 use Rattle.std.specs.Option.{option_map_or}
@@ -10,14 +10,14 @@ use Rattle.sw_data.specs.declared.storage.Kept.{Kept}
 use Rattle.sw_data.specs.declared.storage.KeptRegistration.{KeptRegistration}
 use Rattle.sw_data.specs.declared.workers.Slot.TheVariants as slot
 use Rattle.sw_rules.specs.Installing.{first_counter}
-use Rattle.sw_rules.specs.Rows.{changed, is_mapped_to, is_number, is_registration, registration_row, slot_worker}
+use Rattle.sw_rules.specs.Rows.{changed, is_mapped_to, is_registration, registration_row, slot_worker}
 use Rattle.sw_rules.specs.State.{State, Registration, Worker}
 use Rattle.sw_rules.specs.Storage.{applied, kept_after, with_registration}
 use Rattle.sw_rules.specs.Storage as storage
 use Rattle.sw_rules.specs.Told.{is_kept, kept_change}
-use Rattle.sw_laws.specs.Coherent.{SoundRegistrations, ArePlaces, apart, same_scope}
-use Rattle.sw_laws.proofs.Contents.{contents, contents_moved, is_worked, kept_in, kept_row, kept_with, same_first, slots_in, slots_of, Slots}
-use Rattle.sw_laws.proofs.Lists.{all_both, all_changed, all_true, all_weaker, apart_changed, by_test, bytes_eq_equal, bytes_eq_same, false_of, find_passes, found_by, map_same, none_found}
+use Rattle.sw_laws.specs.Coherent.{SoundRegistrations, apart, same_scope}
+use Rattle.sw_laws.proofs.Contents.{contents, contents_moved, is_worked, kept_in, kept_with, same_first, slots_in, slots_of, Slots}
+use Rattle.sw_laws.proofs.Lists.{all_both, all_changed, all_true, apart_changed, by_test, bytes_eq_equal, bytes_eq_same, false_of, find_passes, found_by, map_same, none_found}
 use Rattle.sw_laws.proofs.Places.{all_as_found, all_known, places_apart}
 
 -- ---- the order

@@ -1,7 +1,7 @@
 -- What a change of workers makes of what is kept of the workers of a registration.
-use Rattle.std.proofs.Common.{◌≡◌, ◌∙◌, ℕ, Bool, true, false, not, ◌&&◌, ◌||◌, ◌==◌, List, [], ◌∷◌, ◌++◌, map, Option, Some, None, option_map, refl, sym, ap, true≢false, arith, if◌then◌else◌}
+use Rattle.std.proofs.Common.{◌≡◌, ◌∙◌, ℕ, Bool, true, false, ◌&&◌, ◌==◌, List, [], ◌∷◌, ◌++◌, map, Option, Some, None, option_map, refl, sym, ap, true≢false, arith, if◌then◌else◌}
 use Rattle.std.specs.List.{list_all}
-use Rattle.std.specs.Prelude.{find, is_some}
+use Rattle.std.specs.Prelude.{find}
 use Rattle.std.specs.Option.{option_map_or, option_or}
 use Rattle.std.proofs.lemmas.Bool.{and_parts}
 use Rattle.std.proofs.lemmas.Bool.Decides.{nat_tests}
@@ -10,13 +10,11 @@ use Rattle.sw_data.specs.declared.storage.KeptWorker.{KeptWorker}
 use Rattle.sw_data.specs.declared.workers.Slot.{Slot}
 use Rattle.sw_data.specs.declared.workers.Slot.TheVariants as slot
 use Rattle.sw_data.specs.declared.workers.WorkerState.{WorkerState}
-use Rattle.sw_data.specs.declared.workers.WorkerState.TheVariants as worker_state
 use Rattle.sw_rules.specs.Installing.{install_state, kept_worker}
 use Rattle.sw_rules.specs.Registrations.{promote, shift}
-use Rattle.sw_rules.specs.Rows.{changed, in_slot, is_activated, is_worker}
+use Rattle.sw_rules.specs.Rows.{changed, in_slot, is_activated}
 use Rattle.sw_rules.specs.State.{Worker}
-use Rattle.sw_laws.specs.Coherent.{is_being_installed}
-use Rattle.sw_laws.proofs.Contents.{Slots, found_in, slots_in, slots_of}
+use Rattle.sw_laws.proofs.Contents.{Slots, found_in, slots_in}
 use Rattle.sw_laws.proofs.Lists.{all_true, by_test}
 
 -- ---- what is found
@@ -131,9 +129,6 @@ promote_kept state x = grind arith
 promote_activated : (state : WorkerState) (x : Worker) → is_activated (promote (record x { state = state })) ≡ false
 promote_activated state x = grind arith
 
-left_part : (a b : Bool) → (a && b) ≡ true → a ≡ true
-left_part a b is = grind (arith, is)
-
 false_seen : {X : Type 0} (o : Option X) → option_map_or (λ b. b) (option_map (λ x. false) o) false ≡ false
 false_seen None = refl
 false_seen (Some x) = refl
@@ -149,7 +144,7 @@ found_moved : {A : Type 0} (g h : Worker → A) (place : Slot) (test : Worker �
 found_moved g h place test known number f keeps passes same workers knows =
     look_moved g h _ (λ x. x.registration == number && test x) known (λ x. if x.registration == number then f x else x)
     (λ x know. by_test (λ (w : Worker). (w.registration == number && in_slot place w.state) ≡ (x.registration == number && test x)) (x.registration == number) _ x (λ here. grind (arith, here, keeps x, passes x know)) (λ other. grind (arith, other)))
-    (λ x know here. by_test (λ (w : Worker). g w ≡ h x) (x.registration == number) _ x (λ is. same x know (grind (arith, here)) is) (λ other. absurd (true≢false (sym (left_part (x.registration == number) (test x) here) ∙ other))))
+    (λ x know here. by_test (λ (w : Worker). g w ≡ h x) (x.registration == number) _ x (λ is. same x know (grind (arith, here)) is) (λ other. absurd (true≢false (sym (and_parts (x.registration == number) (test x) here).0 ∙ other))))
     workers knows
 
 pub slots_promoted : (workers : List Worker) (number : ℕ) → slots_in (changed (λ x. x.registration == number) promote workers) number ≡ slots_with None (slots_in workers number).waiting false

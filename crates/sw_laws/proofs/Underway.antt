@@ -1,5 +1,5 @@
 -- The registration of a job that is underway is mapped.
-use Rattle.std.proofs.Common.{◌≡◌, ◌∙◌, ℕ, ◌+◌, Bool, true, false, not, ◌&&◌, ◌||◌, ◌==◌, List, [], ◌∷◌, ◌++◌, map, filter, Option, Some, None, length, refl, sym, ap, subst, true≢false, arith, if◌then◌else◌}
+use Rattle.std.proofs.Common.{◌≡◌, ◌∙◌, ℕ, Bool, true, false, not, ◌&&◌, ◌||◌, ◌==◌, List, [], ◌∷◌, ◌++◌, map, Option, Some, None, refl, sym, ap, subst, true≢false, arith, if◌then◌else◌}
 use Rattle.std.specs.List.{list_all, list_any}
 use Rattle.std.specs.Prelude.{bytes_eq, find, is_none, is_some}
 use Rattle.std.specs.Option.{option_map_or}
@@ -11,9 +11,9 @@ use Rattle.sw_data.specs.declared.rows.Job.{Job}
 use Rattle.sw_data.specs.declared.rows.JobRow.{JobRow}
 use Rattle.sw_data.specs.declared.rows.JobPhase.TheVariants as job_phase
 use Rattle.sw_rules.specs.Caching.{is_busy, is_mapped_of, is_worker_of_key}
-use Rattle.sw_rules.specs.Jobs.{finish, gets_value, new_job_row, settle}
+use Rattle.sw_rules.specs.Jobs.{new_job_row}
 use Rattle.sw_rules.specs.Registering.{may_run}
-use Rattle.sw_rules.specs.Rows.{changed, first_job, in_phase, is_first, is_job, is_mapped_to, is_number, is_registration, is_unfinished, is_waiting, job_row, mapped_registration}
+use Rattle.sw_rules.specs.Rows.{changed, first_job, is_job, is_mapped_to, is_number, is_registration, is_unfinished, is_waiting, job_row, mapped_registration}
 use Rattle.sw_rules.specs.State.{State, Registration}
 use Rattle.sw_laws.specs.Coherent.{Coherent, apart, has_own_registration, is_early}
 use Rattle.sw_laws.proofs.FetchSteps.{bytes_joined, first_is, in_queue}
@@ -62,13 +62,10 @@ free_by : (registration : Option ℕ) (number : ℕ) (rows : List Registration) 
 free_by None number rows free is = refl
 free_by (Some n) number rows free is = unmapped_by rows number n free is
 
-and_or : (underway other : Bool) → other ≡ true → (not underway || other) ≡ true
-and_or underway other is = grind (arith, is)
-
 unmapped_job : (rows : List Registration) (number : ℕ) (job : JobRow) → is_free number job ≡ true → has_mapped rows job ≡ true → has_mapped (changed (is_registration number) (λ row. record row { mapped = false }) rows) job ≡ true
 unmapped_job rows number job free is =
     by_truth (is_underway job)
-    (λ here. and_or (is_underway job) _ (free_by job.registration number rows (grind (arith, free, here)) (grind (arith, is, here))))
+    (λ here. or_from (is_underway job) _ (λ own. free_by job.registration number rows (grind (arith, free, here)) (grind (arith, is, here))))
     (λ other. grind (arith, other))
 
 pub mapped_left : (rows : List Registration) (number : ℕ) (jobs : List JobRow) → list_all (is_free number) jobs ≡ true → AllMapped rows jobs → AllMapped (changed (is_registration number) (λ row. record row { mapped = false }) rows) jobs
@@ -153,7 +150,7 @@ underway_clash y row here underway = grind (arith, here, underway, bytes_eq_symm
 queue_clash : (key scope : List ℕ) (x y : JobRow) → (is_underway x && bytes_eq x.job.key key && bytes_eq x.job.scope scope) ≡ true → (is_underway y && bytes_eq y.job.key key && bytes_eq y.job.scope scope) ≡ true → is_early x y ≡ true
 queue_clash key scope x y one other = grind (arith, one, other, same_text y.job.key x.job.key key, same_text y.job.scope x.job.scope scope)
 
-or_true : (a b : Bool) → b ≡ true → (a || b) ≡ true
+pub or_true : (a b : Bool) → b ≡ true → (a || b) ≡ true
 or_true a b is = grind (arith, is)
 
 -- the registration of a job that is underway is no other such job's
@@ -206,7 +203,7 @@ forgotten_job : (rows : List Registration) (key : List ℕ) (job : JobRow) → a
     → has_mapped (changed (is_mapped_of key) (λ row. record row { mapped = false }) rows) job ≡ true
 forgotten_job rows key job fine idle own is =
     by_truth (is_underway job)
-    (λ here. and_or (is_underway job) _ (other_stays rows key job job.registration fine (grind (arith, idle, here)) own (grind (arith, is, here))))
+    (λ here. or_from (is_underway job) _ (λ too. other_stays rows key job job.registration fine (grind (arith, idle, here)) own (grind (arith, is, here))))
     (λ other. grind (arith, other))
 
 pub mapped_forgotten : (state : State) (key : List ℕ) → is_busy state key ≡ false → Coherent state → AllMapped state.registrations state.jobs → AllMapped (changed (is_mapped_of key) (λ row. record row { mapped = false }) state.registrations) state.jobs
