@@ -109,7 +109,8 @@ GetsPreload true Law = (state : State) (registration : ℕ) (on : Bool) (text : 
 GetsPreload false Law = (state : State) (registration : ℕ) (on : Bool) (text : List ℕ) → is_some (active_worker state registration) ≡ true → Law state (set_preload state registration on text)
 
 -- a law of all events: it holds of each least step, under the tests under which the step is taken; what gives a client
--- a controller that it hadn't is asked for only where that counts
+-- a controller that it hadn't is asked for only where that counts, and a registration leaves the map and gets a preload
+-- anywhere or only as the events have it
 pub record IsLawWhere (Law : State → Told → Type 0) (controls anywhere : Bool) : Type 0 where
   pub rechecks : IsRecheckLaw Law
   pub scheduling : (state : State) (job : Job) → job.number ≡ length state.jobs → Law state (schedule state job)
