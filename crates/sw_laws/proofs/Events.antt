@@ -49,7 +49,7 @@ use Rattle.sw_rules.specs.Told.{Told, Outcome, followed, quiet}
 use Rattle.sw_laws.specs.Coherent.{is_running, is_there}
 use Rattle.sw_laws.proofs.JobEvents.{evaluated-law, fetched-law, installed-law, rejected-law, run-law, scheduled_by-law}
 use Rattle.sw_laws.proofs.Lists.{bound_holds, by_option, by_test, find_any, find_passes, length_pushed, mapped_holds}
-use Rattle.sw_laws.proofs.Split.{IsLaw, recheck-law, try_activate-law}
+use Rattle.sw_laws.proofs.Split.{GetsPreload, IsLawWhere, recheck-law, try_activate-law}
 
 by_result : {A B X : Type 0} (P : X → Type 0) (result : Result A B) (good : A → X) (bad : B → X) → ((a : A) → result ≡ Ok a → P (good a)) → ((b : B) → result ≡ Err b → P (bad b)) → P (elim result [ Ok a ↦ good a | Err b ↦ bad b ])
 by_result P (Ok a) good bad one other = one a refl
@@ -82,7 +82,7 @@ gives_control (event.Claim maker of place) = true
 gives_control (event.Call maker asked) = is_claim asked
 gives_control _ = false
 
-module _ (Law : State → Told → Type 0) (controls : Bool) (law : IsLaw Law controls) where
+module _ (Law : State → Told → Type 0) (controls : Bool) {anywhere : Bool} (law : IsLawWhere Law controls anywhere) where
   nothing : (state : State) → Law state (quiet state)
   nothing = law.rechecks.nothing
 
@@ -323,9 +323,13 @@ module _ (Law : State → Told → Type 0) (controls : Bool) (law : IsLaw Law co
 
   -- ---- navigation preload
 
+  preloading-law : (everywhere : Bool) → GetsPreload everywhere Law → GetsPreload false Law
+  preloading-law true preloading = λ state registration on text active. preloading state registration on text
+  preloading-law false preloading = preloading
+
   preload_set-law : (state : State) (row : Registration) (on : Bool) (text : List ℕ) → Holds state (preload_set state row on text)
   preload_set-law state row on text =
-      by_test (Holds state) (is_some (active_worker state row.number)) _ _ (λ there. law.preloading state row.number on text) (λ none. nothing state)
+      by_test (Holds state) (is_some (active_worker state row.number)) _ _ (λ there. preloading-law anywhere law.preloading state row.number on text there) (λ none. nothing state)
 
   -- ---- calls
 

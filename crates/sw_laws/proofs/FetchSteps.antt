@@ -111,7 +111,7 @@ registered registrations this row registration is key scope =
 fetching_fits : (workers : List Worker) (row : JobRow) (registration drawn : ℕ) → has_its_worker workers (record row { phase = job_phase.Fetching; registration = Some registration; fetch = Some drawn }) ≡ true
 fetching_fits workers row registration drawn = grind arith
 
-first_is : (jobs : List JobRow) (row : JobRow) (this : Option JobRow) → find (in_queue row.job.key row.job.scope) jobs ≡ this → option_map_or (is_job row.job.number) this false ≡ true
+pub first_is : (jobs : List JobRow) (row : JobRow) (this : Option JobRow) → find (in_queue row.job.key row.job.scope) jobs ≡ this → option_map_or (is_job row.job.number) this false ≡ true
     → (found : JobRow) × (find (in_queue row.job.key row.job.scope) jobs ≡ Some found) × (found.job.number ≡ row.job.number)
 first_is jobs row None is first = absurd cc
 first_is jobs row (Some this) is first = (this, is, grind (arith, nat_tests, first))

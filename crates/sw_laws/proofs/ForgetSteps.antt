@@ -51,7 +51,7 @@ idle state key is =
 -- ---- the workers of the key's registrations
 
 -- a worker of a mapped registration of a key is a worker of the key
-any_of_filter : (key : List ℕ) (registration : ℕ) (rows : List Registration) → list_any (λ row. row.number == registration) (filter (is_mapped_of key) rows) ≡ true → list_any (λ row. row.number == registration && bytes_eq row.key key) rows ≡ true
+pub any_of_filter : (key : List ℕ) (registration : ℕ) (rows : List Registration) → list_any (λ row. row.number == registration) (filter (is_mapped_of key) rows) ≡ true → list_any (λ row. row.number == registration && bytes_eq row.key key) rows ≡ true
 any_of_filter key registration [] is = is
 any_of_filter key registration (x ∷ xs) is = grind (arith, is, any_of_filter key registration xs)
 

@@ -15,7 +15,7 @@ use Rattle.sw_rules.specs.Told.{Told, followed}
 use Rattle.sw_laws.specs.Coherent.{Coherent, apart, is_controlled}
 use Rattle.sw_laws.proofs.ActivateSteps.{IsChosen, is_chosen, promoted_keeps, promoted_of, waits}
 use Rattle.sw_laws.proofs.ClaimSteps.{leave-coherent, rechecks_coherently}
-use Rattle.sw_laws.proofs.Lists.{all_true, by_option, by_test, false_of, find_any, find_changed}
+use Rattle.sw_laws.proofs.Lists.{all_true, by_option, by_test, false_of, find_any, find_changed, map_same}
 use Rattle.sw_laws.proofs.Moves.{Keeps}
 use Rattle.sw_laws.proofs.Places.{found_numbered, not_there, places_apart}
 use Rattle.sw_laws.proofs.RowSteps.{left_by-coherent}
@@ -63,10 +63,6 @@ owner_moved f keeps workers number =
 held_moved : (f : Worker → Worker) → Keeps f → (workers : List Worker) (controller : Option ℕ) → option_and_then (owner_of (map f workers)) controller ≡ option_and_then (owner_of workers) controller
 held_moved f keeps workers None = refl
 held_moved f keeps workers (Some number) = owner_moved f keeps workers number
-
-map_same : (clients : List ClientRow) → map (λ c. c) clients ≡ clients
-map_same [] = refl
-map_same (c ∷ cs) = ap (λ (rows : List ClientRow). c ∷ rows) (map_same cs)
 
 -- a change of workers leaves what clients hold
 pub holds-moved : (but : ℕ → Bool) (given : ℕ → Option ℕ) (f : Worker → Worker) → Keeps f → (workers : List Worker) (clients : List ClientRow) → HoldsBut but given workers clients → HoldsBut but given (map f workers) clients

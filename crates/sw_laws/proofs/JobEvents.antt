@@ -26,7 +26,7 @@ use Rattle.sw_rules.specs.State.{State, Registration, Worker, Handler, of_job, v
 use Rattle.sw_rules.specs.Told.{Told, Outcome, followed, quiet}
 use Rattle.sw_laws.specs.Coherent.{is_there}
 use Rattle.sw_laws.proofs.Lists.{bound_holds, bytes_eq_same, by_option, by_test, find_changed, find_passes, length_pushed, mapped_holds}
-use Rattle.sw_laws.proofs.Split.{IsLaw, IsAt, IsInstalled, may_end, may_finish, try_clear-law}
+use Rattle.sw_laws.proofs.Split.{IsLawWhere, IsAt, IsInstalled, IsLeavingLaw, LeavesMap, may_end, may_finish, try_clear-law}
 
 -- ---- look-ups along the chains
 
@@ -109,7 +109,7 @@ by_kind P job_kind.Unregister one two three is_one is_two is_three = is_three
 
 -- ---- the events of jobs
 
-module _ (Law : State → Told → Type 0) (controls : Bool) (law : IsLaw Law controls) where
+module _ (Law : State → Told → Type 0) (controls : Bool) {anywhere : Bool} (law : IsLawWhere Law controls anywhere) where
   nothing : (state : State) → Law state (quiet state)
   nothing = law.rechecks.nothing
 
@@ -139,27 +139,41 @@ module _ (Law : State → Told → Type 0) (controls : Bool) (law : IsLaw Law co
       further state (settle state job result) (λ settled. finish settled job) (law.settling state job result may)
       (law.finishing (settle state job result).state job (settled_may_finish state job result may))
 
-  drop_registration-law : (state : State) (registration : ℕ) → Law state (drop_registration state registration)
+  drop_registration-law : ((state : State) (registration : ℕ) → Law state (unmap state registration)) → (state : State) (registration : ℕ) → Law state (drop_registration state registration)
   unfolding drop_registration
-  drop_registration-law state registration = grind (arith, nothing, law.unmapping)
+  drop_registration-law unmapping state registration = grind (arith, nothing, unmapping)
 
-  reject_and_drop-law : (state : State) (job registration : ℕ) (why : Fault) → may_end state job ≡ true → Law state (reject_and_drop state job registration why)
+  reject_and_drop-law : ((state : State) (registration : ℕ) → Law state (unmap state registration)) → (state : State) (job registration : ℕ) (why : Fault) → may_end state job ≡ true → Law state (reject_and_drop state job registration why)
   unfolding reject_and_drop
-  reject_and_drop-law state job registration why may =
+  reject_and_drop-law unmapping state job registration why may =
       let settled = (settle state job (settlement.Fault why)).state in
       let may_now = settled_may_finish state job (settlement.Fault why) may in
       further state _ _ (law.settling state job (settlement.Fault why) may)
-      (further settled _ _ (drop_registration-law settled registration)
+      (further settled _ _ (drop_registration-law unmapping settled registration)
       (law.finishing (drop_registration settled registration).state job (rw (drop_jobs settled registration) may_now)))
 
-  unregister_mapped-law : (state : State) (job : Job) (registration : ℕ) → may_end state job.number ≡ true → Law state (unregister_mapped state job registration)
+  -- what holds of a registration that leaves the map anywhere holds of one that leaves it because its job ends
+  leaving-law : (everywhere : Bool) → LeavesMap everywhere Law → IsLeavingLaw Law
+  leaving-law true unmapping = record {
+    unregistering = λ state row registration found may mapped. unmapping state registration.number;
+    rejecting = λ state row registration why at. reject_and_drop-law unmapping state row.job.number registration why (fetching_may_end state row registration at);
+  }
+  leaving-law false unmapping = unmapping
+
+  pub leaving : IsLeavingLaw Law
+  leaving = leaving-law anywhere law.unmapping
+
+  unregister_mapped-law : (state : State) (row : JobRow) (found : Registration) → job_row state row.job.number ≡ Some row → may_run state row ≡ true → mapped_registration state row.job.key row.job.scope ≡ Some found → Law state (unregister_mapped state row.job found.number)
   unfolding unregister_mapped
-  unregister_mapped-law state job registration may =
+  unregister_mapped-law state row found is may_now_run there =
+      let job = row.job in
+      let registration = found.number in
+      let may = run_may_end state row is may_now_run in
       let left = (unmap state registration).state in
       let settled = (settle left job.number (settlement.Truth true)).state in
       let may_left : may_end left job.number ≡ true = unmap_may_end state registration job.number may in
       let may_now = settled_may_finish left job.number (settlement.Truth true) may_left in
-      further state _ _ (law.unmapping state registration)
+      further state _ _ (leaving.unregistering state row found is may_now_run there)
       (further left _ _ (law.settling left job.number (settlement.Truth true) may_left)
       (further settled _ _ (try_clear-law Law law.rechecks settled registration (unmapped state registration job.number (settlement.Truth true)))
       (law.finishing (try_clear settled registration).state job.number (rw (try_clear_jobs settled registration) may_now))))
@@ -196,7 +210,7 @@ module _ (Law : State → Told → Type 0) (controls : Bool) (law : IsLaw Law co
       by_test (Holds state) (same_origin row.job.scope row.job.referrer) _ _
       (λ same. by_option (Holds state) (mapped_registration state row.job.key row.job.scope) _ _
       (λ none. ended-law state row.job.number _ (run_may_end state row is may))
-      (λ found there. unregister_mapped-law state row.job found.number (run_may_end state row is may)))
+      (λ found there. unregister_mapped-law state row found is may there))
       (λ other. ended-law state row.job.number _ (run_may_end state row is may))
 
   run_job-law : (state : State) (row : JobRow) → job_row state row.job.number ≡ Some row → may_run state row ≡ true → Holds state (run_job state row.job)
@@ -224,11 +238,11 @@ module _ (Law : State → Told → Type 0) (controls : Bool) (law : IsLaw Law co
       (λ none. by_test (Holds state) (is_same_script state row.job registration script.response.body) _ _
       (λ same. keep_script-law state row.job registration (fetching_may_end state row registration at))
       (λ other. law.making state row registration script at))
-      (λ why there. reject_and_drop-law state row.job.number registration why (fetching_may_end state row registration at))
+      (λ why there. leaving.rejecting state row registration why at)
 
   fetch_ended-law : (state : State) (row : JobRow) (script : Option Fetched) (registration : ℕ) → IsAt state is_fetching row registration → Holds state (fetch_ended state row script registration)
   fetch_ended-law state row None registration at =
-      reject_and_drop-law state row.job.number registration _ (fetching_may_end state row registration at)
+      leaving.rejecting state row registration _ at
   fetch_ended-law state row (Some script) registration at = fetched_script-law state row registration script at
 
   registered-law : (state : State) (test : JobPhase → Bool) (act : JobRow → ℕ → Option Outcome) (row : JobRow) (registration : Option ℕ) → row.registration ≡ registration

@@ -1,5 +1,5 @@
 -- The changes of each event make the caches of the state after it of those before it.
-use Rattle.std.proofs.Common.{◌≡◌, ◌∙◌, ℕ, Bool, true, false, not, List, [], ◌∷◌, ◌++◌, map, filter, Option, Some, None, Ok, IfSome, refl, sym, ap, subst, true≢false, take, suc, arith, if◌then◌else◌}
+use Rattle.std.proofs.Common.{◌≡◌, ◌∙◌, ℕ, Bool, true, false, not, List, [], ◌∷◌, ◌++◌, map, filter, Option, Some, None, Ok, refl, sym, ap, subst, true≢false, arith, if◌then◌else◌}
 use Rattle.std.specs.List.{list_any}
 use Rattle.std.specs.Prelude.{bytes_eq, is_none, is_some}
 use Rattle.std.specs.Option.{option_map_or}
@@ -11,7 +11,6 @@ use Rattle.sw_data.specs.declared.answers.Settlement.{Settlement}
 use Rattle.sw_data.specs.declared.events.Who.{Who}
 use Rattle.sw_data.specs.declared.events.Who.TheVariants as who
 use Rattle.sw_data.specs.declared.exchange.Op.{Op}
-use Rattle.sw_data.specs.declared.histories.Entry.{Entry}
 use Rattle.sw_data.specs.declared.rows.JobRow.{JobRow}
 use Rattle.sw_data.specs.declared.storage.Change.{Change}
 use Rattle.sw_data.specs.declared.storage.Change.TheVariants as change
@@ -23,25 +22,20 @@ use Rattle.sw_rules.specs.Batch.{batch}
 use Rattle.sw_rules.specs.Caching.{add_cache, add_task, carry_out, drop_cache, forget_key, pairs_of, settle_task, with_pairs}
 use Rattle.sw_rules.specs.Calls.{note_call}
 use Rattle.sw_rules.specs.Clients.{add_client, add_event, claim_client, claim_clients, claims, leave, remove_client, remove_event, take_control}
-use Rattle.sw_rules.specs.History.{Opens, after, after_entries, moved}
 use Rattle.sw_rules.specs.Installing.{begin_install, become_waiting, kept_worker, discard, end_handler, fail_install, finish_install, make_worker, reject_and_drop, tell_update, throw}
 use Rattle.sw_rules.specs.Jobs.{finish, promise, schedule, settle}
 use Rattle.sw_rules.specs.Matching.{Pair}
 use Rattle.sw_rules.specs.Preloading.{has_preload, set_preload}
 use Rattle.sw_rules.specs.Registering.{fetch_script}
 use Rattle.sw_rules.specs.Registrations.{activate, clear, drop_registration, has_mode, map_registration, set_mode, unload, unmap}
-use Rattle.sw_rules.specs.Restart.{restart}
 use Rattle.sw_rules.specs.Rows.{client_row, newest_worker, registration_row}
 use Rattle.sw_rules.specs.State.{State, Registration, Worker, Awaited}
-use Rattle.sw_rules.specs.Step.{changes_of, step}
 use Rattle.sw_rules.specs.Storage.{applied, is_cache, kept_after, with_batch}
-use Rattle.sw_rules.specs.Told.{Told, Outcome, followed, is_kept, kept_change, quiet, type_error}
-use Rattle.sw_laws.specs.Laws.{CachesAreKept, changes_along, changes_of_history}
-use Rattle.sw_laws.proofs.Events.{step-law}
+use Rattle.sw_rules.specs.Told.{Told, followed, is_kept, kept_change, quiet, type_error}
 use Rattle.sw_laws.proofs.Lists.{by_test}
 use Rattle.sw_laws.proofs.Split.{IsLaw, IsRecheckLaw, unload-law}
 
-abbrev KeepsCaches : State → Told → Type 0
+abbrev pub KeepsCaches : State → Told → Type 0
 KeepsCaches state told = (kept : Kept) → kept.caches ≡ state.caches → (kept_after kept told.changes).caches ≡ told.state.caches
 
 further : (state : State) (told : Told) (next : State → Told) → KeepsCaches state told → KeepsCaches told.state (next told.state) → KeepsCaches state (followed told next)
@@ -192,7 +186,7 @@ claims_cache (number ∷ numbers) state worker registration =
 
 -- ---- each least step
 
-cache_law : IsLaw KeepsCaches true
+pub cache_law : IsLaw KeepsCaches true
 unfolding followed schedule map_registration fetch_script make_worker begin_install settle tell_update add_client add_event remove_event add_cache drop_cache add_task settle_task forget_key note_call
 cache_law = record {
   rechecks = rechecks_cache;
@@ -232,23 +226,3 @@ cache_law = record {
   answering = λ state number result faulted kept same. same;
   noting = λ state worker faulted kept same. same;
 }
-
--- ---- along histories
-
-step_after : (state : State) (o : Option Outcome) → IfSome o (λ outcome. KeepsCaches state outcome.told) → (kept : Kept) → kept.caches ≡ state.caches
-    → (kept_after kept (option_map_or (λ (outcome : Outcome). outcome.told.changes) o [])).caches ≡ (option_map_or (λ (outcome : Outcome). outcome.told.state) o state).caches
-step_after state None law kept same = same
-step_after state (Some outcome) law kept same = law kept same
-
-entries_keep : (entries : List Entry) (state : State) (kept : Kept) → kept.caches ≡ state.caches → (kept_after kept (changes_along state entries)).caches ≡ (after_entries state entries).caches
-entries_keep [] state kept same = same
-entries_keep (entry ∷ entries) state kept same =
-    ap (λ (k : Kept). k.caches) (fold-append applied kept (changes_of state entry.event) (changes_along (moved state entry) entries))
-    ∙ entries_keep entries (moved state entry) (kept_after kept (changes_of state entry.event)) (step_after state (step state entry.event) (step-law KeepsCaches true cache_law state entry.event (λ may. refl)) kept same)
-
-prefixes_keep : (base : Kept) (history : List Entry) (n : ℕ) → Opens base history → (kept_after base (changes_of_history base (take (suc n) history))).caches ≡ (after base (take (suc n) history)).caches
-prefixes_keep base [] n opens = absurd opens
-prefixes_keep base (opening ∷ entries) n opens = entries_keep (take n entries) (restart base) (applied base change.Restarted) refl
-
-pub caches_are_kept : CachesAreKept
-caches_are_kept = record { prefixes = λ base history n legal. prefixes_keep base history n legal.opens }

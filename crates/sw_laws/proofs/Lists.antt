@@ -1,5 +1,5 @@
 -- Lists of rows: tests, look-ups and changes, and rows that are apart.
-use Rattle.std.proofs.Common.{◌≡◌, ℕ, ◌+◌, Bool, true, false, not, ◌&&◌, ◌||◌, ◌==◌, List, [], ◌∷◌, ◌++◌, map, filter, Option, Some, None, IfSome, option_map, length, length-append, refl, sym, arith, if◌then◌else◌}
+use Rattle.std.proofs.Common.{◌≡◌, ℕ, ◌+◌, Bool, true, false, not, ◌&&◌, ◌||◌, ◌==◌, List, [], ◌∷◌, ◌++◌, map, filter, Option, Some, None, IfSome, option_map, length, length-append, refl, sym, ap, arith, if◌then◌else◌}
 use Rattle.std.specs.List.{list_any, list_all, find}
 use Rattle.std.specs.Option.{option_map_or}
 use Rattle.std.proofs.lemmas.Bool.{and_from, and_parts}
@@ -7,6 +7,10 @@ use Rattle.std.specs.Prelude.{bytes_eq, option_and_then}
 use Rattle.std.proofs.lemmas.Bool.Decides.{nat_tests, same_from_decides}
 use Rattle.std.proofs.lemmas.Slice.Eq.{bytes_eq-Decides}
 use Rattle.sw_laws.specs.Coherent.{apart}
+
+pub map_same : {X : Type 0} (xs : List X) → map (λ x. x) xs ≡ xs
+map_same [] = refl
+map_same (x ∷ xs) = ap (λ rest. x ∷ rest) (map_same xs)
 
 -- g sees no change
 pub map_kept : {X Y : Type 0} (g : X → Y) (f : X → X) → ((x : X) → g (f x) ≡ g x) → (xs : List X) → map g (map f xs) ≡ map g xs
@@ -75,6 +79,10 @@ all_there number xs = all_members (λ y x. number y == number x) (λ x. grind (a
 pub by_test : {X : Type 0} (P : X → Type 0) (b : Bool) (x y : X) → (b ≡ true → P x) → (b ≡ false → P y) → P (if b then x else y)
 by_test P true x y one other = one refl
 by_test P false x y one other = other refl
+
+pub by_truth : {P : Type 0} (b : Bool) → (b ≡ true → P) → (b ≡ false → P) → P
+by_truth true one other = one refl
+by_truth false one other = other refl
 
 pub by_option : {A X : Type 0} (P : X → Type 0) (o : Option A) (gone : X) (there : A → X) → (o ≡ None → P gone) → ((a : A) → o ≡ Some a → P (there a)) → P (elim o [ None ↦ gone | Some a ↦ there a ])
 by_option P None gone there one other = one refl

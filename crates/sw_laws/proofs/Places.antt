@@ -14,7 +14,7 @@ use Rattle.sw_laws.proofs.Lists.{all_both, all_of_filter, all_weaker, length_pus
 pub places_changed : {X : Type 0} (number : X → ℕ) (f : X → X) → ((x : X) → number (f x) ≡ number x) → (xs : List X) → ArePlaces number xs → ArePlaces number (map f xs)
 places_changed number f kept xs are = cc (map_kept number f kept xs, length-map xs f)
 
-range_pushed : (n a : ℕ) → range_with_len a (suc n) ≡ range_with_len a n ++ ((a + n) ∷ [])
+pub range_pushed : (n a : ℕ) → range_with_len a (suc n) ≡ range_with_len a n ++ ((a + n) ∷ [])
 range_pushed zero a = let is : a + 0 ≡ a = omega arith in rw is refl
 range_pushed (suc n) a =
     let is : a + 1 + n ≡ a + suc n = omega arith in

@@ -56,7 +56,7 @@ folded_worked : (changes : List Change) (kept : Kept) → list_all is_worked kep
 folded_worked [] kept is = is
 folded_worked (c ∷ changes) kept is = folded_worked changes (applied kept c) (applied_worked kept c is)
 
-made_worked : (kept : Kept) → IsMade kept → list_all is_worked kept.registrations ≡ true
+pub made_worked : (kept : Kept) → IsMade kept → list_all is_worked kept.registrations ≡ true
 made_worked kept made = rw made.1 (folded_worked made.0 nothing refl)
 
 -- ---- one registration after another
@@ -66,7 +66,7 @@ restored_by None is = absurd cc
 restored_by (Some w) is = (w, refl)
 
 -- a worker there is, that of a kept registration
-restored_there : (number from : ℕ) (row : KeptRegistration) → is_worked row ≡ true → (w : Worker) × (worker_after_restart number from row ≡ Some w)
+pub restored_there : (number from : ℕ) (row : KeptRegistration) → is_worked row ≡ true → (w : Worker) × (worker_after_restart number from row ≡ Some w)
 restored_there number from row is = restored_by (worker_after_restart number from row) (grind (arith, is))
 
 none_passes : {X : Type 0} (p : X → Bool) (xs : List X) → list_all (λ x. not (p x)) xs ≡ true → find p xs ≡ None
@@ -84,10 +84,10 @@ found_behind p before x rest rows is none here =
 abbrev is_before : ℕ → Registration → Bool
 is_before from row = option_map_or (λ first. nat_lt first from) row.first false
 
-restored_of : (number from : ℕ) (row : KeptRegistration) (w : Worker) → worker_after_restart number from row ≡ Some w → w.registration ≡ from
+pub restored_of : (number from : ℕ) (row : KeptRegistration) (w : Worker) → worker_after_restart number from row ≡ Some w → w.registration ≡ from
 restored_of number from row w got = grind (arith, got)
 
-restored_active : (number from : ℕ) (row : KeptRegistration) (w : Worker) → worker_after_restart number from row ≡ Some w → in_slot slot.Active w.state ≡ true
+pub restored_active : (number from : ℕ) (row : KeptRegistration) (w : Worker) → worker_after_restart number from row ≡ Some w → in_slot slot.Active w.state ≡ true
 restored_active number from row w got = grind (arith, got)
 
 not_this : (kept : Bool) (from : ℕ) (first : Option ℕ) → option_map_or (λ n. nat_lt n from) first false ≡ true → not (kept && is_number first from) ≡ true

@@ -3,6 +3,7 @@
 use Rattle.std.proofs.Common.{◌≡◌, ℕ, Bool, true, false, not, ◌&&◌, ◌==◌, List, length, Some, None, Ok, arith}
 use Rattle.std.specs.Prelude.{option_and_then, is_none, is_some, map}
 use Rattle.std.specs.Option.{option_map_or}
+use Rattle.sw_data.specs.declared.answers.Fault.{Fault}
 use Rattle.sw_data.specs.declared.answers.Settlement.{Settlement}
 use Rattle.sw_data.specs.declared.answers.Settlement.TheVariants as settlement
 use Rattle.sw_data.specs.declared.events.Who.{Who}
@@ -19,13 +20,13 @@ use Rattle.sw_rules.specs.Batch.{batch}
 use Rattle.sw_rules.specs.Caching.{add_cache, add_task, carry_out, drop_cache, forget_key, is_busy, pairs_of, settle_task}
 use Rattle.sw_rules.specs.Calls.{note_call}
 use Rattle.sw_rules.specs.Clients.{add_client, add_event, claim_clients, flagged, leave, new_client, remove_event}
-use Rattle.sw_rules.specs.Installing.{begin_install, end_handler, ended_handler, fail_install, finish_install, job_worker, make_worker, tell_update, throw}
+use Rattle.sw_rules.specs.Installing.{begin_install, end_handler, ended_handler, fail_install, finish_install, job_worker, make_worker, reject_and_drop, tell_update, throw}
 use Rattle.sw_rules.specs.Jobs.{finish, promise, schedule, settle}
 use Rattle.sw_rules.specs.Matching.{Pair}
 use Rattle.sw_rules.specs.Preloading.{set_preload}
 use Rattle.sw_rules.specs.Registering.{fetch_script, may_run}
 use Rattle.sw_rules.specs.Registrations.{activate, chosen, clear, left_by, map_registration, recheck, release, set_mode, try_activate, try_clear, unload, unmap}
-use Rattle.sw_rules.specs.Rows.{client_row, event_row, has_pending_worker, has_worker, in_phase, is_activating, is_active, is_evaluating, is_fetching, is_install, is_installing, is_mapped, is_used, job_row, maker_worker, mapped_registration, worker_row}
+use Rattle.sw_rules.specs.Rows.{active_worker, client_row, event_row, has_pending_worker, has_worker, in_phase, is_activating, is_active, is_evaluating, is_fetching, is_install, is_installing, is_mapped, is_used, job_row, maker_worker, mapped_registration, worker_row}
 use Rattle.sw_rules.specs.State.{State, Registration, Worker, Awaited, Handler}
 use Rattle.sw_rules.specs.Told.{Told, followed, quiet}
 use Rattle.sw_laws.specs.Coherent.{is_running, is_settled_phase, is_there}
@@ -91,18 +92,35 @@ unload-law Law law leaving state client = grind (arith, law.nothing, law.further
 
 -- ---- what a law has to say
 
+-- a law of the steps in which a registration leaves the map because its job ends: that of unregistering, and that of a
+-- fetch which is rejected, as a whole
+pub record IsLeavingLaw (Law : State → Told → Type 0) : Type 0 where
+  pub unregistering : (state : State) (row : JobRow) (registration : Registration) → job_row state row.job.number ≡ Some row → may_run state row ≡ true → mapped_registration state row.job.key row.job.scope ≡ Some registration → Law state (unmap state registration.number)
+  pub rejecting : (state : State) (row : JobRow) (registration : ℕ) (why : Fault) → IsAt state is_fetching row registration → Law state (reject_and_drop state row.job.number registration why)
+
+-- a law of a registration that leaves the map: anywhere, or only there
+abbrev pub LeavesMap : Bool → (State → Told → Type 0) → Type 0
+LeavesMap true Law = (state : State) (registration : ℕ) → Law state (unmap state registration)
+LeavesMap false Law = IsLeavingLaw Law
+
+-- a law of a registration that gets a preload: anywhere, or only where it has an active worker
+abbrev pub GetsPreload : Bool → (State → Told → Type 0) → Type 0
+GetsPreload true Law = (state : State) (registration : ℕ) (on : Bool) (text : List ℕ) → Law state (set_preload state registration on text)
+GetsPreload false Law = (state : State) (registration : ℕ) (on : Bool) (text : List ℕ) → is_some (active_worker state registration) ≡ true → Law state (set_preload state registration on text)
+
 -- a law of all events: it holds of each least step, under the tests under which the step is taken; what gives a client
--- a controller that it hadn't is asked for only where that counts
-pub record IsLaw (Law : State → Told → Type 0) (controls : Bool) : Type 0 where
+-- a controller that it hadn't is asked for only where that counts, and a registration leaves the map and gets a preload
+-- anywhere or only as the events have it
+pub record IsLawWhere (Law : State → Told → Type 0) (controls anywhere : Bool) : Type 0 where
   pub rechecks : IsRecheckLaw Law
   pub scheduling : (state : State) (job : Job) → job.number ≡ length state.jobs → Law state (schedule state job)
   pub promising : (state : State) (who : Who) (awaited : Awaited) → is_there state.jobs state.tasks awaited ≡ true → Law state (promise state who awaited)
   pub settling : (state : State) (job : ℕ) (result : Settlement) → may_end state job ≡ true → Law state (settle state job result)
   pub finishing : (state : State) (job : ℕ) → may_finish state job ≡ true → Law state (finish state job)
   pub mapping : (state : State) (job : Job) → mapped_registration state job.key job.scope ≡ None → Law state (map_registration state job)
-  pub unmapping : (state : State) (registration : ℕ) → Law state (unmap state registration)
+  pub unmapping : LeavesMap anywhere Law
   pub moding : (state : State) (registration : ℕ) (mode : Mode) → Law state (set_mode state registration mode)
-  pub preloading : (state : State) (registration : ℕ) (on : Bool) (text : List ℕ) → Law state (set_preload state registration on text)
+  pub preloading : GetsPreload anywhere Law
   pub fetching : (state : State) (row : JobRow) (registration : Registration) → job_row state row.job.number ≡ Some row → may_run state row ≡ true → mapped_registration state row.job.key row.job.scope ≡ Some registration → Law state (fetch_script state row.job registration.number)
   pub making : (state : State) (row : JobRow) (registration : ℕ) (fetched : Fetched) → IsAt state is_fetching row registration → Law state (make_worker state row registration fetched)
   pub throwing : (state : State) (row : JobRow) (registration : ℕ) (worker : Worker) → IsAt state is_evaluating row registration → job_worker state row ≡ Some worker → Law state (throw state row.job.number registration worker.number)
@@ -128,3 +146,7 @@ pub record IsLaw (Law : State → Told → Type 0) (controls : Bool) : Type 0 wh
   pub awaiting : (state : State) (who : Who) (key name : List ℕ) (requests : List Request) → is_running state.workers (maker_worker who) ≡ true → Law state (add_task state who key name requests)
   pub answering : (state : State) (number : ℕ) (result : Settlement) (faulted : Bool) → Law state (settle_task state number result faulted)
   pub noting : (state : State) (worker : ℕ) (faulted : Bool) → Law state (note_call state worker faulted)
+
+-- a law that holds of a registration which leaves the map or gets a preload anywhere
+abbrev pub IsLaw : (State → Told → Type 0) → Bool → Type 0
+IsLaw Law controls = IsLawWhere Law controls true

@@ -99,10 +99,10 @@ abbrev pub changes_of_history : Kept → List Entry → List Change
 changes_of_history base [] = []
 changes_of_history base (opening ∷ entries) = change.Restarted ∷ changes_along (restart base) entries
 
--- own: the caches that the changes of the first entries make of the base are those of the state after them, for each
--- number of entries from one on
-pub record CachesAreKept : Type 0 where
+-- own: the content that the changes of the first entries make of the base is the durable part of the state after them,
+-- for each number of entries from one on
+pub record DurableIsKept : Type 0 where
   pub prefixes : (base : Kept) (history : List Entry) (n : ℕ)
       → Legal base history
-      → (kept_after base (changes_of_history base (take (suc n) history))).caches
-      ≡ (after base (take (suc n) history)).caches
+      → kept_after base (changes_of_history base (take (suc n) history))
+      ≡ kept.durable (after base (take (suc n) history))

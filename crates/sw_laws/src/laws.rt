@@ -1,6 +1,6 @@
 //! The laws. A call does nothing; its clause is the law.
 
-ghost use Rattle.sw_laws.specs.Laws.{CachesAreKept, HasSlots, IsAlwaysCoherent, IsAlwaysControlled, RestartsOnce, RestsWithoutWork, SettlesOnce};
+ghost use Rattle.sw_laws.specs.Laws.{DurableIsKept, HasSlots, IsAlwaysCoherent, IsAlwaysControlled, RestartsOnce, RestsWithoutWork, SettlesOnce};
 
 /// A restart leaves a coherent state, and each event keeps it so: the rows of every state after a legal history fit
 /// together.
@@ -42,9 +42,9 @@ pub fn promises_settle_once()
     ensures { SettlesOnce }
 {}
 
-/// The caches that the changes of the first entries of a legal history make of its base are those of the state after
-/// them.
-#[tactic(auto, using(crate::proofs::KeptCaches::caches_are_kept))]
-pub fn changes_keep_caches()
-    ensures { CachesAreKept }
+/// The content that the changes of the first entries of a legal history make of its base is the durable part of the
+/// state after them, for each number of entries from one on.
+#[tactic(auto, using(crate::proofs::DurableKept::durable_is_kept))]
+pub fn changes_keep_the_durable_part()
+    ensures { DurableIsKept }
 {}
