@@ -62,11 +62,11 @@ mode_may_end : (state : State) (registration job : ℕ) (mode : Mode) → may_en
 unfolding set_mode
 mode_may_end state registration job mode may = may
 
-mode_at : (state : State) (registration : ℕ) (mode : Mode) (row : JobRow) (own : ℕ) → IsAt state is_evaluating row own → IsAt (set_mode state registration mode).state is_evaluating row own
+pub mode_at : (state : State) (registration : ℕ) (mode : Mode) (row : JobRow) (own : ℕ) → IsAt state is_evaluating row own → IsAt (set_mode state registration mode).state is_evaluating row own
 unfolding set_mode
 mode_at state registration mode row own at = record { found = at.found; phase = at.phase; registered = at.registered }
 
-mode_made : (state : State) (registration : ℕ) (mode : Mode) (row : JobRow) (worker : Worker) → job_worker state row ≡ Some worker → job_worker (set_mode state registration mode).state row ≡ Some worker
+pub mode_made : (state : State) (registration : ℕ) (mode : Mode) (row : JobRow) (worker : Worker) → job_worker state row ≡ Some worker → job_worker (set_mode state registration mode).state row ≡ Some worker
 unfolding set_mode
 mode_made state registration mode row worker made = made
 
