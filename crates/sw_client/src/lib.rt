@@ -39,9 +39,9 @@ impl Model for Clients {
     ghost Value = { Table };
 
     ghost view = { λ clients. record {
-        rows = values_of clients.rows.entries;
-        known = vec_len clients.counts;
-        spare = spare clients.rows;
+      rows = values_of clients.rows.entries;
+      known = vec_len clients.counts;
+      spare = spare clients.rows;
     } };
 
     ghost invariant = { λ clients. IsCounted clients.rows.entries clients.counts.items };
@@ -174,14 +174,14 @@ impl Clients {
         ensures rows { self.new.rows ≡ self.old.rows }
         ensures known { self.new.known ≡ self.old.known }
         ensures row { IfOk result (λ new. new ≡ record {
-            client = record {
-                number = number;
-                url = url;
-                key = key;
-                secure = secure;
-                controller = option_map (λ c. c.0) controller;
-            };
-            registration = option_map (λ c. c.1) controller;
+          client = record {
+            number = number;
+            url = url;
+            key = key;
+            secure = secure;
+            controller = option_map (λ c. c.0) controller;
+          };
+          registration = option_map (λ c. c.1) controller;
         }) }
         ensures fits { IfOk result (λ new. Fits new self.new) }
         ensures in_use { (result ≡ Err AddFault.InUse)
@@ -229,26 +229,22 @@ impl Clients {
         ensures known { self.new.known ≡ self.old.known }
         ensures room { self.old.spare ≤ self.new.spare }
     {
-        let Some(row) = self.rows.get(&number) else {
+        let Some(gone) = self.rows.get(&number) else {
             return Err(NoClient);
         };
-        counts::lower(&mut self.counts, row.registration);
+        counts::lower(&mut self.counts, gone.registration);
         let _ = self.rows.shift_remove(&number);
         Ok(())
     }
 
     /// A client gets a controller, a worker of a registration that is known. It takes no memory.
-    pub fn set_controller(
-        &mut self,
-        number: u32,
-        controller: (u32, u32),
-    ) -> Result<(), NoClient>
+    pub fn set_controller(&mut self, number: u32, controller: (u32, u32)) -> Result<(), NoClient>
         requires { controller.1 < self.old.known }
         ensures none { IsErr result
             ↔ (find (is_client number) (clients_of self.old) ≡ None) }
         ensures err { OnErr result (self.new ≡ self.old) }
         ensures rows { OnOk result (self.new ≡ record self.old {
-            rows = changed (is_open number) (controlled_by controller) self.old.rows;
+          rows = changed (is_open number) (controlled_by controller) self.old.rows;
         }) }
         ensures clients { OnOk result (clients_of self.new ≡ changed (is_client number)
             (λ row. record row { controller = Some controller.0 }) (clients_of self.old)) }

@@ -11,16 +11,16 @@ returns-in_default-clause-none c =
     (λ is. rw (← c.self.view_is) none, λ is. refl)
 
 pub lower-requires : goal.lower-requires
-lower-requires c = lowered c.args.number c.self.inside.rows.entries c.self.inside.counts.items c.in-Some.row.now c.self.invariant (sym c.get.ensures.value ∙ ap option_copied c.in-Some.is)
+lower-requires c = lowered c.args.number c.self.inside.rows.entries c.self.inside.counts.items c.in-Some.gone.now c.self.invariant (sym c.get.ensures.value ∙ ap option_copied c.in-Some.is)
 
 pub invariant_of-self : goal.invariant_of-self
 invariant_of-self c =
-    removed_counted c.args.number c.self.inside.rows.entries c.shift_remove.new.self.entries c.self.inside.counts.items c.lower.new.counts.items c.in-Some.row.now c.self.invariant (sym c.get.ensures.value ∙ ap option_copied c.in-Some.is)
+    removed_counted c.args.number c.self.inside.rows.entries c.shift_remove.new.self.entries c.self.inside.counts.items c.lower.new.counts.items c.in-Some.gone.now c.self.invariant (sym c.get.ensures.value ∙ ap option_copied c.in-Some.is)
     c.shift_remove.ensures.entries c.shift_remove.ensures.unique c.lower.ensures.count
 
 pub returns-clause-none : goal.returns-clause-none
 returns-clause-none c =
-    let there = present c.args.number c.self.inside.rows.entries c.in-Some.row.now c.self.invariant.keyed (sym c.get.ensures.value ∙ ap option_copied c.in-Some.is) in
+    let there = present c.args.number c.self.inside.rows.entries c.in-Some.gone.now c.self.invariant.keyed (sym c.get.ensures.value ∙ ap option_copied c.in-Some.is) in
     rw (← c.self.view_is) (λ is. cc, λ is. cc)
 
 pub returns-clause-rows : goal.returns-clause-rows

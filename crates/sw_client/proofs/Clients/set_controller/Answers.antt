@@ -16,9 +16,10 @@ lower-requires c = lowered c.args.number c.self.inside.rows.entries c.self.insid
 pub raise-requires : goal.raise-requires
 raise-requires c =
     let there = sym c.get_mut.ensures.value ∙ ap option_copied_mut c.in-Some.is in
-    let known = subst (λ (table : Table). c.args.controller.1 < table.known) (sym c.self.view_is) c.requires in
-    (subst (λ n. c.args.controller.1 < n) (sym c.lower.ensures.len) known,
-    raised_again c.args.number c.args.controller.1 c.self.inside.rows.entries c.self.inside.counts.items c.lower.new.counts.items c.in-Some.row.now c.self.invariant there (c.lower.ensures.count c.args.controller.1))
+    let known = subst (λ (table : Table). c.args.controller.1 < table.known) (sym c.self.view_is) c.requires in (
+      subst (λ n. c.args.controller.1 < n) (sym c.lower.ensures.len) known,
+      raised_again c.args.number c.args.controller.1 c.self.inside.rows.entries c.self.inside.counts.items c.lower.new.counts.items c.in-Some.row.now c.self.invariant there (c.lower.ensures.count c.args.controller.1),
+    )
 
 pub invariant_of-self-2 : goal.invariant_of-self-2
 invariant_of-self-2 c =
@@ -39,7 +40,7 @@ returns-clause-rows c =
     let row = c.in-Some.row.now in
     let written = c.get_mut.follows.holds (controlled_by c.args.controller row) in
     let rows = given_rows c.args.number c.args.controller c.self.inside.rows.entries (c.get_mut.follows.lender (controlled_by c.args.controller row)).entries row c.self.invariant.keyed there written.0
-        ∙ ap (λ (table : Table). changed (is_open c.args.number) (controlled_by c.args.controller) table.rows) c.self.view_is in
+    ∙ ap (λ (table : Table). changed (is_open c.args.number) (controlled_by c.args.controller) table.rows) c.self.view_is in
     let known = c.raise.ensures.len ∙ c.lower.ensures.len ∙ ap (λ (table : Table). table.known) c.self.view_is in
     let spare = written.6 ∙ ap (λ (table : Table). table.spare) c.self.view_is in
     λ i. record { rows = rows i; known = known i; spare = spare i }
