@@ -120,7 +120,7 @@ all_recheck = record {
 all_leaving : IsLeavingLaw KeepsAll
 all_leaving = record {
   unregistering = λ state row registration found may mapped sound. (unmap-coherent state registration.number sound, unmap_keeps state registration.number (unregister_free state row registration found may mapped sound));
-  rejecting = λ state row registration why at sound. ((leaving StaysCoherent true coherent_law).rejecting state row registration why at sound, reject_keeps state row registration why at sound);
+  rejecting = λ state row registration why at sound. ((leaving StaysCoherent StaysCoherent true coherent_law).rejecting state row registration why at sound, reject_keeps state row registration why at sound);
 }
 
 activated_same : (old new : Worker) → new.state ≡ old.state → is_activated new ≡ is_activated old

@@ -43,13 +43,13 @@ use Rattle.sw_rules.specs.Matching.{Pair, first_match}
 use Rattle.sw_rules.specs.Preloading.{preload_set}
 use Rattle.sw_rules.specs.Registering.{register, soft_update, soft_update_named, unregister, update, update_named, with_client}
 use Rattle.sw_rules.specs.Rows.{active_worker, client_row, event_row, is_active, is_install, is_activating, is_worker, maker_worker, mapped_registration, named_scope, newest_worker, registration_of, registration_row, slot_worker, task_row, worker_row}
-use Rattle.sw_rules.specs.State.{State, Registration, Worker, AddAll, of_task}
+use Rattle.sw_rules.specs.State.{State, Registration, Worker, Handler, AddAll, of_task}
 use Rattle.sw_rules.specs.Step.{by_host, by_lane, step}
 use Rattle.sw_rules.specs.Told.{Told, Outcome, followed, quiet}
 use Rattle.sw_laws.specs.Coherent.{is_running, is_there}
 use Rattle.sw_laws.proofs.JobEvents.{evaluated-law, fetched-law, installed-law, rejected-law, run-law, scheduled_by-law}
 use Rattle.sw_laws.proofs.Lists.{bound_holds, by_option, by_test, find_any, find_passes, length_pushed, mapped_holds}
-use Rattle.sw_laws.proofs.Split.{GetsPreload, IsLawWhere, recheck-law, try_activate-law}
+use Rattle.sw_laws.proofs.Split.{GetsPreload, IsLawBeside, IsLawWhere, IsMoveLaw, recheck-law, try_activate-law}
 
 by_result : {A B X : Type 0} (P : X → Type 0) (result : Result A B) (good : A → X) (bad : B → X) → ((a : A) → result ≡ Ok a → P (good a)) → ((b : B) → result ≡ Err b → P (bad b)) → P (elim result [ Ok a ↦ good a | Err b ↦ bad b ])
 by_result P (Ok a) good bad one other = one a refl
@@ -82,7 +82,16 @@ gives_control (event.Claim maker of place) = true
 gives_control (event.Call maker asked) = is_claim asked
 gives_control _ = false
 
-module _ (Law : State → Told → Type 0) (controls : Bool) {anywhere : Bool} (law : IsLawWhere Law controls anywhere) where
+module _ (Law : State → Told → Type 0) where
+  -- the end of an activate handler, and what follows it
+  pub activated-by : ((state : State) (worker : Worker) (handler : Handler) → worker_row state worker.number ≡ Some worker → ended_handler state (λ in_phase. not (is_install in_phase)) worker ≡ Some handler → Law state (finish_activate state worker.registration worker.number))
+      → (state : State) (number : ℕ) → IfSome (activated state number) (λ outcome. Law state outcome.told)
+  activated-by ending state number =
+      bound_holds (λ outcome. Law state outcome.told) _ (worker_row state number) (λ worker found.
+      mapped_holds (λ outcome. Law state outcome.told) _ (ended_handler state (λ in_phase. not (is_install in_phase)) worker) (λ handler ended.
+      ending state worker handler (worker_by_own state number worker found) ended))
+
+module _ (Law Own : State → Told → Type 0) (controls : Bool) {anywhere : Bool} (law : IsLawBeside Law Own controls anywhere) where
   nothing : (state : State) → Law state (quiet state)
   nothing = law.rechecks.nothing
 
@@ -103,18 +112,18 @@ module _ (Law : State → Told → Type 0) (controls : Bool) {anywhere : Bool} (
 
   register-law : (state : State) (maker : Who) (asked : Registering) → Holds state (register state maker asked)
   register-law state maker asked =
-      with_client-law state asked.client _ (λ client there. grind (arith, rejected-law Law controls law, scheduled_by-law Law controls law))
+      with_client-law state asked.client _ (λ client there. grind (arith, rejected-law Law Own controls law, scheduled_by-law Law Own controls law))
 
   update_named-law : (state : State) (maker : Who) (found : Option Registration) (referrer : List ℕ) → Holds state (update_named state maker found referrer)
-  update_named-law state maker None referrer = rejected-law Law controls law state maker _
+  update_named-law state maker None referrer = rejected-law Law Own controls law state maker _
   update_named-law state maker (Some row) referrer =
-      by_option (Holds state) (newest_worker state row.number) _ _ (λ none. rejected-law Law controls law state maker _)
-      (λ newest there. scheduled_by-law Law controls law state maker _ refl)
+      by_option (Holds state) (newest_worker state row.number) _ _ (λ none. rejected-law Law Own controls law state maker _)
+      (λ newest there. scheduled_by-law Law Own controls law state maker _ refl)
 
   update-law : (state : State) (maker : Who) (of : ClientScope) → Holds state (update state maker of)
   update-law state maker of =
       with_client-law state of.client _ (λ client there.
-      by_option (Holds state) (named_scope client of.scope) _ _ (λ none. rejected-law Law controls law state maker _)
+      by_option (Holds state) (named_scope client of.scope) _ _ (λ none. rejected-law Law Own controls law state maker _)
       (λ scope named. update_named-law state maker (mapped_registration state client.key scope) client.url))
 
   soft_update_named-law : (state : State) (found : Option Registration) → Holds state (soft_update_named state found)
@@ -132,8 +141,8 @@ module _ (Law : State → Told → Type 0) (controls : Bool) {anywhere : Bool} (
   unregister-law : (state : State) (maker : Who) (of : ClientScope) → Holds state (unregister state maker of)
   unregister-law state maker of =
       with_client-law state of.client _ (λ client there.
-      by_option (Holds state) (named_scope client of.scope) _ _ (λ none. rejected-law Law controls law state maker _)
-      (λ scope named. scheduled_by-law Law controls law state maker _ refl))
+      by_option (Holds state) (named_scope client of.scope) _ _ (λ none. rejected-law Law Own controls law state maker _)
+      (λ scope named. scheduled_by-law Law Own controls law state maker _ refl))
 
   -- ---- clients
 
@@ -224,13 +233,6 @@ module _ (Law : State → Told → Type 0) (controls : Bool) {anywhere : Bool} (
       (λ owed. law.paying state registration _ owed (try_activate-law Law law.rechecks (paid registration state) registration))
       (λ none. tt)
 
-  activated-law : (state : State) (number : ℕ) → HoldsIf state (activated state number)
-  unfolding finish_activate
-  activated-law state number =
-      bound_holds (Holds state) _ (worker_row state number) (λ worker found.
-      mapped_holds (Holds state) _ (ended_handler state (λ in_phase. not (is_install in_phase)) worker) (λ handler ended.
-      law.activated state worker handler _ (worker_by_own state number worker found) ended (λ after. recheck-law Law law.rechecks after worker.registration)))
-
   -- ---- caches
 
   with_key-law : (state : State) (place : Place) (act : List ℕ → Outcome) → ((key : List ℕ) → Holds state (act key)) → Holds state (with_key state place act)
@@ -293,12 +295,12 @@ module _ (Law : State → Told → Type 0) (controls : Bool) {anywhere : Bool} (
 
   add_all-law : (state : State) (maker : Who) (base : List ℕ) (asked : CacheAddAll) (key : List ℕ) → is_running state.workers (maker_worker maker) ≡ true → Holds state (add_all state maker base asked key)
   add_all-law state maker base asked key runs =
-      by_test (Holds state) (is_none (pairs_of key asked.name state.caches)) _ _ (λ gone. rejected-law Law controls law state maker _)
-      (λ there. by_result (Holds state) (fetchable_all base asked.requests) _ _ (λ requests is. start_task-law state maker key asked.name requests runs) (λ why is. rejected-law Law controls law state maker _))
+      by_test (Holds state) (is_none (pairs_of key asked.name state.caches)) _ _ (λ gone. rejected-law Law Own controls law state maker _)
+      (λ there. by_result (Holds state) (fetchable_all base asked.requests) _ _ (λ requests is. start_task-law state maker key asked.name requests runs) (λ why is. rejected-law Law Own controls law state maker _))
 
   add_all_at-law : (state : State) (lane at : ℕ) (place : Place) (asked : CacheAddAll) → Holds state (add_all_at state (who.Lane lane at) place asked)
   add_all_at-law state lane at place asked =
-      by_result (Holds state) (place_key place) _ _ (λ key is. add_all-law state (who.Lane lane at) place.at asked key refl) (λ why is. rejected-law Law controls law state (who.Lane lane at) why)
+      by_result (Holds state) (place_key place) _ _ (λ key is. add_all-law state (who.Lane lane at) place.at asked key refl) (λ why is. rejected-law Law Own controls law state (who.Lane lane at) why)
 
   store_task-law : (state : State) (row : AddAll) (ops : List Op) (pairs : List Pair) → pairs_of row.key row.name state.caches ≡ Some pairs → Holds state (store_task state row ops pairs)
   store_task-law state row ops pairs there =
@@ -368,52 +370,70 @@ module _ (Law : State → Told → Type 0) (controls : Bool) {anywhere : Bool} (
   by_lane-law state (who.Lane lane at) outcome holds = holds lane at refl
   by_lane-law state (who.Handler worker in_phase number) outcome holds = tt
 
-  by_host-law : (state : State) (maker : Who) (outcome : Option Outcome) → HoldsIf state outcome → HoldsIf state (by_host maker outcome)
-  by_host-law state who.Host outcome holds = holds
-  by_host-law state (who.Lane lane at) outcome holds = tt
-  by_host-law state (who.Handler worker in_phase number) outcome holds = tt
+  by_host-law : (Held : State → Told → Type 0) (state : State) (maker : Who) (outcome : Option Outcome) → IfSome outcome (λ o. Held state o.told) → IfSome (by_host maker outcome) (λ o. Held state o.told)
+  by_host-law Held state who.Host outcome holds = holds
+  by_host-law Held state (who.Lane lane at) outcome holds = tt
+  by_host-law Held state (who.Handler worker in_phase number) outcome holds = tt
 
   add_all_by-law : (state : State) (maker : Who) (place : Place) (asked : CacheAddAll) (lane at : ℕ) → maker ≡ who.Lane lane at → Holds state (add_all_at state maker place asked)
   add_all_by-law state maker place asked lane at is = rw is (add_all_at-law state lane at place asked)
 
-  pub step-law : (state : State) (happened : Event) → (gives_control happened ≡ true → controls ≡ true) → HoldsIf state (step state happened)
+  whole-holds : (Whole : State → Told → Type 0) → ((state : State) (told : Told) → Law state told → Whole state told) → (state : State) (o : Option Outcome) → HoldsIf state o → IfSome o (λ outcome. Whole state outcome.told)
+  whole-holds Whole whole state None holds = tt
+  whole-holds Whole whole state (Some outcome) holds = whole state outcome.told holds
+
+  -- a law of whole events, where it follows of the other and holds of the events that move a worker on
+  pub step-law-beside : (Whole : State → Told → Type 0) → ((state : State) (told : Told) → Law state told → Whole state told) → IsMoveLaw Whole → (state : State) (happened : Event) → (gives_control happened ≡ true → controls ≡ true) → IfSome (step state happened) (λ outcome. Whole state outcome.told)
   unfolding step
-  step-law state (event.Open maker client url partition) may = by_lane-law state maker _ (λ lane at is. open_client-law (may refl) state client url partition)
-  step-law state (event.Close maker client) may = by_lane-law state maker _ (λ lane at is. close-law state client)
-  step-law state (event.Register maker asked) may = by_lane-law state maker _ (λ lane at is. register-law state maker asked)
-  step-law state (event.Update maker of) may = by_lane-law state maker _ (λ lane at is. update-law state maker of)
-  step-law state (event.SoftUpdate maker of) may = by_lane-law state maker _ (λ lane at is. soft_update-law state of)
-  step-law state (event.Unregister maker of) may = by_lane-law state maker _ (λ lane at is. unregister-law state maker of)
-  step-law state (event.Await maker of) may = await-law state maker of
-  step-law state (event.Ready maker client) may = by_lane-law state maker _ (λ lane at is. ready-law state client)
-  step-law state (event.Registration maker client url) may = by_lane-law state maker _ (λ lane at is. get_registration-law state client url)
-  step-law state (event.Registrations maker client) may = by_lane-law state maker _ (λ lane at is. get_registrations-law state client)
-  step-law state (event.SkipWaiting maker of place) may = by_lane-law state maker _ (λ lane at is. with_slot-law state of place _ (λ registration worker found. skip_waiting-law state worker.registration worker.number))
-  step-law state (event.Claim maker of place) may = by_lane-law state maker _ (λ lane at is. with_slot-law state of place _ (λ registration worker found. claim_of-law (may refl) state _ worker found))
-  step-law state (event.Begin maker client number) may = by_lane-law state maker _ (λ lane at is. begin-law state client number)
-  step-law state (event.End maker number) may = by_lane-law state maker _ (λ lane at is. end-law state number)
-  step-law state (event.CacheOpen maker place name) may = by_lane-law state maker _ (λ lane at is. with_key-law state place _ (open_cache-law state name))
-  step-law state (event.CacheHas maker place name) may = by_lane-law state maker _ (λ lane at is. with_key-law state place _ (λ key. nothing state))
-  step-law state (event.CacheDelete maker place name) may = by_lane-law state maker _ (λ lane at is. with_key-law state place _ (delete_cache-law state name))
-  step-law state (event.CacheKeys maker place) may = by_lane-law state maker _ (λ lane at is. with_key-law state place _ (λ key. nothing state))
-  step-law state (event.Forget maker place) may = by_lane-law state maker _ (λ lane at is. with_key-law state place _ (forget-law state))
-  step-law state (event.Match maker place asked) may = by_lane-law state maker _ (λ lane at is. with_key-law state place _ (match_request-law state place.at asked))
-  step-law state (event.MatchAll maker place asked) may = by_lane-law state maker _ (λ lane at is. with_key-law state place _ (query_cache-law state place.at asked))
-  step-law state (event.Keys maker place asked) may = by_lane-law state maker _ (λ lane at is. with_key-law state place _ (query_cache-law state place.at asked))
-  step-law state (event.Put maker place put) may = by_lane-law state maker _ (λ lane at is. with_key-law state place _ (put_response-law state place.at put))
-  step-law state (event.Delete maker place asked) may = by_lane-law state maker _ (λ lane at is. with_key-law state place _ (delete_request-law state place.at asked))
-  step-law state (event.Batch maker place asked) may = by_lane-law state maker _ (λ lane at is. with_key-law state place _ (batch_ops-law state place.at asked))
-  step-law state (event.AddAll maker place asked) may = by_lane-law state maker _ (add_all_by-law state maker place asked)
-  step-law state (event.PreloadEnable maker of) may = by_lane-law state maker _ (λ lane at is. with_named-law state of _ (λ row. preload_set-law state row true row.preload_value))
-  step-law state (event.PreloadDisable maker of) may = by_lane-law state maker _ (λ lane at is. with_named-law state of _ (λ row. preload_set-law state row false row.preload_value))
-  step-law state (event.PreloadValue maker of text) may = by_lane-law state maker _ (λ lane at is. with_named-law state of _ (λ row. preload_set-law state row row.preload text))
-  step-law state (event.PreloadState maker of) may = by_lane-law state maker _ (λ lane at is. with_named-law state of _ (λ row. nothing state))
-  step-law state (event.Call maker asked) may = make_call-law state maker asked may
-  step-law state (event.Run maker job) may = by_host-law state maker _ (run-law Law controls law state job)
-  step-law state (event.Fetched maker job line) may = by_host-law state maker _ (fetched-law Law controls law state job line)
-  step-law state (event.Evaluated maker job) may = by_host-law state maker _ (evaluated-law Law controls law state job)
-  step-law state (event.Installed maker job) may = by_host-law state maker _ (installed-law Law controls law state job)
-  step-law state (event.TryActivate maker registration) may = by_host-law state maker _ (tryactivate-law state registration)
-  step-law state (event.Activated maker worker) may = by_host-law state maker _ (activated-law state worker)
-  step-law state (event.Added maker task lines) may = by_host-law state maker _ (added-law state task lines)
-  step-law state (event.Restarted maker) may = tt
+  step-law-beside Whole whole moving state (event.Open maker client url partition) may = whole-holds Whole whole state _ (by_lane-law state maker _ (λ lane at is. open_client-law (may refl) state client url partition))
+  step-law-beside Whole whole moving state (event.Close maker client) may = whole-holds Whole whole state _ (by_lane-law state maker _ (λ lane at is. close-law state client))
+  step-law-beside Whole whole moving state (event.Register maker asked) may = whole-holds Whole whole state _ (by_lane-law state maker _ (λ lane at is. register-law state maker asked))
+  step-law-beside Whole whole moving state (event.Update maker of) may = whole-holds Whole whole state _ (by_lane-law state maker _ (λ lane at is. update-law state maker of))
+  step-law-beside Whole whole moving state (event.SoftUpdate maker of) may = whole-holds Whole whole state _ (by_lane-law state maker _ (λ lane at is. soft_update-law state of))
+  step-law-beside Whole whole moving state (event.Unregister maker of) may = whole-holds Whole whole state _ (by_lane-law state maker _ (λ lane at is. unregister-law state maker of))
+  step-law-beside Whole whole moving state (event.Await maker of) may = whole-holds Whole whole state _ (await-law state maker of)
+  step-law-beside Whole whole moving state (event.Ready maker client) may = whole-holds Whole whole state _ (by_lane-law state maker _ (λ lane at is. ready-law state client))
+  step-law-beside Whole whole moving state (event.Registration maker client url) may = whole-holds Whole whole state _ (by_lane-law state maker _ (λ lane at is. get_registration-law state client url))
+  step-law-beside Whole whole moving state (event.Registrations maker client) may = whole-holds Whole whole state _ (by_lane-law state maker _ (λ lane at is. get_registrations-law state client))
+  step-law-beside Whole whole moving state (event.SkipWaiting maker of place) may = whole-holds Whole whole state _ (by_lane-law state maker _ (λ lane at is. with_slot-law state of place _ (λ registration worker found. skip_waiting-law state worker.registration worker.number)))
+  step-law-beside Whole whole moving state (event.Claim maker of place) may = whole-holds Whole whole state _ (by_lane-law state maker _ (λ lane at is. with_slot-law state of place _ (λ registration worker found. claim_of-law (may refl) state _ worker found)))
+  step-law-beside Whole whole moving state (event.Begin maker client number) may = whole-holds Whole whole state _ (by_lane-law state maker _ (λ lane at is. begin-law state client number))
+  step-law-beside Whole whole moving state (event.End maker number) may = whole-holds Whole whole state _ (by_lane-law state maker _ (λ lane at is. end-law state number))
+  step-law-beside Whole whole moving state (event.CacheOpen maker place name) may = whole-holds Whole whole state _ (by_lane-law state maker _ (λ lane at is. with_key-law state place _ (open_cache-law state name)))
+  step-law-beside Whole whole moving state (event.CacheHas maker place name) may = whole-holds Whole whole state _ (by_lane-law state maker _ (λ lane at is. with_key-law state place _ (λ key. nothing state)))
+  step-law-beside Whole whole moving state (event.CacheDelete maker place name) may = whole-holds Whole whole state _ (by_lane-law state maker _ (λ lane at is. with_key-law state place _ (delete_cache-law state name)))
+  step-law-beside Whole whole moving state (event.CacheKeys maker place) may = whole-holds Whole whole state _ (by_lane-law state maker _ (λ lane at is. with_key-law state place _ (λ key. nothing state)))
+  step-law-beside Whole whole moving state (event.Forget maker place) may = whole-holds Whole whole state _ (by_lane-law state maker _ (λ lane at is. with_key-law state place _ (forget-law state)))
+  step-law-beside Whole whole moving state (event.Match maker place asked) may = whole-holds Whole whole state _ (by_lane-law state maker _ (λ lane at is. with_key-law state place _ (match_request-law state place.at asked)))
+  step-law-beside Whole whole moving state (event.MatchAll maker place asked) may = whole-holds Whole whole state _ (by_lane-law state maker _ (λ lane at is. with_key-law state place _ (query_cache-law state place.at asked)))
+  step-law-beside Whole whole moving state (event.Keys maker place asked) may = whole-holds Whole whole state _ (by_lane-law state maker _ (λ lane at is. with_key-law state place _ (query_cache-law state place.at asked)))
+  step-law-beside Whole whole moving state (event.Put maker place put) may = whole-holds Whole whole state _ (by_lane-law state maker _ (λ lane at is. with_key-law state place _ (put_response-law state place.at put)))
+  step-law-beside Whole whole moving state (event.Delete maker place asked) may = whole-holds Whole whole state _ (by_lane-law state maker _ (λ lane at is. with_key-law state place _ (delete_request-law state place.at asked)))
+  step-law-beside Whole whole moving state (event.Batch maker place asked) may = whole-holds Whole whole state _ (by_lane-law state maker _ (λ lane at is. with_key-law state place _ (batch_ops-law state place.at asked)))
+  step-law-beside Whole whole moving state (event.AddAll maker place asked) may = whole-holds Whole whole state _ (by_lane-law state maker _ (add_all_by-law state maker place asked))
+  step-law-beside Whole whole moving state (event.PreloadEnable maker of) may = whole-holds Whole whole state _ (by_lane-law state maker _ (λ lane at is. with_named-law state of _ (λ row. preload_set-law state row true row.preload_value)))
+  step-law-beside Whole whole moving state (event.PreloadDisable maker of) may = whole-holds Whole whole state _ (by_lane-law state maker _ (λ lane at is. with_named-law state of _ (λ row. preload_set-law state row false row.preload_value)))
+  step-law-beside Whole whole moving state (event.PreloadValue maker of text) may = whole-holds Whole whole state _ (by_lane-law state maker _ (λ lane at is. with_named-law state of _ (λ row. preload_set-law state row row.preload text)))
+  step-law-beside Whole whole moving state (event.PreloadState maker of) may = whole-holds Whole whole state _ (by_lane-law state maker _ (λ lane at is. with_named-law state of _ (λ row. nothing state)))
+  step-law-beside Whole whole moving state (event.Call maker asked) may = whole-holds Whole whole state _ (make_call-law state maker asked may)
+  step-law-beside Whole whole moving state (event.Run maker job) may = whole-holds Whole whole state _ (by_host-law Law state maker _ (run-law Law Own controls law state job))
+  step-law-beside Whole whole moving state (event.Fetched maker job line) may = whole-holds Whole whole state _ (by_host-law Law state maker _ (fetched-law Law Own controls law state job line))
+  step-law-beside Whole whole moving state (event.Evaluated maker job) may = by_host-law Whole state maker _ (moving.evaluating state job)
+  step-law-beside Whole whole moving state (event.Installed maker job) may = by_host-law Whole state maker _ (moving.installing state job)
+  step-law-beside Whole whole moving state (event.TryActivate maker registration) may = whole-holds Whole whole state _ (by_host-law Law state maker _ (tryactivate-law state registration))
+  step-law-beside Whole whole moving state (event.Activated maker worker) may = by_host-law Whole state maker _ (moving.activating state worker)
+  step-law-beside Whole whole moving state (event.Added maker task lines) may = whole-holds Whole whole state _ (by_host-law Law state maker _ (added-law state task lines))
+  step-law-beside Whole whole moving state (event.Restarted maker) may = tt
+
+module _ (Law : State → Told → Type 0) (controls : Bool) {anywhere : Bool} (law : IsLawWhere Law controls anywhere) where
+  activated-law : (state : State) (worker : Worker) (handler : Handler) → worker_row state worker.number ≡ Some worker → ended_handler state (λ in_phase. not (is_install in_phase)) worker ≡ Some handler → Law state (finish_activate state worker.registration worker.number)
+  unfolding finish_activate
+  activated-law state worker handler found ended =
+      law.activated state worker handler _ found ended (λ after. recheck-law Law law.rechecks after worker.registration)
+
+  pub step-law : (state : State) (happened : Event) → (gives_control happened ≡ true → controls ≡ true) → IfSome (step state happened) (λ outcome. Law state outcome.told)
+  step-law = step-law-beside Law Law controls law Law (λ state told holds. holds) (record {
+    evaluating = evaluated-law Law controls law;
+    installing = installed-law Law controls law;
+    activating = activated-by Law activated-law;
+  })

@@ -18,7 +18,7 @@ use Rattle.sw_data.specs.declared.rows.JobPhase.{JobPhase}
 use Rattle.sw_data.specs.declared.workers.Mode.{Mode}
 use Rattle.sw_data.specs.Addresses.{same_origin}
 use Rattle.sw_rules.specs.Jobs.{finish, gets_value, promise, resolve_and_finish, schedule, settle}
-use Rattle.sw_rules.specs.Installing.{ended_handler, evaluated, evaluated_worker, fetch_ended, fetched, fetched_of, fetched_script, install, install_ended, installed, is_same_script, job_worker, keep_script, reject_and_drop, script_fault}
+use Rattle.sw_rules.specs.Installing.{ended_handler, evaluated, evaluated_worker, fail_install, fetch_ended, fetched, fetched_of, fetched_script, finish_install, install, install_ended, installed, is_same_script, job_worker, keep_script, reject_and_drop, script_fault, throw}
 use Rattle.sw_rules.specs.Registering.{has_script, is_registered, may_run, register_refusal, rejected, run, run_allowed_register, run_job, run_register, run_unregister, run_update, scheduled_by, unregister_mapped}
 use Rattle.sw_rules.specs.Registrations.{clear, drop_registration, map_registration, new_registration, set_mode, try_clear, unmap}
 use Rattle.sw_rules.specs.Rows.{changed, in_phase, is_evaluating, is_fetching, is_install, is_installing, is_job, is_mapped, is_registration, is_mapped_to, job_row, mapped_registration}
@@ -26,7 +26,7 @@ use Rattle.sw_rules.specs.State.{State, Registration, Worker, Handler, of_job, v
 use Rattle.sw_rules.specs.Told.{Told, Outcome, followed, quiet}
 use Rattle.sw_laws.specs.Coherent.{is_there}
 use Rattle.sw_laws.proofs.Lists.{bound_holds, bytes_eq_same, by_option, by_test, find_changed, find_passes, length_pushed, mapped_holds}
-use Rattle.sw_laws.proofs.Split.{IsLawWhere, IsAt, IsInstalled, IsLeavingLaw, LeavesMap, may_end, may_finish, try_clear-law}
+use Rattle.sw_laws.proofs.Split.{IsLawBeside, IsLawWhere, IsAt, IsInstalled, IsLeavingLaw, LeavesMap, may_end, may_finish, try_clear-law}
 
 -- ---- look-ups along the chains
 
@@ -62,11 +62,11 @@ mode_may_end : (state : State) (registration job : ℕ) (mode : Mode) → may_en
 unfolding set_mode
 mode_may_end state registration job mode may = may
 
-mode_at : (state : State) (registration : ℕ) (mode : Mode) (row : JobRow) (own : ℕ) → IsAt state is_evaluating row own → IsAt (set_mode state registration mode).state is_evaluating row own
+pub mode_at : (state : State) (registration : ℕ) (mode : Mode) (row : JobRow) (own : ℕ) → IsAt state is_evaluating row own → IsAt (set_mode state registration mode).state is_evaluating row own
 unfolding set_mode
 mode_at state registration mode row own at = record { found = at.found; phase = at.phase; registered = at.registered }
 
-mode_made : (state : State) (registration : ℕ) (mode : Mode) (row : JobRow) (worker : Worker) → job_worker state row ≡ Some worker → job_worker (set_mode state registration mode).state row ≡ Some worker
+pub mode_made : (state : State) (registration : ℕ) (mode : Mode) (row : JobRow) (worker : Worker) → job_worker state row ≡ Some worker → job_worker (set_mode state registration mode).state row ≡ Some worker
 unfolding set_mode
 mode_made state registration mode row worker made = made
 
@@ -107,20 +107,73 @@ by_kind P job_kind.Register one two three is_one is_two is_three = is_one
 by_kind P job_kind.Update one two three is_one is_two is_three = is_two
 by_kind P job_kind.Unregister one two three is_one is_two is_three = is_three
 
--- ---- the events of jobs
+-- ---- the events of a job in a phase
 
-module _ (Law : State → Told → Type 0) (controls : Bool) {anywhere : Bool} (law : IsLawWhere Law controls anywhere) where
-  nothing : (state : State) → Law state (quiet state)
-  nothing = law.rechecks.nothing
-
-  further : (state : State) (told : Told) (next : State → Told) → Law state told → Law told.state (next told.state) → Law state (followed told next)
-  further = law.rechecks.further
-
+module _ (Law : State → Told → Type 0) where
   abbrev pub Holds : State → Outcome → Type 0
   Holds state outcome = Law state outcome.told
 
   abbrev pub HoldsIf : State → Option Outcome → Type 0
   HoldsIf state outcome = IfSome outcome (Holds state)
+
+  registered-law : (state : State) (test : JobPhase → Bool) (act : JobRow → ℕ → Option Outcome) (row : JobRow) (registration : Option ℕ) → row.registration ≡ registration
+      → job_row state row.job.number ≡ Some row → in_phase test row ≡ true
+      → ((row : JobRow) (registration : ℕ) → IsAt state test row registration → HoldsIf state (act row registration))
+      → HoldsIf state (option_and_then (act row) registration)
+  registered-law state test act row None is found here acts = tt
+  registered-law state test act row (Some registration) is found here acts = acts row registration (record { found = found; phase = here; registered = is })
+
+  -- what happens to a job in a phase, with its registration
+  at_phase-law : (state : State) (number : ℕ) (test : JobPhase → Bool) (act : JobRow → ℕ → Option Outcome) (found : Option JobRow) → job_row state number ≡ found
+      → ((row : JobRow) (registration : ℕ) → IsAt state test row registration → HoldsIf state (act row registration))
+      → HoldsIf state (option_and_then (λ row. option_and_then (act row) row.registration) (option_and_then (λ row. if in_phase test row then Some row else None) found))
+  at_phase-law state number test act None is acts = tt
+  at_phase-law state number test act (Some row) is acts =
+      by_test (λ o. HoldsIf state (option_and_then (λ (row : JobRow). option_and_then (act row) row.registration) o)) (in_phase test row) _ _
+      (λ here. registered-law state test act row row.registration refl (found_by_own state number row is) here acts)
+      (λ no_phase. tt)
+
+  evaluated_worker-by : ((state : State) (row : JobRow) (registration : ℕ) (worker : Worker) → IsAt state is_evaluating row registration → job_worker state row ≡ Some worker → Law state (throw state row.job.number registration worker.number))
+      → ((state : State) (row : JobRow) (registration : ℕ) (worker : Worker) → IsAt state is_evaluating row registration → job_worker state row ≡ Some worker → Law state (install state row.job registration worker.number))
+      → (state : State) (row : JobRow) (registration : ℕ) (worker : Worker) → IsAt state is_evaluating row registration → job_worker state row ≡ Some worker → Holds state (evaluated_worker state row.job registration worker)
+  evaluated_worker-by throwing beginning state row registration worker at made =
+      by_test (Holds state) worker.handlers.throws _ _
+      (λ throws. throwing state row registration worker at made)
+      (λ runs. beginning state row registration worker at made)
+
+  pub evaluated-by : ((state : State) (row : JobRow) (registration : ℕ) (worker : Worker) → IsAt state is_evaluating row registration → job_worker state row ≡ Some worker → Law state (throw state row.job.number registration worker.number))
+      → ((state : State) (row : JobRow) (registration : ℕ) (worker : Worker) → IsAt state is_evaluating row registration → job_worker state row ≡ Some worker → Law state (install state row.job registration worker.number))
+      → (state : State) (number : ℕ) → HoldsIf state (evaluated state number)
+  evaluated-by throwing beginning state number =
+      at_phase-law state number is_evaluating (λ row registration. option_map (evaluated_worker state row.job registration) (job_worker state row)) (job_row state number) refl
+      (λ row registration at. mapped_holds (Holds state) (evaluated_worker state row.job registration) (job_worker state row)
+      (λ worker made. evaluated_worker-by throwing beginning state row registration worker at made))
+
+  install_ended-by : ((state : State) (row : JobRow) (registration : ℕ) (worker : Worker) (handler : Handler) → IsInstalled state row registration worker handler → Law state (fail_install state row registration worker.number))
+      → ((state : State) (row : JobRow) (registration : ℕ) (worker : Worker) (handler : Handler) → IsInstalled state row registration worker handler → Law state (finish_install state row.job.number registration worker))
+      → (state : State) (row : JobRow) (registration : ℕ) (worker : Worker) (handler : Handler) → IsInstalled state row registration worker handler → Holds state (install_ended state row registration worker handler)
+  install_ended-by failing installing state row registration worker handler is =
+      by_test (Holds state) (worker.handlers.install_fails || handler.faulted) _ _
+      (λ fails. failing state row registration worker handler is)
+      (λ ends. installing state row registration worker handler is)
+
+  pub installed-by : ((state : State) (row : JobRow) (registration : ℕ) (worker : Worker) (handler : Handler) → IsInstalled state row registration worker handler → Law state (fail_install state row registration worker.number))
+      → ((state : State) (row : JobRow) (registration : ℕ) (worker : Worker) (handler : Handler) → IsInstalled state row registration worker handler → Law state (finish_install state row.job.number registration worker))
+      → (state : State) (number : ℕ) → HoldsIf state (installed state number)
+  installed-by failing installing state number =
+      at_phase-law state number is_installing (λ row registration. option_and_then (λ worker. option_map (install_ended state row registration worker) (ended_handler state is_install worker)) (job_worker state row)) (job_row state number) refl
+      (λ row registration at. bound_holds (Holds state) (λ worker. option_map (install_ended state row registration worker) (ended_handler state is_install worker)) (job_worker state row)
+      (λ worker made. mapped_holds (Holds state) (install_ended state row registration worker) (ended_handler state is_install worker)
+      (λ handler ended. install_ended-by failing installing state row registration worker handler (record { at = at; made = made; ended = ended }))))
+
+-- ---- the events of jobs
+
+module _ (Law Own : State → Told → Type 0) (controls : Bool) {anywhere : Bool} (law : IsLawBeside Law Own controls anywhere) where
+  nothing : (state : State) → Law state (quiet state)
+  nothing = law.rechecks.nothing
+
+  further : (state : State) (told : Told) (next : State → Told) → Law state told → Law told.state (next told.state) → Law state (followed told next)
+  further = law.rechecks.further
 
   pub rejected-law : (state : State) (who : Who) (why : Fault) → Law state (rejected state who why).told
   unfolding rejected
@@ -181,46 +234,46 @@ module _ (Law : State → Told → Type 0) (controls : Bool) {anywhere : Bool} (
   run_allowed_register-law : (state : State) (row : JobRow) → job_row state row.job.number ≡ Some row → may_run state row ≡ true → Law state (run_allowed_register state row.job).told
   unfolding run_allowed_register
   run_allowed_register-law state row is may =
-      by_option (Holds state) (mapped_registration state row.job.key row.job.scope) _ _
+      by_option (Holds Law state) (mapped_registration state row.job.key row.job.scope) _ _
       (λ none. further state _ _ (law.mapping state row.job none)
       (law.fetching (map_registration state row.job).state row (new_registration (length state.registrations) row.job) (mapped_same state row is) (mapped_may_run state row may) (mapped_new state row.job none)))
-      (λ found there. by_test (Holds state) (is_registered state row.job found) _ _
+      (λ found there. by_test (Holds Law state) (is_registered state row.job found) _ _
       (λ same. ended-law state row.job.number (settlement.Registration found.number) (run_may_end state row is may))
       (λ other. law.fetching state row found is may there))
 
   run_register-law : (state : State) (row : JobRow) → job_row state row.job.number ≡ Some row → may_run state row ≡ true → Law state (run_register state row.job).told
   unfolding run_register
   run_register-law state row is may =
-      by_option (Holds state) (register_refusal row.job) _ _
+      by_option (Holds Law state) (register_refusal row.job) _ _
       (λ none. run_allowed_register-law state row is may)
       (λ why there. ended-law state row.job.number _ (run_may_end state row is may))
 
   run_update-law : (state : State) (row : JobRow) → job_row state row.job.number ≡ Some row → may_run state row ≡ true → Law state (run_update state row.job).told
   unfolding run_update
   run_update-law state row is may =
-      by_option (Holds state) (mapped_registration state row.job.key row.job.scope) _ _
+      by_option (Holds Law state) (mapped_registration state row.job.key row.job.scope) _ _
       (λ none. ended-law state row.job.number _ (run_may_end state row is may))
-      (λ found there. by_test (Holds state) (has_script state row.job found) _ _
+      (λ found there. by_test (Holds Law state) (has_script state row.job found) _ _
       (λ same. law.fetching state row found is may there)
       (λ other. ended-law state row.job.number _ (run_may_end state row is may)))
 
   run_unregister-law : (state : State) (row : JobRow) → job_row state row.job.number ≡ Some row → may_run state row ≡ true → Law state (run_unregister state row.job).told
   unfolding run_unregister
   run_unregister-law state row is may =
-      by_test (Holds state) (same_origin row.job.scope row.job.referrer) _ _
-      (λ same. by_option (Holds state) (mapped_registration state row.job.key row.job.scope) _ _
+      by_test (Holds Law state) (same_origin row.job.scope row.job.referrer) _ _
+      (λ same. by_option (Holds Law state) (mapped_registration state row.job.key row.job.scope) _ _
       (λ none. ended-law state row.job.number _ (run_may_end state row is may))
       (λ found there. unregister_mapped-law state row found is may there))
       (λ other. ended-law state row.job.number _ (run_may_end state row is may))
 
-  run_job-law : (state : State) (row : JobRow) → job_row state row.job.number ≡ Some row → may_run state row ≡ true → Holds state (run_job state row.job)
+  run_job-law : (state : State) (row : JobRow) → job_row state row.job.number ≡ Some row → may_run state row ≡ true → Holds Law state (run_job state row.job)
   run_job-law state row is may =
-      by_kind (Holds state) row.job.what _ _ _ (run_register-law state row is may) (run_update-law state row is may) (run_unregister-law state row is may)
+      by_kind (Holds Law state) row.job.what _ _ _ (run_register-law state row is may) (run_update-law state row is may) (run_unregister-law state row is may)
 
-  pub run-law : (state : State) (number : ℕ) → HoldsIf state (run state number)
+  pub run-law : (state : State) (number : ℕ) → HoldsIf Law state (run state number)
   run-law state number =
-      by_option (HoldsIf state) (job_row state number) _ _ (λ none. tt)
-      (λ row found. by_test (HoldsIf state) (may_run state row) _ _
+      by_option (HoldsIf Law state) (job_row state number) _ _ (λ none. tt)
+      (λ row found. by_test (HoldsIf Law state) (may_run state row) _ _
       (λ may. run_job-law state row (found_by_own state number row found) may) (λ no_run. tt))
 
   -- ---- the fetch of a script
@@ -231,73 +284,36 @@ module _ (Law : State → Told → Type 0) (controls : Bool) {anywhere : Bool} (
       further state (set_mode state registration job.mode) _ (law.moding state registration job.mode)
       (ended-law (set_mode state registration job.mode).state job.number _ (mode_may_end state registration job.number job.mode may))
 
-  fetched_script-law : (state : State) (row : JobRow) (registration : ℕ) (script : Fetched) → IsAt state is_fetching row registration → Holds state (fetched_script state row registration script)
+  fetched_script-law : (state : State) (row : JobRow) (registration : ℕ) (script : Fetched) → IsAt state is_fetching row registration → Holds Law state (fetched_script state row registration script)
   unfolding fetched_script
   fetched_script-law state row registration script at =
-      by_option (Holds state) (script_fault row.job script) _ _
-      (λ none. by_test (Holds state) (is_same_script state row.job registration script.response.body) _ _
+      by_option (Holds Law state) (script_fault row.job script) _ _
+      (λ none. by_test (Holds Law state) (is_same_script state row.job registration script.response.body) _ _
       (λ same. keep_script-law state row.job registration (fetching_may_end state row registration at))
       (λ other. law.making state row registration script at))
       (λ why there. leaving.rejecting state row registration why at)
 
-  fetch_ended-law : (state : State) (row : JobRow) (script : Option Fetched) (registration : ℕ) → IsAt state is_fetching row registration → Holds state (fetch_ended state row script registration)
+  fetch_ended-law : (state : State) (row : JobRow) (script : Option Fetched) (registration : ℕ) → IsAt state is_fetching row registration → Holds Law state (fetch_ended state row script registration)
   fetch_ended-law state row None registration at =
       leaving.rejecting state row registration _ at
   fetch_ended-law state row (Some script) registration at = fetched_script-law state row registration script at
 
-  registered-law : (state : State) (test : JobPhase → Bool) (act : JobRow → ℕ → Option Outcome) (row : JobRow) (registration : Option ℕ) → row.registration ≡ registration
-      → job_row state row.job.number ≡ Some row → in_phase test row ≡ true
-      → ((row : JobRow) (registration : ℕ) → IsAt state test row registration → HoldsIf state (act row registration))
-      → HoldsIf state (option_and_then (act row) registration)
-  registered-law state test act row None is found here acts = tt
-  registered-law state test act row (Some registration) is found here acts = acts row registration (record { found = found; phase = here; registered = is })
-
-  -- what happens to a job in a phase, with its registration
-  at_phase-law : (state : State) (number : ℕ) (test : JobPhase → Bool) (act : JobRow → ℕ → Option Outcome) (found : Option JobRow) → job_row state number ≡ found
-      → ((row : JobRow) (registration : ℕ) → IsAt state test row registration → HoldsIf state (act row registration))
-      → HoldsIf state (option_and_then (λ row. option_and_then (act row) row.registration) (option_and_then (λ row. if in_phase test row then Some row else None) found))
-  at_phase-law state number test act None is acts = tt
-  at_phase-law state number test act (Some row) is acts =
-      by_test (λ o. HoldsIf state (option_and_then (λ (row : JobRow). option_and_then (act row) row.registration) o)) (in_phase test row) _ _
-      (λ here. registered-law state test act row row.registration refl (found_by_own state number row is) here acts)
-      (λ no_phase. tt)
-
-  pub fetched-law : (state : State) (number : ℕ) (line : Option FetchLine) → HoldsIf state (fetched state number line)
+  pub fetched-law : (state : State) (number : ℕ) (line : Option FetchLine) → HoldsIf Law state (fetched state number line)
   fetched-law state number line =
-      at_phase-law state number is_fetching (λ row registration. Some (fetch_ended state row (fetched_of line) registration)) (job_row state number) refl
+      at_phase-law Law state number is_fetching (λ row registration. Some (fetch_ended state row (fetched_of line) registration)) (job_row state number) refl
       (λ row registration at. fetch_ended-law state row (fetched_of line) registration at)
 
+module _ (Law : State → Told → Type 0) (controls : Bool) {anywhere : Bool} (law : IsLawWhere Law controls anywhere) where
   -- ---- the evaluation of a script
 
   install-law : (state : State) (row : JobRow) (registration : ℕ) (worker : Worker) → IsAt state is_evaluating row registration → job_worker state row ≡ Some worker → Law state (install state row.job registration worker.number)
   unfolding install
   install-law state row registration worker at made =
-      further state (set_mode state registration row.job.mode) _ (law.moding state registration row.job.mode)
+      law.rechecks.further state (set_mode state registration row.job.mode) _ (law.moding state registration row.job.mode)
       (law.beginning (set_mode state registration row.job.mode).state row registration worker (mode_at state registration row.job.mode row registration at) (mode_made state registration row.job.mode row worker made))
 
-  evaluated_worker-law : (state : State) (row : JobRow) (registration : ℕ) (worker : Worker) → IsAt state is_evaluating row registration → job_worker state row ≡ Some worker → Holds state (evaluated_worker state row.job registration worker)
-  evaluated_worker-law state row registration worker at made =
-      by_test (Holds state) worker.handlers.throws _ _
-      (λ throws. law.throwing state row registration worker at made)
-      (λ runs. install-law state row registration worker at made)
+  pub evaluated-law : (state : State) (number : ℕ) → HoldsIf Law state (evaluated state number)
+  evaluated-law = evaluated-by Law law.throwing install-law
 
-  pub evaluated-law : (state : State) (number : ℕ) → HoldsIf state (evaluated state number)
-  evaluated-law state number =
-      at_phase-law state number is_evaluating (λ row registration. option_map (evaluated_worker state row.job registration) (job_worker state row)) (job_row state number) refl
-      (λ row registration at. mapped_holds (Holds state) (evaluated_worker state row.job registration) (job_worker state row)
-      (λ worker made. evaluated_worker-law state row registration worker at made))
-
-  -- ---- the end of an install handler
-
-  install_ended-law : (state : State) (row : JobRow) (registration : ℕ) (worker : Worker) (handler : Handler) → IsInstalled state row registration worker handler → Holds state (install_ended state row registration worker handler)
-  install_ended-law state row registration worker handler is =
-      by_test (Holds state) (worker.handlers.install_fails || handler.faulted) _ _
-      (λ fails. law.failing state row registration worker handler is)
-      (λ ends. law.installing state row registration worker handler is)
-
-  pub installed-law : (state : State) (number : ℕ) → HoldsIf state (installed state number)
-  installed-law state number =
-      at_phase-law state number is_installing (λ row registration. option_and_then (λ worker. option_map (install_ended state row registration worker) (ended_handler state is_install worker)) (job_worker state row)) (job_row state number) refl
-      (λ row registration at. bound_holds (Holds state) (λ worker. option_map (install_ended state row registration worker) (ended_handler state is_install worker)) (job_worker state row)
-      (λ worker made. mapped_holds (Holds state) (install_ended state row registration worker) (ended_handler state is_install worker)
-      (λ handler ended. install_ended-law state row registration worker handler (record { at = at; made = made; ended = ended }))))
+  pub installed-law : (state : State) (number : ℕ) → HoldsIf Law state (installed state number)
+  installed-law = installed-by Law law.failing law.installing

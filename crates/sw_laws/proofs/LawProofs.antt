@@ -53,5 +53,7 @@ settles_once = record {
 pub has_slots : HasSlots
 has_slots = record {
   slots = λ base history legal. (after-coherent base history legal.made).workers.slots;
-  states = λ base history happened number row legal found. (step_goes (after base history) happened (after-coherent base history legal.made)).workers number row found;
+  states = λ base history happened number row legal found.
+      let moved = (step_goes (after base history) happened (after-coherent base history legal.made)).workers number row found in
+      record { now = moved.now; found = moved.found; registration = moved.registration; state = moved.state };
 }

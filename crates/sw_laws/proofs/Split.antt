@@ -1,6 +1,6 @@
 -- The split over helpers and events, made once for all laws: a law of a state and of what follows it holds of each
 -- event, if it holds of each least step. First what a law has to say, and what happens where a registration is left.
-use Rattle.std.proofs.Common.{◌≡◌, ℕ, Bool, true, false, not, ◌&&◌, ◌==◌, List, length, Some, None, Ok, arith}
+use Rattle.std.proofs.Common.{◌≡◌, ℕ, Bool, true, false, not, ◌&&◌, ◌==◌, List, length, Some, None, Ok, IfSome, arith}
 use Rattle.std.specs.Prelude.{option_and_then, is_none, is_some, map}
 use Rattle.std.specs.Option.{option_map_or}
 use Rattle.sw_data.specs.declared.answers.Fault.{Fault}
@@ -15,12 +15,12 @@ use Rattle.sw_data.specs.declared.rows.Job.{Job}
 use Rattle.sw_data.specs.declared.rows.JobPhase.{JobPhase}
 use Rattle.sw_data.specs.declared.rows.JobRow.{JobRow}
 use Rattle.sw_data.specs.declared.workers.Mode.{Mode}
-use Rattle.sw_rules.specs.Activating.{become_activated, is_owed, paid}
+use Rattle.sw_rules.specs.Activating.{activated, become_activated, is_owed, paid}
 use Rattle.sw_rules.specs.Batch.{batch}
 use Rattle.sw_rules.specs.Caching.{add_cache, add_task, carry_out, drop_cache, forget_key, is_busy, pairs_of, settle_task}
 use Rattle.sw_rules.specs.Calls.{note_call}
 use Rattle.sw_rules.specs.Clients.{add_client, add_event, claim_clients, flagged, leave, new_client, remove_event}
-use Rattle.sw_rules.specs.Installing.{begin_install, end_handler, ended_handler, fail_install, finish_install, job_worker, make_worker, reject_and_drop, tell_update, throw}
+use Rattle.sw_rules.specs.Installing.{begin_install, end_handler, ended_handler, evaluated, fail_install, finish_install, installed, job_worker, make_worker, reject_and_drop, tell_update, throw}
 use Rattle.sw_rules.specs.Jobs.{finish, promise, schedule, settle}
 use Rattle.sw_rules.specs.Matching.{Pair}
 use Rattle.sw_rules.specs.Preloading.{set_preload}
@@ -109,9 +109,9 @@ GetsPreload true Law = (state : State) (registration : ℕ) (on : Bool) (text : 
 GetsPreload false Law = (state : State) (registration : ℕ) (on : Bool) (text : List ℕ) → is_some (active_worker state registration) ≡ true → Law state (set_preload state registration on text)
 
 -- a law of all events: it holds of each least step, under the tests under which the step is taken; what gives a client
--- a controller that it hadn't is asked for only where that counts, and a registration leaves the map and gets a preload
--- anywhere or only as the events have it
-pub record IsLawWhere (Law : State → Told → Type 0) (controls anywhere : Bool) : Type 0 where
+-- a controller that it hadn't is asked for only where that counts, a registration leaves the map and gets a preload
+-- anywhere or only as the events have it, and of what moves a worker on another law is asked
+pub record IsLawBeside (Law Own : State → Told → Type 0) (controls anywhere : Bool) : Type 0 where
   pub rechecks : IsRecheckLaw Law
   pub scheduling : (state : State) (job : Job) → job.number ≡ length state.jobs → Law state (schedule state job)
   pub promising : (state : State) (who : Who) (awaited : Awaited) → is_there state.jobs state.tasks awaited ≡ true → Law state (promise state who awaited)
@@ -125,12 +125,12 @@ pub record IsLawWhere (Law : State → Told → Type 0) (controls anywhere : Boo
   pub making : (state : State) (row : JobRow) (registration : ℕ) (fetched : Fetched) → IsAt state is_fetching row registration → Law state (make_worker state row registration fetched)
   pub throwing : (state : State) (row : JobRow) (registration : ℕ) (worker : Worker) → IsAt state is_evaluating row registration → job_worker state row ≡ Some worker → Law state (throw state row.job.number registration worker.number)
   pub beginning : (state : State) (row : JobRow) (registration : ℕ) (worker : Worker) → IsAt state is_evaluating row registration → job_worker state row ≡ Some worker
-      → Law state (followed (begin_install state row.job.number registration worker.number) (λ begun. followed (settle begun row.job.number (settlement.Registration registration)) (λ settled. tell_update settled registration)))
+      → Own state (followed (begin_install state row.job.number registration worker.number) (λ begun. followed (settle begun row.job.number (settlement.Registration registration)) (λ settled. tell_update settled registration)))
   pub failing : (state : State) (row : JobRow) (registration : ℕ) (worker : Worker) (handler : Handler) → IsInstalled state row registration worker handler → Law state (fail_install state row registration worker.number)
-  pub installing : (state : State) (row : JobRow) (registration : ℕ) (worker : Worker) (handler : Handler) → IsInstalled state row registration worker handler → Law state (finish_install state row.job.number registration worker)
+  pub installing : (state : State) (row : JobRow) (registration : ℕ) (worker : Worker) (handler : Handler) → IsInstalled state row registration worker handler → Own state (finish_install state row.job.number registration worker)
   pub paying : (state : State) (registration : ℕ) (told : Told) → is_owed state registration ≡ true → Law (paid registration state) told → Law state told
   pub activated : (state : State) (worker : Worker) (handler : Handler) (next : State → Told) → worker_row state worker.number ≡ Some worker → ended_handler state (λ phase. not (is_install phase)) worker ≡ Some handler → ((after : State) → Law after (next after))
-      → Law state (followed (end_handler state worker.number) (λ ended. followed (become_activated ended worker.registration worker.number) next))
+      → Own state (followed (end_handler state worker.number) (λ ended. followed (become_activated ended worker.registration worker.number) next))
   pub opening : controls ≡ true → (state : State) (number : ℕ) (key url : List ℕ) → is_some (client_row state number) ≡ false → Law state (add_client state (new_client state number key url))
   pub closing : (state : State) (number : ℕ) → Law state (leave state number)
   pub flagging : (state : State) (worker : ℕ) → Law state (quiet (flagged worker state))
@@ -147,6 +147,16 @@ pub record IsLawWhere (Law : State → Told → Type 0) (controls anywhere : Boo
   pub answering : (state : State) (number : ℕ) (result : Settlement) (faulted : Bool) → Law state (settle_task state number result faulted)
   pub noting : (state : State) (worker : ℕ) (faulted : Bool) → Law state (note_call state worker faulted)
 
+-- a law that is asked of all steps alike
+abbrev pub IsLawWhere : (State → Told → Type 0) → Bool → Bool → Type 0
+IsLawWhere Law controls anywhere = IsLawBeside Law Law controls anywhere
+
 -- a law that holds of a registration which leaves the map or gets a preload anywhere
 abbrev pub IsLaw : (State → Told → Type 0) → Bool → Type 0
 IsLaw Law controls = IsLawWhere Law controls true
+
+-- a law of the three events that move a worker on
+pub record IsMoveLaw (Law : State → Told → Type 0) : Type 0 where
+  pub evaluating : (state : State) (number : ℕ) → IfSome (evaluated state number) (λ outcome. Law state outcome.told)
+  pub installing : (state : State) (number : ℕ) → IfSome (installed state number) (λ outcome. Law state outcome.told)
+  pub activating : (state : State) (number : ℕ) → IfSome (activated state number) (λ outcome. Law state outcome.told)

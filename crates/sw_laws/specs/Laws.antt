@@ -1,5 +1,5 @@
 -- Laws of every legal history, each the clause of the call of `sw_laws::laws` that has its name.
-use Rattle.std.specs.Prelude.{◌≡◌, ℕ, suc, ◌≤◌, true, List, [], ◌∷◌, ◌++◌, take, filter, find, is_none, is_some, Option, Some, option_and_then}
+use Rattle.std.specs.Prelude.{◌≡◌, ◌⊎◌, ℕ, suc, true, List, [], ◌∷◌, ◌++◌, take, filter, find, is_none, is_some, Option, Some, option_and_then}
 use Rattle.sw_data.specs.declared.answers.Settlement.{Settlement}
 use Rattle.sw_data.specs.declared.events.Event.{Event}
 use Rattle.sw_data.specs.declared.histories.Entry.{Entry}
@@ -54,21 +54,25 @@ pub record RestartsOnce : Type 0 where
 abbrev pub settled_value : State → ℕ → Option Settlement
 settled_value state job = option_and_then (λ row. row.settled) (job_row state job)
 
--- how far a worker has come; a redundant one has come to its end
-abbrev pub how_far : WorkerState → ℕ
-how_far worker_state.Parsed = 0
-how_far worker_state.Installing = 1
-how_far worker_state.Installed = 2
-how_far worker_state.Activating = 3
-how_far worker_state.Activated = 4
-how_far worker_state.Redundant = 5
+-- the state behind this one (Service Workers, "state" of a service worker); behind a redundant one there is none
+abbrev pub next_state : WorkerState → WorkerState
+next_state worker_state.Parsed = worker_state.Installing
+next_state worker_state.Installing = worker_state.Installed
+next_state worker_state.Installed = worker_state.Activating
+next_state worker_state.Activating = worker_state.Activated
+next_state worker_state.Activated = worker_state.Redundant
+next_state worker_state.Redundant = worker_state.Redundant
 
--- a worker is still there, of the same registration, and has gone no way back
+-- a worker's state stays, goes on to the next one, or becomes redundant
+abbrev pub GoesOnTo : WorkerState → WorkerState → Type 0
+GoesOnTo old new = (new ≡ old) ⊎ ((new ≡ next_state old) ⊎ (new ≡ worker_state.Redundant))
+
+-- a worker is still there, of the same registration, and its state stays, goes on to the next one, or becomes redundant
 pub record HasGoneOn (before : Worker) (workers : List Worker) (number : ℕ) : Type 0 where
   pub now : Worker
   pub found : find (is_worker number) workers ≡ Some now
   pub registration : now.registration ≡ before.registration
-  pub state : how_far before.state ≤ how_far now.state
+  pub state : GoesOnTo before.state now.state
 
 -- own: a promise settles at most once: the value that it has it keeps; and a job that joined another has that one's value
 pub record SettlesOnce : Type 0 where
@@ -79,7 +83,8 @@ pub record SettlesOnce : Type 0 where
       → Legal base history → job_row (after base history) job ≡ Some row → row.leader ≡ Some leader
       → settled_value (after base history) leader ≡ row.settled
 
--- own: a registration has at most one worker in each slot, and no worker's state goes back
+-- own: a registration has at most one worker in each slot, and each event leaves a worker's state, moves it to the next
+-- one, or makes it redundant
 pub record HasSlots : Type 0 where
   pub slots : (base : Kept) (history : List Entry)
       → Legal base history → apart share_slot (after base history).workers ≡ true

@@ -29,8 +29,8 @@ pub fn restarts_are_idempotent()
     ensures { RestartsOnce }
 {}
 
-/// A registration has at most one installing, one waiting and one active worker, and no event moves a worker's state
-/// back.
+/// A registration has at most one installing, one waiting and one active worker, and each event leaves a worker's state,
+/// moves it to the next one, or makes it redundant.
 #[tactic(auto, using(crate::proofs::LawProofs::has_slots))]
 pub fn slots_hold_one_worker()
     ensures { HasSlots }

@@ -1,0 +1,127 @@
+use crate::{AddFault, Clients, NoClient};
+use std::alloc::Global;
+use std::test::Fail;
+use sw_data::{NoMemory, Text};
+
+fn open(
+    alloc: Global,
+    clients: &mut Clients,
+    number: u32,
+    controller: Option<(u32, u8)>,
+) -> Result<Option<AddFault>, NoMemory> {
+    let controller = match controller {
+        Some((worker, registration)) => {
+            let registration = u32::from(registration);
+            clients.know(registration + 1)?;
+            Some((worker, registration))
+        }
+        None => None,
+    };
+    let url = Text::of(alloc, "https://a.test/x")?;
+    let key = Text::of(alloc, "https://a.test")?;
+    match clients.add_row(alloc, number, url, key, true, controller) {
+        Ok(row) => {
+            clients.add_put(row);
+            Ok(None)
+        }
+        Err(fault) => Ok(Some(fault)),
+    }
+}
+
+// The numbers of the clients, in order of opening.
+fn numbers(alloc: Global, clients: &Clients) -> Result<Vec<u32>, NoMemory> {
+    let mut numbers = Vec::new(alloc);
+    for place in 0..clients.len() {
+        if let Some(row) = clients.at(place) {
+            numbers.push(row.number)?;
+        }
+    }
+    Ok(numbers)
+}
+
+// Five clients, of two registrations.
+fn five(alloc: Global) -> Result<Clients, NoMemory> {
+    let mut clients = Clients::new(alloc);
+    for (number, controller) in [
+        (7, Some((10, 0))),
+        (3, Some((20, 1))),
+        (9, None),
+        (1, Some((11, 0))),
+        (4, Some((20, 1))),
+    ] {
+        open(alloc, &mut clients, number, controller)?;
+    }
+    Ok(clients)
+}
+
+// How many clients use the first three registrations.
+fn users(clients: &Clients) -> (u32, u32, u32) {
+    (clients.users(0), clients.users(1), clients.users(2))
+}
+
+#[test]
+fn opens_clients_in_order(rt: HostRuntime) -> Result<(), Fail> {
+    let alloc = rt.alloc();
+    let mut clients = five(alloc)?;
+    let refused = open(alloc, &mut clients, 9, None)?;
+    assert_eq!(rt; refused, Some(AddFault::InUse));
+    assert_eq!(rt; users(&clients), (2, 2, 0));
+    let order = numbers(alloc, &clients)?;
+    assert_eq!(rt; order.as_slice(), [7, 3, 9, 1, 4].as_slice());
+    Ok(())
+}
+
+#[test]
+fn removes_a_client_in_the_middle(rt: HostRuntime) -> Result<(), Fail> {
+    let alloc = rt.alloc();
+    let mut clients = five(alloc)?;
+    assert_eq!(rt; clients.remove(3), Ok(()));
+    assert_eq!(rt; clients.remove(3), Err(NoClient));
+    assert_eq!(rt; users(&clients), (2, 1, 0));
+    open(alloc, &mut clients, 3, Some((30, 2)))?;
+    assert_eq!(rt; users(&clients), (2, 1, 1));
+    let order = numbers(alloc, &clients)?;
+    assert_eq!(rt; order.as_slice(), [7, 9, 1, 4, 3].as_slice());
+    Ok(())
+}
+
+#[test]
+fn moves_a_client_to_another_registration(rt: HostRuntime) -> Result<(), Fail> {
+    let alloc = rt.alloc();
+    let mut clients = five(alloc)?;
+    clients.know(2)?;
+    assert_eq!(rt; clients.set_controller(1, (21, 1)), Ok(()));
+    assert_eq!(rt; users(&clients), (1, 3, 0));
+    assert_eq!(rt; clients.set_controller(4, (22, 1)), Ok(()));
+    assert_eq!(rt; users(&clients), (1, 3, 0));
+    assert_eq!(rt; clients.set_controller(5, (22, 1)), Err(NoClient));
+    let controller = clients.row(1).and_then(|row| row.controller);
+    assert_eq!(rt; controller, Some(21));
+    Ok(())
+}
+
+const MANY: u32 = 65_536;
+
+#[test]
+fn adds_and_removes_many_clients(rt: HostRuntime) -> Result<(), Fail> {
+    let alloc = rt.alloc();
+    let mut clients = Clients::new(alloc);
+    for number in 0..MANY {
+        let controller = if number % 3 == 0 {
+            None
+        } else {
+            Some((number, (number % 3) as u8))
+        };
+        assert_eq!(rt; open(alloc, &mut clients, number, controller)?, None);
+    }
+    assert_eq!(rt; clients.len(), MANY);
+    assert_eq!(rt; clients.users(1), 21_845);
+    assert_eq!(rt; clients.users(2), 21_845);
+    for number in (0..MANY).rev() {
+        assert_eq!(rt; clients.remove(number), Ok(()));
+    }
+    assert_eq!(rt; clients.len(), 0);
+    assert_eq!(rt; clients.users(1), 0);
+    assert_eq!(rt; clients.users(2), 0);
+    Ok(())
+}
