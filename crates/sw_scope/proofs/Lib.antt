@@ -1,2 +1,4 @@
 pub mod Counting
 pub mod Entries
+pub mod LawLemmas
+pub mod Longest

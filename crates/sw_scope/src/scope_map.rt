@@ -190,6 +190,7 @@ impl ScopeMap {
 
     /// The registration of the longest scope of this key that the address starts with. Its steps are at most the distinct
     /// lengths of the key's scopes that aren't greater than the address's length. It takes no memory.
+    #[tactic(auto, using(crate::proofs::Longest::by_lengths))]
     pub fn longest<L: Ledger>(
         &self,
         key: &Text,
