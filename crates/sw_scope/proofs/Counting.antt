@@ -1,5 +1,5 @@
 -- The counted lengths after one more scope, and after one less.
-use Rattle.std.proofs.Common.{◌≡◌, ◌∙◌, ◌<◌, ◌≤◌, ◌+◌, ◌-◌, ◌==◌, ℕ, suc, Bool, true, false, List, [], ◌∷◌, length, nat_lt, bytes_eq, Option, Some, None, slice_index_or, slice_set, refl, sym, ap, subst, arith, if◌then◌else◌}
+use Rattle.std.proofs.Common.{◌≡◌, ◌∙◌, ◌<◌, ◌≤◌, ◌+◌, ◌-◌, ℕ, true, false, List, [], ◌∷◌, length, bytes_eq, Some, None, slice_index_or, slice_set, refl, sym, ap, arith}
 use Rattle.std.specs.Prelude.{insert, remove}
 use Rattle.std.proofs.lemmas.Bool.Decides.{nat_tests}
 use Rattle.std.specs.Map.{lookup, remove_entry}
@@ -103,28 +103,28 @@ module _ (counted : List Counted) (entries : List (List ℕ × ℕ)) (scope : Li
     falling = falls_more (is.bound + length scope + 1) (length scope) counted (omega arith)
         (falls_below is.bound (is.bound + length scope + 1) counted (omega arith) is.falling);
     exact = λ n. more_of is.bound (length scope) n counted is.falling
-        ∙ (ap (λ k. k + one_at (length scope) n) (is.exact n) ∙ sym (entries_put scope n id entries absent))
+        ∙ (ap (λ k. k + one_at (length scope) n) (is.exact n) ∙ sym (entries_put scope n id entries absent));
   }
 
   pub counted_kept : (id before : ℕ) → lookup (bytes_eq scope) entries ≡ Some before → IsCounted counted (insert_entry bytes_eq entries scope id)
   counted_kept id before there = record {
     bound = is.bound;
     falling = is.falling;
-    exact = λ n. is.exact n ∙ sym (entries_kept scope n id before entries there)
+    exact = λ n. is.exact n ∙ sym (entries_kept scope n id before entries there);
   }
 
   pub counted_removed : (before : ℕ) → lookup (bytes_eq scope) entries ≡ Some before
       → IsCounted (one_less counted (length scope)) (remove_entry (bytes_eq scope) entries)
   counted_removed before there =
       let own : entries_of (remove_entry (bytes_eq scope) entries) (length scope) + one_at (length scope) (length scope) ≡ entries_of entries (length scope)
-          = entries_removed scope (length scope) before entries there in
+      = entries_removed scope (length scope) before entries there in
       let exact = is.exact (length scope) in
       let one : one_at (length scope) (length scope) ≡ 1 = grind (arith, nat_tests) in
       let some : 0 < scopes_of counted (length scope) = omega (arith, own, exact, one) in
       record {
         bound = is.bound;
         falling = falls_less is.bound (length scope) counted is.falling;
-        exact = λ n. by n (less_of is.bound (length scope) n counted is.falling some) (entries_removed scope n before entries there) (is.exact n)
+        exact = λ n. by n (less_of is.bound (length scope) n counted is.falling some) (entries_removed scope n before entries there) (is.exact n);
       }
     where
       by : (n : ℕ) → scopes_of (one_less counted (length scope)) n + one_at (length scope) n ≡ scopes_of counted n

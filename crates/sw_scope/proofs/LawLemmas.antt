@@ -1,13 +1,13 @@
 -- The laws of the map of scopes.
-use Rattle.std.proofs.Common.{◌≡◌, ◌∙◌, ◌⊎◌, inl, inr, ⊎_elim, ◌<◌, ◌≤◌, ◌+◌, ◌-◌, ◌==◌, ◌&&◌, min, ℕ, zero, suc, Bool, true, false, List, [], ◌∷◌, length, take, nat_lt, bytes_eq, filter, fold, find, option_map, is_some, Option, Some, None, refl, sym, ap, subst, arith, length-take, if◌then◌else◌}
+use Rattle.std.proofs.Common.{◌≡◌, ◌∙◌, ◌⊎◌, inl, inr, ⊎_elim, ◌<◌, ◌≤◌, ◌==◌, ℕ, zero, suc, Bool, true, false, List, [], ◌∷◌, length, take, nat_lt, bytes_eq, filter, fold, option_map, is_some, Option, Some, None, refl, sym, ap, subst, arith, length-take, if◌then◌else◌}
 use Rattle.std.proofs.lemmas.Bool.{and_parts}
 use Rattle.std.proofs.lemmas.Bool.Decides.{nat_tests}
 use Rattle.std.specs.Cmp.Lexicographic.{bytes_decides}
 use Rattle.std.specs.Map.{lookup}
-use Rattle.std.specs.Option.{IsSome, option_or}
+use Rattle.std.specs.Option.{IsSome}
 use Rattle.sw_rules.specs.Matching.{Scope, holds_address, longer, longest}
-use Rattle.sw_scope.specs.Laws.{LengthsAreOfScopes, LongestIsTheStandards}
-use Rattle.sw_scope.specs.Scopes.{Scopes, has_length, is_scope, longest_at, longest_front, maps, number_in, own_scopes}
+use Rattle.sw_scope.specs.Laws.{LengthsAreOfScopes, LongestIsTheStandards, OneLengthIsOneStep}
+use Rattle.sw_scope.specs.Scopes.{has_length, is_scope, longest_at, longest_front, number_in, own_scopes, passing_to}
 
 -- ---- the longest front goes by the fronts alone
 
@@ -201,7 +201,38 @@ module _ (n : ℕ) where
   mapped_of (entry ∷ entries) has = mapped_by entry entries (mapped_of entries) has (length entry.0 == n) refl
 
 pub lengths_are : LengthsAreOfScopes
-lengths_are scopes key n =
-    (mapped_of n (own_scopes scopes key).entries,
-    λ mapped. subst (λ m. has_length (own_scopes scopes key).entries m ≡ true) mapped.1
-    (length_of mapped.0 (own_scopes scopes key).entries mapped.2))
+lengths_are scopes key n = (
+  mapped_of n (own_scopes scopes key).entries,
+  λ mapped. subst (λ m. has_length (own_scopes scopes key).entries m ≡ true) mapped.1
+      (length_of mapped.0 (own_scopes scopes key).entries mapped.2),
+)
+
+-- ---- one length
+
+module _ (test : ℕ → Bool) where
+  passing_none : (m : ℕ) → ((k : ℕ) → k ≤ m → test k ≡ false) → passing_to test m ≡ []
+  passing_none zero none = let no = none zero (omega arith) in grind (arith, no)
+  passing_none (suc m) none =
+      let no = none (suc m) (omega arith) in
+      let later = passing_none m (λ k l. none k (omega (arith, l))) in grind (arith, no, later)
+
+  fails_at : (n : ℕ) → ((k : ℕ) → test k ≡ true → k ≡ n) → (k : ℕ) → k < n → (passes : Bool) → test k ≡ passes → test k ≡ false
+  fails_at n only k below true is = absurd (let same = only k is in omega (arith, same, below))
+  fails_at n only k below false is = is
+
+  few_by : (n m : ℕ) → ((k : ℕ) → test k ≡ true → k ≡ n) → length (passing_to test m) ≤ 1
+      → (passes : Bool) → test (suc m) ≡ passes → length (if passes then suc m ∷ passing_to test m else passing_to test m) ≤ 1
+  few_by n m only few true is =
+      let same = only (suc m) is in
+      let none = passing_none m (λ k l. fails_at n only k (omega (arith, same, l)) (test k) refl) in
+      let empty = ap (λ (ns : List ℕ). length ns) none in omega (arith, empty)
+  few_by n m only few false is = few
+
+  passing_few : (n m : ℕ) → ((k : ℕ) → test k ≡ true → k ≡ n) → length (passing_to test m) ≤ 1
+  passing_few n zero only = grind arith
+  passing_few n (suc m) only = few_by n m only (passing_few n m only) (test (suc m)) refl
+
+pub one_length : OneLengthIsOneStep
+one_length scopes key n only most =
+    passing_few (has_length (own_scopes scopes key).entries) n most
+    (λ k has. let mapped = (lengths_are scopes key k).0 has in sym mapped.1 ∙ only mapped.0 mapped.2)

@@ -2,3 +2,4 @@ pub mod Counting
 pub mod Entries
 pub mod LawLemmas
 pub mod Longest
+pub mod Worked

@@ -1,6 +1,7 @@
 -- The longest front by the counted lengths, longest first.
-use Rattle.std.proofs.Common.{◌≡◌, ◌∙◌, ◌<◌, ◌≤◌, ◌+◌, ◌==◌, ℕ, zero, suc, Bool, true, false, List, [], ◌∷◌, length, take, drop, get_or, is_some, nat_lt, bytes_eq, Option, Some, None, refl, sym, ap, subst, arith, length-take, if◌then◌else◌}
+use Rattle.std.proofs.Common.{◌≡◌, ◌∙◌, ◌<◌, ◌≤◌, ℕ, zero, suc, Bool, true, false, List, [], ◌∷◌, length, take, drop, get_or, is_some, nat_lt, bytes_eq, Option, None, refl, sym, ap, subst, arith, length-take, if◌then◌else◌}
 use Rattle.std.proofs.lemmas.Bool.Decides.{nat_tests}
+use Rattle.std.proofs.lemmas.List.{drop_all}
 use Rattle.std.specs.Cmp.Lexicographic.{bytes_decides}
 use Rattle.std.specs.Map.{lookup}
 use Rattle.std.specs.Option.{option_or}
@@ -122,5 +123,27 @@ module _ (found : ℕ → Option ℕ) (most : ℕ) (d : Counted) where
   one_here [] i inside short = absurd (omega arith)
   one_here (one ∷ rest) zero inside short = grind (arith, nat_tests)
   one_here (one ∷ rest) (suc i) inside short = one_here rest i (omega (arith, inside)) short
+
+-- what is found at one length, and nothing at those before it, is the longest
+pub answer_here : (address : List ℕ) (entries : List (List ℕ × ℕ)) (counted : List Counted) (i : ℕ) (d : Counted) (answer : Option ℕ)
+    → IsCounted counted entries → i < length counted → (get_or counted i d).length ≤ length address
+    → answer ≡ at_front address entries (get_or counted i d).length → is_some answer ≡ true
+    → first_found (at_front address entries) (within (length address) (drop i counted))
+    ≡ first_found (at_front address entries) (within (length address) counted)
+    → answer ≡ longest_front (λ scope. lookup (bytes_eq scope) entries) address
+answer_here address entries counted i d answer is inside short found some before =
+    found
+    ∙ (sym (found_here (at_front address entries) (length address) d counted i inside short (sym (ap is_some found) ∙ some))
+    ∙ (before ∙ found_longest address entries counted is))
+
+-- nothing is found at any length
+pub answer_none : (address : List ℕ) (entries : List (List ℕ × ℕ)) (counted : List Counted) (i : ℕ)
+    → IsCounted counted entries → length counted ≤ i
+    → first_found (at_front address entries) (within (length address) (drop i counted))
+    ≡ first_found (at_front address entries) (within (length address) counted)
+    → None ≡ longest_front (λ scope. lookup (bytes_eq scope) entries) address
+answer_none address entries counted i is past before =
+    ap (λ (rest : List Counted). first_found (at_front address entries) (within (length address) rest)) (sym (drop_all i counted past))
+    ∙ (before ∙ found_longest address entries counted is)
 
 pub ruleset by_lengths = (found_longest, few_steps)

@@ -28,8 +28,8 @@ impl Model for KeyScopes {
     ghost use Rattle.sw_scope.specs.Counted.{IsCounted, bare};
 
     ghost view = { λ own. record {
-        entries = bare (λ key. key.items) own.scopes.entries;
-        room = min (spare own.scopes) (vec_capacity own.lengths - vec_len own.lengths);
+      entries = bare (λ key. key.items) own.scopes.entries;
+      room = min (spare own.scopes) (vec_capacity own.lengths - vec_len own.lengths);
     } };
 
     ghost invariant = { λ own. IsCounted own.lengths.items (bare (λ key. key.items) own.scopes.entries) };

@@ -121,13 +121,7 @@ impl ScopeMap {
     }
 
     /// Maps a scope of a key to a registration.
-    pub fn set(
-        &mut self,
-        alloc: Global,
-        key: &Text,
-        scope: &Text,
-        id: u32,
-    ) -> Result<(), NoMemory>
+    pub fn set(&mut self, alloc: Global, key: &Text, scope: &Text, id: u32) -> Result<(), NoMemory>
         ensures ok { OnOk result ((other text : List ℕ) → maps self.new other text ≡ with_row self.old
             (record { key = key.now; scope = scope.now; number = id }) other text) }
         ensures err { OnErr result ((other text : List ℕ)

@@ -1,5 +1,5 @@
-use Rattle.std.proofs.Common.{◌≡◌, map, filter, fold, take, Option, None, option_map}
-use Rattle.sw_rules.specs.Matching.{Scope, holds_address, longer}
+use Rattle.std.proofs.Common.{◌≡◌, map, filter, fold, take, None, option_map}
+use Rattle.sw_rules.specs.Matching.{holds_address, longer}
 use Rattle.sw_scope.specs.Scopes.{as_scope, sized}
 use Rattle.sw_scope.proofs.plain_scan.scan.Given as goal
 

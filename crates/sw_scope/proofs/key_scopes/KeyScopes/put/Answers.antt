@@ -1,6 +1,6 @@
-use Rattle.std.proofs.Common.{◌≡◌, ◌∙◌, ◌<◌, ◌≤◌, ℕ, List, bytes_eq, length, sym, ap, subst}
+use Rattle.std.proofs.Common.{◌∙◌, bytes_eq, sym}
 use Rattle.std.specs.Map.{lookup}
-use Rattle.sw_scope.specs.Counted.{bare, scopes_of}
+use Rattle.sw_scope.specs.Counted.{bare}
 use Rattle.sw_scope.proofs.Counting.{counted_fits, counted_kept, counted_put}
 use Rattle.sw_scope.proofs.Entries.{absent_of, there_of}
 use Rattle.sw_scope.proofs.key_scopes.KeyScopes.put.Goals as goal

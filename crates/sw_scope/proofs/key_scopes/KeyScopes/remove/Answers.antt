@@ -1,4 +1,4 @@
-use Rattle.std.proofs.Common.{◌≡◌, ◌∙◌, bytes_eq, is_some, sym, ap}
+use Rattle.std.proofs.Common.{◌∙◌, sym}
 use Rattle.sw_scope.specs.Counted.{bare}
 use Rattle.sw_scope.proofs.Counting.{counted_removed, removed_absent}
 use Rattle.sw_scope.proofs.Entries.{none_of, some_of}

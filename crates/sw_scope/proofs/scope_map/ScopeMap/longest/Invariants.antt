@@ -8,5 +8,5 @@ invariant-loop-counted g l = record {
   found : first_found (at_front l.address (own_scopes l.self l.key).entries) (within (length l.address) (drop l.counted-index l.counted-items))
       ≡ first_found (at_front l.address (own_scopes l.self l.key).entries) (within (length l.address) l.counted-items);
   taken : l.steps + length (within (length l.address) (drop l.counted-index l.counted-items))
-      ≡ l.fn.steps + length (within (length l.address) l.counted-items)
+      ≡ l.fn.steps + length (within (length l.address) l.counted-items);
 }
