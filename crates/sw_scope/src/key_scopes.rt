@@ -32,7 +32,8 @@ impl Model for KeyScopes {
       room = min (spare own.scopes) (vec_capacity own.lengths - vec_len own.lengths);
     } };
 
-    ghost invariant = { λ own. IsCounted own.lengths.items (bare (λ key. key.items) own.scopes.entries) };
+    ghost invariant = { λ own. IsCounted own.lengths.items
+        (bare (λ key. key.items) own.scopes.entries) };
 }
 
 // Maps a scope to a registration, and answers whether it is new; it takes no memory.

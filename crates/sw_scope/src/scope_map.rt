@@ -1,6 +1,7 @@
 //! The map from keys and scopes to registrations.
 
-ghost use Rattle.std.specs.Prelude.{◌≡◌, ◌+◌, ◌<◌, ◌≤◌, [], ℕ, List, IfOk, OnOk, OnErr, length, None};
+ghost use Rattle.std.specs.Prelude.{◌≡◌, ◌+◌, ◌<◌, ◌≤◌, ℕ, List, bytes_eq, length, IsSome, IfOk, OnOk, OnErr, None};
+ghost use Rattle.std.specs.Map.{lookup};
 ghost use Rattle.sw_scope.specs.Counted.{IsCounted};
 ghost use Rattle.sw_scope.specs.Scopes.{Fits, lengths_to, longest_front, maps, own_scopes, room, with_row, without_scope};
 
@@ -62,7 +63,9 @@ impl ScopeMap {
 
     // Makes the key's own map, where there is none.
     fn make_key(&mut self, alloc: Global, key: &Text) -> Result<(), NoMemory>
-        ensures same { (other scope : List ℕ) → maps self.new other scope ≡ maps self.old other scope }
+        ensures same { (other scope : List ℕ)
+            → maps self.new other scope ≡ maps self.old other scope }
+        ensures there { OnOk result (IsSome (lookup (bytes_eq key.now) self.new)) }
         ensures room { (other : List ℕ) → room self.old other ≤ room self.new other }
     {
         if self.keys.contains_key(key) {
@@ -74,15 +77,16 @@ impl ScopeMap {
 
     // Makes room for one more scope of a key.
     fn reserve(&mut self, alloc: Global, key: &Text) -> Result<(), NoMemory>
-        ensures same { (other scope : List ℕ) → maps self.new other scope ≡ maps self.old other scope }
+        ensures same { (other scope : List ℕ)
+            → maps self.new other scope ≡ maps self.old other scope }
         ensures ok { OnOk result (0 < room self.new key.now) }
         ensures room { (other : List ℕ) → room self.old other ≤ room self.new other }
     {
         self.make_key(alloc, key)?;
-        match self.keys.get_mut(key) {
-            Some(own) => own.reserve(),
-            None => Err(NoMemory),
+        if let Some(own) = self.keys.get_mut(key) {
+            own.reserve()?;
         }
+        Ok(())
     }
 
     /// Makes all room for a scope of a key, and the row by which `set_put` maps it to this registration.
@@ -93,7 +97,8 @@ impl ScopeMap {
         scope: &Text,
         id: u32,
     ) -> Result<NewScope, NoMemory>
-        ensures same { (other text : List ℕ) → maps self.new other text ≡ maps self.old other text }
+        ensures same { (other text : List ℕ)
+            → maps self.new other text ≡ maps self.old other text }
         ensures row { IfOk result (λ row.
             row ≡ record { key = key.now; scope = scope.now; number = id }) }
         ensures fits { IfOk result (λ row. Fits row self.new) }
@@ -111,7 +116,8 @@ impl ScopeMap {
     /// Maps the row's scope of its key to its registration; it takes no memory.
     pub fn set_put(&mut self, row: NewScope)
         requires { Fits row self.old }
-        ensures put { (key scope : List ℕ) → maps self.new key scope ≡ with_row self.old row key scope }
+        ensures put { (key scope : List ℕ)
+            → maps self.new key scope ≡ with_row self.old row key scope }
         ensures room { (key : List ℕ) → room self.old key ≤ room self.new key + 1 }
     {
         let NewScope { key, scope, id } = row;
@@ -122,7 +128,8 @@ impl ScopeMap {
 
     /// Maps a scope of a key to a registration.
     pub fn set(&mut self, alloc: Global, key: &Text, scope: &Text, id: u32) -> Result<(), NoMemory>
-        ensures ok { OnOk result ((other text : List ℕ) → maps self.new other text ≡ with_row self.old
+        ensures ok { OnOk result ((other text : List ℕ)
+            → maps self.new other text ≡ with_row self.old
             (record { key = key.now; scope = scope.now; number = id }) other text) }
         ensures err { OnErr result ((other text : List ℕ)
             → maps self.new other text ≡ maps self.old other text) }
