@@ -6,19 +6,9 @@ use Rattle.std.specs.Cmp.Lexicographic.{bytes_decides}
 use Rattle.std.specs.Map.{lookup}
 use Rattle.std.specs.Option.{option_or}
 use Rattle.sw_scope.specs.declared.lengths.Counted.{Counted}
-use Rattle.sw_scope.specs.Counted.{IsCounted, IsFalling, entries_of, scopes_of}
+use Rattle.sw_scope.specs.Counted.{IsCounted, IsFalling, entries_of, first_found, scopes_of, within}
 use Rattle.sw_scope.specs.Scopes.{has_length, longest_at, longest_front, passing_to}
 use Rattle.sw_scope.proofs.Counting.{none_above}
-
--- the lengths that aren't greater than m
-abbrev pub within : ℕ → List Counted → List ℕ
-within m [] = []
-within m (counted ∷ rest) = if nat_lt m counted.length then within m rest else counted.length ∷ within m rest
-
--- what the first number has for which something is found
-abbrev pub first_found : (ℕ → Option ℕ) → List ℕ → Option ℕ
-first_found found [] = None
-first_found found (n ∷ ns) = option_or (found n) (first_found found ns)
 
 -- some scope has a length
 abbrev pub is_counted : List Counted → ℕ → Bool
@@ -124,26 +114,4 @@ module _ (found : ℕ → Option ℕ) (most : ℕ) (d : Counted) where
   one_here (one ∷ rest) zero inside short = grind (arith, nat_tests)
   one_here (one ∷ rest) (suc i) inside short = one_here rest i (omega (arith, inside)) short
 
--- what is found at one length, and nothing at those before it, is the longest
-pub answer_here : (address : List ℕ) (entries : List (List ℕ × ℕ)) (counted : List Counted) (i : ℕ) (d : Counted) (answer : Option ℕ)
-    → IsCounted counted entries → i < length counted → (get_or counted i d).length ≤ length address
-    → answer ≡ at_front address entries (get_or counted i d).length → is_some answer ≡ true
-    → first_found (at_front address entries) (within (length address) (drop i counted))
-    ≡ first_found (at_front address entries) (within (length address) counted)
-    → answer ≡ longest_front (λ scope. lookup (bytes_eq scope) entries) address
-answer_here address entries counted i d answer is inside short found some before =
-    found
-    ∙ (sym (found_here (at_front address entries) (length address) d counted i inside short (sym (ap is_some found) ∙ some))
-    ∙ (before ∙ found_longest address entries counted is))
-
--- nothing is found at any length
-pub answer_none : (address : List ℕ) (entries : List (List ℕ × ℕ)) (counted : List Counted) (i : ℕ)
-    → IsCounted counted entries → length counted ≤ i
-    → first_found (at_front address entries) (within (length address) (drop i counted))
-    ≡ first_found (at_front address entries) (within (length address) counted)
-    → None ≡ longest_front (λ scope. lookup (bytes_eq scope) entries) address
-answer_none address entries counted i is past before =
-    ap (λ (rest : List Counted). first_found (at_front address entries) (within (length address) rest)) (sym (drop_all i counted past))
-    ∙ (before ∙ found_longest address entries counted is)
-
-pub ruleset by_lengths = (found_longest, few_steps)
+pub ruleset at_lengths = (found_here, one_here, drop_all)

@@ -1,5 +1,6 @@
 -- The distinct lengths of the scopes of one key, longest first, each with how many scopes have it (own).
-use Rattle.std.specs.Prelude.{◌≡◌, ℕ, suc, ◌+◌, ◌-◌, ◌<◌, ◌==◌, nat_lt, Bool, false, List, [], ◌∷◌, length, map, if◌then◌else◌}
+use Rattle.std.specs.Prelude.{◌≡◌, ℕ, suc, ◌+◌, ◌-◌, ◌<◌, ◌==◌, nat_lt, Bool, false, List, [], ◌∷◌, length, map, Option, None, if◌then◌else◌}
+use Rattle.std.specs.Option.{option_or}
 use Rattle.sw_scope.specs.declared.lengths.Counted.{Counted}
 
 -- entries before their keys are read as bytes
@@ -26,6 +27,16 @@ pub record IsCounted (counted : List Counted) (entries : List (List ℕ × ℕ))
   pub bound : ℕ
   pub falling : IsFalling bound counted
   pub exact : (n : ℕ) → scopes_of counted n ≡ entries_of entries n
+
+-- the lengths that aren't greater than m
+abbrev pub within : ℕ → List Counted → List ℕ
+within m [] = []
+within m (counted ∷ rest) = if nat_lt m counted.length then within m rest else counted.length ∷ within m rest
+
+-- what the first number has for which something is found
+abbrev pub first_found : (ℕ → Option ℕ) → List ℕ → Option ℕ
+first_found found [] = None
+first_found found (n ∷ ns) = option_or (found n) (first_found found ns)
 
 -- where a length stands or would stand
 abbrev pub place_of : List Counted → ℕ → ℕ

@@ -1,6 +1,6 @@
 //! The scopes of one storage key.
 
-ghost use Rattle.std.specs.Prelude.{◌≡◌, ◌+◌, ◌<◌, ◌≤◌, ◌&&◌, [], ℕ, List, bytes_eq, is_none, length, OnOk, Some, None, if◌then◌else◌};
+ghost use Rattle.std.specs.Prelude.{◌≡◌, ◌+◌, ◌<◌, ◌≤◌, [], ℕ, List, bytes_eq, is_none, length, OnOk, Some, None, if◌then◌else◌};
 ghost use Rattle.std.specs.Map.{lookup};
 ghost use Rattle.indexmap.specs.IndexMap.{insert_entry, shift_remove_entry, spare};
 ghost use Rattle.sw_scope.specs.Counted.{IsCounted, bare};
@@ -49,6 +49,7 @@ fn insert(scopes: &mut IndexMap<Vec<u8>, u32>, scope: Vec<u8>, id: u32) -> bool
 {
     let is_new = !scopes.contains_key(scope.as_slice());
     let _ = scopes.insert(scope, id);
+    // How many there are fits a `usize`, and so does each count of lengths.
     let _many = scopes.len();
     is_new
 }

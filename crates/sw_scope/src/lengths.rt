@@ -1,10 +1,10 @@
 //! The distinct lengths of the scopes of one key.
 
-ghost use Rattle.std.specs.Prelude.{◌≡◌, ◌+◌, ◌-◌, ◌<◌, ◌≤◌, length, vec_len, vec_capacity};
+ghost use Rattle.std.specs.Prelude.{◌≡◌, ◌+◌, ◌-◌, ◌<◌, ◌≤◌, vec_len, vec_capacity};
 ghost use Rattle.sw_scope.specs.Counted.{one_less, one_more, place_of, scopes_of, stands};
 
 // A length, and how many scopes have it.
-#[derive(Debug, Clone, Copy)]
+#[derive(Clone, Copy)]
 pub(crate) struct Counted {
     pub(crate) length: usize,
     pub(crate) scopes: usize,

@@ -1,8 +1,8 @@
 //! The map from keys and scopes to registrations.
 
-ghost use Rattle.std.specs.Prelude.{◌≡◌, ◌+◌, ◌<◌, ◌≤◌, ℕ, List, bytes_eq, length, IsSome, IfOk, OnOk, OnErr, None};
+ghost use Rattle.std.specs.Prelude.{◌≡◌, ◌+◌, ◌<◌, ◌≤◌, ℕ, List, bytes_eq, length, take, IsSome, IfOk, OnOk, OnErr, None};
 ghost use Rattle.std.specs.Map.{lookup};
-ghost use Rattle.sw_scope.specs.Counted.{IsCounted};
+ghost use Rattle.sw_scope.specs.Counted.{IsCounted, first_found, within};
 ghost use Rattle.sw_scope.specs.Scopes.{Fits, lengths_to, longest_front, maps, own_scopes, room, with_row, without_scope};
 
 use crate::key_scopes::KeyScopes;
@@ -189,9 +189,35 @@ impl ScopeMap {
         }
     }
 
+    // The registration of the first of these lengths, none above the address's, whose front of it is a scope of this key;
+    // it takes no memory.
+    #[tactic(auto, using(crate::proofs::Longest::at_lengths))]
+    fn first_of<L: Ledger>(
+        &self,
+        key: &Text,
+        address: &[u8],
+        lengths: &[Counted],
+        steps: &mut Steps<L>,
+    ) -> Option<u32>
+        ensures first { result ≡ first_found (λ n. maps self.now key.now (take n address.now))
+            (within (length address.now) lengths.now) }
+        ensures steps { steps.new
+            ≤ steps.old + length (within (length address.now) lengths.now) }
+    {
+        for counted in lengths {
+            if counted.length <= address.len() {
+                let found = self.probe(key, address.split_at(counted.length).0, steps);
+                if found.is_some() {
+                    return found;
+                }
+            }
+        }
+        None
+    }
+
     /// The registration of the longest scope of this key that the address starts with. Its steps are at most the distinct
     /// lengths of the key's scopes that aren't greater than the address's length. It takes no memory.
-    #[tactic(auto, using(crate::proofs::Longest::by_lengths))]
+    #[tactic(auto, using(crate::proofs::Longest::few_steps))]
     pub fn longest<L: Ledger>(
         &self,
         key: &Text,
@@ -202,14 +228,7 @@ impl ScopeMap {
         ensures steps { steps.new
             ≤ steps.old + length (lengths_to self.now key.now (length address.now)) }
     {
-        for counted in self.lengths(key) {
-            if counted.length <= address.len() {
-                let found = self.probe(key, address.split_at(counted.length).0, steps);
-                if found.is_some() {
-                    return found;
-                }
-            }
-        }
-        None
+        let lengths = self.lengths(key);
+        self.first_of(key, address, lengths, steps)
     }
 }
