@@ -3,7 +3,7 @@
 ghost use Rattle.sw_caches.specs.declared.fault.CacheFault.TheVariants as CacheFault;
 ghost use Rattle.std.specs.Prelude.{◌≡◌, ◌↔◌, None, IsErrOf, ◌<◌, Some, Ok, ◌++◌, ◌∷◌, [], IfOk, IfErr, OnOk, OnErr, not, map, filter, length, is_some, bytes_eq, option_map, option_copied, option_and_then, slice_get, if◌then◌else◌};
 ghost use Rattle.std.specs.List.{list_any, range_with_len};
-ghost use Rattle.sw_rules.specs.Matching.{query_of};
+ghost use Rattle.sw_rules.specs.Matching.{first_match, query_of};
 ghost use Rattle.sw_rules.specs.Storage.{is_cache};
 ghost use Rattle.sw_rules.specs.Caching.{asked_caches, first_hit, pairs_of};
 ghost use Rattle.sw_data.specs.declared.storage.KeptCache.{KeptCache};
@@ -367,6 +367,23 @@ impl Caches {
         match place_in(&self.rows, key, name) {
             Some(place) => Ok(self.rows[place].pairs.all(alloc)?),
             None => Err(CacheFault::CacheGone),
+        }
+    }
+
+    /// Whether a query has a match in the cache of this name; it takes no memory.
+    pub fn has_match(
+        &self,
+        key: &Text,
+        name: &Text,
+        query: &Request,
+        options: Options,
+    ) -> Option<bool>
+        ensures { result ≡ option_map (λ pairs. is_some (first_match pairs query.now options))
+            (pairs_of key.now name.now self.now.rows) }
+    {
+        match place_in(&self.rows, key, name) {
+            Some(place) => Some(self.rows[place].pairs.first(query, options).is_some()),
+            None => None,
         }
     }
 

@@ -8,7 +8,7 @@ use Rattle.sw_data.specs.declared.recordings.Place.{Place}
 use Rattle.sw_data.specs.Addresses.{address_of, is_trustworthy}
 use Rattle.sw_data.specs.Keys.{key_of}
 use Rattle.sw_rules.specs.Caching.{key_or_fault, place_key}
-use Rattle.sw_host.specs.Places.{fault_of}
+use Rattle.sw_core.specs.Places.{fault_of}
 
 abbrev with_fault : Result (List ℕ) PageFault → Result (List ℕ) Fault
 with_fault (Ok key) = Ok key

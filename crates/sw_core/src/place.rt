@@ -1,7 +1,7 @@
 //! The storage key of a page.
 
 ghost use Rattle.std.specs.Prelude.{◌≡◌, IfOk};
-ghost use Rattle.sw_host.specs.Places.{fault_of};
+ghost use Rattle.sw_core.specs.Places.{fault_of};
 ghost use Rattle.sw_rules.specs.Caching.{place_key};
 
 use std::alloc::Global;
