@@ -3,6 +3,7 @@ use Rattle.std.proofs.Common.{◌≡◌, ◌∙◌, ℕ, ◌+◌, List, [], ◌�
 use Rattle.std.specs.Prelude.{Result, IfOk}
 use Rattle.std.specs.List.{enumerate_from, range_with_len}
 use Rattle.sw_caches.specs.Tables.{asked_places}
+use Rattle.sw_core.proofs.ParsedLemmas.{with_parsed}
 use Rattle.sw_core.specs.Acts.{IsStep}
 use Rattle.sw_core.specs.declared.act.CacheStep.{CacheStep}
 use Rattle.sw_data.specs.declared.answers.Answer.TheVariants as answer
@@ -50,8 +51,5 @@ module _ (rows : List KeptCache) (base key : List ℕ) (asked : CacheQuery) (res
   query_some request url some parsed found =
       by_places (Some (record request { url = url }))
       (λ state pairs. sym (ap (λ query. query_places state base query asked.options pairs) some
-      ∙ ap (λ (found : Option (List ℕ)). elim found [
-        | None ↦ refused state (type_error cause.Unparsed)
-        | Some to ↦ answered state (answer.Places (query_of pairs (record request { url = to }) asked.options))
-      ]) parsed))
+      ∙ with_parsed state base request.url url parsed (λ to. answered state (answer.Places (query_of pairs (record request { url = to }) asked.options)))))
       found

@@ -7,6 +7,7 @@ mod act;
 mod caching;
 mod lookups;
 mod place;
+mod writes;
 
 pub use act::{CacheAct, CacheStep};
 pub use place::place_key;
