@@ -7,7 +7,6 @@ use Rattle.sw_core.proofs.ParsedLemmas.{with_parsed}
 use Rattle.sw_core.specs.Acts.{IsStep}
 use Rattle.sw_core.specs.declared.act.CacheStep.{CacheStep}
 use Rattle.sw_data.specs.declared.answers.Answer.TheVariants as answer
-use Rattle.sw_data.specs.declared.answers.Cause.TheVariants as cause
 use Rattle.sw_data.specs.declared.base.no_memory.NoMemory.{NoMemory}
 use Rattle.sw_data.specs.declared.exchange.Request.{Request}
 use Rattle.sw_data.specs.declared.recordings.CacheQuery.{CacheQuery}
@@ -16,7 +15,7 @@ use Rattle.sw_data.specs.Addresses.{resolved}
 use Rattle.sw_rules.specs.Caching.{query_cache, query_places, with_cache_pairs}
 use Rattle.sw_rules.specs.Matching.{Pair, query_of}
 use Rattle.sw_rules.specs.State.{State}
-use Rattle.sw_rules.specs.Told.{Outcome, answered, refused, type_error}
+use Rattle.sw_rules.specs.Told.{Outcome, answered}
 
 -- the numbers of numbered members
 all_numbers : {X : Type 0} (base : ℕ) (xs : List X) → map (λ item. item.0) (enumerate_from base xs) ≡ range_with_len base (length xs)

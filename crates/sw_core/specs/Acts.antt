@@ -1,5 +1,5 @@
 -- What an action on caches does to them (own).
-use Rattle.std.specs.Prelude.{◌≡◌, not, List, [], ◌∷◌, ◌++◌, filter, length}
+use Rattle.std.specs.Prelude.{◌≡◌, not, List, [], ◌∷◌, ◌++◌, filter}
 use Rattle.sw_caches.specs.Tables.{FitsTable, HasRoom, Table, carried_rows}
 use Rattle.sw_core.specs.declared.act.CacheAct.{CacheAct}
 use Rattle.sw_core.specs.declared.act.CacheAct.TheVariants as act

@@ -1,7 +1,8 @@
 -- What a batch answers: the end of one that goes, and the fault of one that throws.
-use Rattle.std.specs.Prelude.{Bool, true, false, Option, Some, None, if◌then◌else◌}
+use Rattle.std.specs.Prelude.{Bool, true, false, Option, Some, None, Result, Ok, Err, if◌then◌else◌}
 use Rattle.sw_caches.specs.declared.fault.BatchFault.TheVariants as thrown
 use Rattle.sw_caches.specs.declared.fault.BatchFault.{BatchFault}
+use Rattle.sw_caches.specs.declared.table.CachePlan.{CachePlan}
 use Rattle.sw_data.specs.declared.answers.Answer.{Answer}
 use Rattle.sw_data.specs.declared.answers.Answer.TheVariants as answer
 use Rattle.sw_data.specs.declared.answers.Fault.{Fault}
@@ -26,3 +27,9 @@ thrown_fault alone _ = fault.Quota
 abbrev pub done_answer : Option Bool → Answer
 done_answer None = answer.Ok
 done_answer (Some removed) = answer.Truth removed
+
+-- what working a batch out threw, the quota aside
+abbrev pub thrown_by : Result CachePlan BatchFault → Option BatchFault
+thrown_by (Ok plan) = None
+thrown_by (Err (thrown.Quota size)) = None
+thrown_by (Err why) = Some why

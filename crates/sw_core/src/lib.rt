@@ -5,9 +5,11 @@
 
 mod act;
 mod caching;
+mod event;
 mod lookups;
 mod place;
 mod writes;
 
 pub use act::{CacheAct, CacheStep};
+pub use event::{finish_on_caches, prepare_on_caches};
 pub use place::place_key;

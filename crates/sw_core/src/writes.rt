@@ -6,13 +6,13 @@ ghost use Rattle.sw_rules.specs.Caching as rules;
 ghost use Rattle.sw_rules.specs.Caching.{run_batch, unparsed_fault, with_cache_pairs};
 ghost use Rattle.sw_rules.specs.Told.{refused};
 ghost use Rattle.sw_core.specs.Acts.{FitsAct, IsStep};
-ghost use Rattle.sw_core.specs.Faults.{done_answer, fault_by, thrown_fault};
+ghost use Rattle.sw_core.specs.Faults.{done_answer, fault_by, thrown_by, thrown_fault};
 ghost use Rattle.sw_core.specs.declared.act.CacheAct.TheVariants as CacheAct;
 ghost use Rattle.sw_caches.specs.declared.fault.BatchFault.TheVariants as BatchFault;
 
 use crate::act::{CacheAct, CacheStep, refused, unparsed};
 use std::alloc::Global;
-use sw_caches::{BatchFault, Caches};
+use sw_caches::{BatchFault, CachePlan, Caches};
 use sw_data::{
     Answer, CacheBatch, CacheDelete, CachePut, Cause, Fault, NoMemory, Op, Request, Text,
 };
@@ -183,4 +183,65 @@ fn parsed_ops(alloc: Global, base: &Text, ops: &[Op]) -> Result<(Vec<Op>, bool),
         }
     }
     Ok((parsed, true))
+}
+
+// What the operations of a batch throw, the quota aside.
+fn thrown(planned: Result<CachePlan, BatchFault>) -> Option<BatchFault>
+    ensures { result ≡ thrown_by planned }
+{
+    match planned {
+        Ok(_) | Err(BatchFault::Quota { .. }) => None,
+        Err(why) => Some(why),
+    }
+}
+
+// A batch that has an operation whose address doesn't parse, behind these.
+fn unparsed_batch(
+    alloc: Global,
+    caches: &mut Caches,
+    key: &Text,
+    name: &Text,
+    before: Vec<Op>,
+) -> Result<CacheStep, NoMemory>
+    ensures same { caches.new.rows ≡ caches.old.rows }
+    ensures fits { IfOk result (λ step. FitsAct step.act caches.new) }
+    ensures step { IfOk result (IsStep caches.old.rows (λ state.
+        with_cache_pairs state key.now name.now
+        (λ pairs. refused state (unparsed_fault pairs before.items)))) }
+{
+    let Ok(at) = u32::try_from(before.len()) else {
+        return Err(NoMemory);
+    };
+    let planned = caches.plan(alloc, key, name, before);
+    match thrown(planned) {
+        Some(why) => refusal(why, false),
+        None => Ok(refused(Fault::TypeError {
+            cause: Cause::Unparsed,
+            index: Some(at),
+        })),
+    }
+}
+
+/// A batch of operations, whose addresses are parsed against a base.
+pub fn batch_ops(
+    alloc: Global,
+    caches: &mut Caches,
+    base: &Text,
+    key: &Text,
+    asked: &CacheBatch,
+) -> Result<CacheStep, NoMemory>
+    ensures same { caches.new.rows ≡ caches.old.rows }
+    ensures fits { IfOk result (λ step. FitsAct step.act caches.new) }
+    ensures step { IfOk result (IsStep caches.old.rows
+        (λ state. rules.batch_ops state base.now asked.now key.now)) }
+{
+    if !caches.has(key, &asked.name) {
+        return Ok(refused(Fault::CacheGone));
+    }
+    let (ops, all) = parsed_ops(alloc, base, asked.operations.as_slice())?;
+    if all {
+        batch(alloc, caches, key, &asked.name, ops, None, false)
+    } else {
+        unparsed_batch(alloc, caches, key, &asked.name, ops)
+    }
 }

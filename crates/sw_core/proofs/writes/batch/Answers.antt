@@ -1,11 +1,9 @@
 -- A batch goes by its plan, or is refused by what it throws.
-use Rattle.std.proofs.Common.{◌≡◌, ◌≢◌, sym, subst}
-use Rattle.std.specs.Prelude.{Result, Ok, Err, IfOk}
-use Rattle.sw_core.specs.Acts.{IsOutcome, IsStep}
-use Rattle.sw_core.specs.Faults.{done_answer, fault_by, thrown_fault}
+use Rattle.std.proofs.Common.{sym, subst}
+use Rattle.sw_core.specs.Acts.{IsOutcome}
+use Rattle.sw_core.specs.Faults.{done_answer}
 use Rattle.sw_core.specs.declared.act.CacheAct.TheVariants as act
-use Rattle.sw_core.specs.declared.act.CacheStep.{CacheStep}
-use Rattle.sw_core.proofs.BatchLemmas.{goes, here, on_pairs, refuses}
+use Rattle.sw_core.proofs.BatchLemmas.{goes, on_pairs}
 use Rattle.sw_rules.specs.Caching.{pairs_of}
 use Rattle.sw_core.proofs.writes.batch.Goals as goal
 

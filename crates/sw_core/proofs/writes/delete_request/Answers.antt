@@ -1,5 +1,5 @@
 -- A delete is a batch of one operation, which answers whether there is a match.
-use Rattle.std.proofs.Common.{◌≡◌, ◌∙◌, List, [], ◌∷◌, ap, is_some}
+use Rattle.std.proofs.Common.{◌∙◌, [], ◌∷◌, is_some}
 use Rattle.std.specs.Prelude.{option_map}
 use Rattle.sw_core.proofs.WriteLemmas.{delete_goes}
 use Rattle.sw_data.specs.declared.exchange.Op.TheVariants as op

@@ -1,5 +1,5 @@
 -- A put is a batch of one operation.
-use Rattle.std.proofs.Common.{◌≡◌, ◌∙◌, List, [], ◌∷◌, ap}
+use Rattle.std.proofs.Common.{◌∙◌, [], ◌∷◌}
 use Rattle.sw_core.proofs.WriteLemmas.{put_goes}
 use Rattle.sw_data.specs.declared.exchange.Op.TheVariants as op
 use Rattle.sw_core.proofs.writes.put_response.Goals as goal
