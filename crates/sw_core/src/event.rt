@@ -34,6 +34,13 @@ fn place_of(event: &Event) -> Option<&Place>
     }
 }
 
+/// Whether an event is an action on caches, which can be worked out. It takes no memory.
+pub fn is_on_caches(event: &Event) -> bool
+    ensures { result ≡ is_some (cache_action event.now) }
+{
+    place_of(event).is_some()
+}
+
 // An action on caches at a key, worked out.
 fn act_at(
     alloc: Global,

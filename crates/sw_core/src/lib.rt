@@ -11,5 +11,8 @@ mod place;
 mod writes;
 
 pub use act::{CacheAct, CacheStep};
-pub use event::{finish_on_caches, prepare_on_caches};
+pub use event::{finish_on_caches, is_on_caches, prepare_on_caches};
 pub use place::place_key;
+
+#[cfg(test)]
+mod tests;
