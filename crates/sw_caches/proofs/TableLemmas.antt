@@ -18,7 +18,7 @@ use Rattle.sw_caches.proofs.FindLemmas.{get_mapped}
 use Rattle.std.specs.Option.{option_map_or}
 use Rattle.std.proofs.lemmas.List.{get_or-set_same, length-set, map-set, set-get_or}
 use Rattle.sw_caches.specs.declared.row.Row.{Row}
-use Rattle.sw_caches.specs.Tables.{FitsTable, IsBatch, IsBatchOf, IsPlace, IsRefused, IsRefusedOf, carried_row, carried_rows, index_of, kept_row, table}
+use Rattle.sw_caches.specs.Tables.{FitsTable, IsBatch, IsBatchOf, IsPlace, IsRefused, IsRefusedOf, carried_row, carried_rows, index_of, kept_row}
 
 module _ (key name : List ℕ) where
   abbrev named : Row → Bool
@@ -119,7 +119,7 @@ module _ (rows : List Row) (place : ℕ) (row : Row) (within : place < length ro
   thrown_row ops (Err why) thrown = λ kept stands. subst (λ item. IsThrown why (batch item.pairs ops)) (row_read kept stands) thrown
 
   pub fits_row : (new : Row) (result : Result CachePlan BatchFault) → IfOk result (λ plan. plan.place ≡ place) → IfOk result (λ plan. Fits plan.change new.pairs)
-      → IfOk result (λ plan. FitsTable plan (table (set rows place new)))
+      → IfOk result (λ plan. FitsTable plan (map index_of (set rows place new)))
   fits_row new (Ok plan) at fits = record {
     index = new.pairs;
     stands = ap (slice_get (map index_of (set rows place new))) at ∙ index_stands new;

@@ -1,5 +1,5 @@
 -- The caches of all keys, as a list of rows beside what plans need to know of their indexes.
-use Rattle.std.specs.Prelude.{◌≡◌, ℕ, ◌+◌, ◌<◌, true, length, slice_index_or, List, [], ◌∷◌, ◌++◌, map, filter, set, bytes_eq, slice_get, option_map, Option, Some, None, Ok, if◌then◌else◌}
+use Rattle.std.specs.Prelude.{◌≡◌, ℕ, ◌+◌, ◌<◌, ◌^◌, true, length, slice_index_or, List, [], ◌∷◌, map, filter, set, bytes_eq, slice_get, option_map, Option, Some, None, Ok, if◌then◌else◌}
 use Rattle.std.specs.Option.{option_map_or}
 use Rattle.std.specs.List.{range_with_len}
 use Rattle.sw_data.specs.declared.exchange.Op.{Op}
@@ -16,14 +16,15 @@ use Rattle.sw_caches.specs.declared.table.CachePlan.{CachePlan}
 use Rattle.sw_caches.specs.declared.row.Row.{Row}
 use Rattle.sw_caches.specs.Plans.{Fits, Indexed, IsThrown, carried}
 
--- an empty cache is added last (Service Workers, CacheStorage, "open()")
-abbrev pub with_new_cache : List ℕ → List ℕ → List KeptCache → List KeptCache
-with_new_cache key name rows = rows ++ record { key = key; name = name; pairs = [] } ∷ []
+-- a cache that was just made (Service Workers, CacheStorage, "open()")
+abbrev pub empty_cache : List ℕ → List ℕ → KeptCache
+empty_cache key name = record { key = key; name = name; pairs = [] }
 
--- the caches in order of creation over all keys, and their indexes
+-- the caches in order of creation over all keys, their indexes, and for how many more caches there is room
 pub record Table : Type 0 where
   pub rows : List KeptCache
   pub indexes : List Indexed
+  pub spare : ℕ
 
 abbrev pub kept_row : Row → KeptCache
 kept_row row = record { key = row.key; name = row.name; pairs = row.pairs.pairs }
@@ -31,8 +32,13 @@ kept_row row = record { key = row.key; name = row.name; pairs = row.pairs.pairs 
 abbrev pub index_of : Row → Indexed
 index_of row = row.pairs
 
-abbrev pub table : List Row → Table
-table rows = record { rows = map kept_row rows; indexes = map index_of rows }
+abbrev pub table : List Row → ℕ → Table
+table rows spare = record { rows = map kept_row rows; indexes = map index_of rows; spare = spare }
+
+-- there is room for one more cache
+pub record HasRoom (caches : Table) : Type 0 where
+  pub spare : 0 < caches.spare
+  pub few : length caches.rows + 1 < 2 ^ 32
 
 -- the cache of a key and a name is the row at this place
 pub record IsPlace (key name : List ℕ) (rows : List Row) (place : ℕ) : Type 0 where
@@ -56,9 +62,9 @@ carried_rows plan rows =
     option_map_or (λ row. set rows plan.place (carried_row plan row)) (slice_get rows plan.place) rows
 
 -- a plan was made for the cache at its place, and there is room for what it adds
-pub record FitsTable (plan : CachePlan) (caches : Table) : Type 0 where
+pub record FitsTable (plan : CachePlan) (indexes : List Indexed) : Type 0 where
   pub index : Indexed
-  pub stands : slice_get caches.indexes plan.place ≡ Some index
+  pub stands : slice_get indexes plan.place ≡ Some index
   pub fits : Fits plan.change index
 
 -- the rows after a batch on the cache of a key and a name, whose pairs are these, where it isn't refused

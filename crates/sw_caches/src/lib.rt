@@ -21,7 +21,7 @@ mod table;
 pub use fault::{BatchFault, CacheFault};
 pub use hits::Found;
 pub use ops::apply_ops;
-pub use table::{CachePlan, Caches, Hit};
+pub use table::{CachePlan, Caches, Hit, NewCache};
 
 #[cfg(test)]
 mod tests;

@@ -3,17 +3,16 @@
 ghost use Rattle.sw_caches.specs.declared.fault.CacheFault.TheVariants as CacheFault;
 ghost use Rattle.std.specs.Prelude.{◌≡◌, ◌↔◌, None, IsErrOf, ◌<◌, Some, Ok, ◌++◌, ◌∷◌, [], IfOk, IfErr, OnOk, OnErr, not, map, filter, length, is_some, bytes_eq, option_map, option_copied, option_and_then, slice_get, if◌then◌else◌};
 ghost use Rattle.std.specs.List.{list_any, range_with_len};
-ghost use Rattle.sw_rules.specs.Matching.{query_of};
+ghost use Rattle.sw_rules.specs.Matching.{first_match, query_of};
 ghost use Rattle.sw_rules.specs.Storage.{is_cache};
 ghost use Rattle.sw_rules.specs.Caching.{asked_caches, first_hit, pairs_of};
-ghost use Rattle.sw_caches.specs.Tables.{with_new_cache};
 ghost use Rattle.sw_data.specs.declared.storage.KeptCache.{KeptCache};
 ghost use Rattle.sw_rules.specs.Batch.{batch};
 ghost use Rattle.sw_data.specs.declared.answers.Answer.TheVariants as answer;
 ghost use Rattle.std.specs.Option.{option_map_or};
 ghost use Rattle.sw_caches.specs.Hits.{found_answer};
 ghost use Rattle.sw_caches.specs.Plans.{Fits, IsThrown, carried};
-ghost use Rattle.sw_caches.specs.Tables.{FitsTable, IsBatch, IsRefused, asked_places, caches_of, carried_rows, hit_from, kept_row, key_and_name};
+ghost use Rattle.sw_caches.specs.Tables.{FitsTable, HasRoom, IsBatch, IsRefused, asked_places, caches_of, carried_rows, empty_cache, hit_from, kept_row, key_and_name};
 
 use crate::fault::{BatchFault, CacheFault};
 use crate::hits::{Found, first_found, first_hit};
@@ -34,18 +33,13 @@ pub struct Caches {
 }
 
 impl Model for Caches {
-    ghost use Rattle.std.specs.Prelude.{◌<◌, ◌^◌, length};
-    ghost use Rattle.sw_data.specs.declared.storage.KeptCache.{KeptCache};
-    ghost use Rattle.sw_rules.specs.Batch.{batch};
-    ghost use Rattle.sw_data.specs.declared.answers.Answer.TheVariants as answer;
-    ghost use Rattle.std.specs.Option.{option_map_or};
-    ghost use Rattle.sw_caches.specs.Hits.{found_answer};
-    ghost use Rattle.sw_caches.specs.Plans.{Fits, IsThrown, carried};
+    ghost use Rattle.std.specs.Prelude.{◌<◌, ◌-◌, ◌^◌, length, vec_len, vec_capacity};
     ghost use Rattle.sw_caches.specs.Tables.{Table, table};
 
     ghost Value = { Table };
 
-    ghost view = { λ caches. table caches.rows.items };
+    ghost view = { λ caches.
+        table caches.rows.items (vec_capacity caches.rows - vec_len caches.rows) };
 
     ghost invariant = { λ caches. length caches.rows.items < 2 ^ 32 };
 }
@@ -55,6 +49,21 @@ impl Model for Caches {
 pub struct Hit {
     pub cache: u32,
     pub place: u32,
+}
+
+/// A cache that was made and isn't in the table yet.
+#[derive(Drop)]
+pub struct NewCache {
+    row: Row,
+}
+
+impl Model for NewCache {
+    ghost use Rattle.sw_data.specs.declared.storage.KeptCache.{KeptCache};
+    ghost use Rattle.sw_caches.specs.Tables.{kept_row};
+
+    ghost Value = { KeptCache };
+
+    ghost view = { λ new. kept_row new.row };
 }
 
 /// A batch on a cache, worked out.
@@ -122,26 +131,47 @@ impl Caches {
         }
     }
 
+    /// An empty cache of this name, which isn't there yet, and the room for it.
+    pub fn make_row(&mut self, alloc: Global, key: &Text, name: &Text) -> Result<NewCache, NoMemory>
+        ensures same { self.new.rows ≡ self.old.rows }
+        ensures row { IfOk result (λ new. new ≡ empty_cache key.now name.now) }
+        ensures fits { OnOk result (HasRoom self.new) }
+    {
+        if self.rows.len() >= CACHES_LIMIT {
+            return Err(NoMemory);
+        }
+        self.rows.reserve(1)?;
+        Ok(NewCache {
+            row: Row {
+                key: key.copy(alloc)?,
+                name: name.copy(alloc)?,
+                pairs: Pairs::new(alloc),
+            },
+        })
+    }
+
+    /// Adds a cache that was made; it takes no memory.
+    pub fn make_put(&mut self, new: NewCache)
+        requires { HasRoom self.old }
+        ensures { self.new.rows ≡ self.old.rows ++ new ∷ [] }
+    {
+        self.rows.push_reserved(new.row);
+    }
+
     /// Makes an empty cache where the key has none of this name, and says whether it did.
     pub fn make(&mut self, alloc: Global, key: &Text, name: &Text) -> Result<bool, NoMemory>
         ensures made { IfOk result (λ made.
             made ≡ not (is_some (pairs_of key.now name.now self.old.rows))) }
         ensures rows { OnOk result (self.new.rows
             ≡ (if is_some (pairs_of key.now name.now self.old.rows) then self.old.rows
-            else with_new_cache key.now name.now self.old.rows)) }
+            else self.old.rows ++ empty_cache key.now name.now ∷ [])) }
         ensures err { OnErr result (self.new.rows ≡ self.old.rows) }
     {
         if self.has(key, name) {
             return Ok(false);
         }
-        if self.rows.len() >= CACHES_LIMIT {
-            return Err(NoMemory);
-        }
-        self.rows.push(Row {
-            key: key.copy(alloc)?,
-            name: name.copy(alloc)?,
-            pairs: Pairs::new(alloc),
-        })?;
+        let new = self.make_row(alloc, key, name)?;
+        self.make_put(new);
         Ok(true)
     }
 
@@ -227,7 +257,7 @@ impl Caches {
         ops: Vec<Op>,
     ) -> Result<CachePlan, BatchFault>
         ensures same { self.new.rows ≡ self.old.rows }
-        ensures fits { IfOk result (λ plan. FitsTable plan self.new) }
+        ensures fits { IfOk result (λ plan. FitsTable plan self.new.indexes) }
         ensures ok { IfOk result (λ plan. IsBatch key.now name.now ops.items self.old.rows
             (carried_rows plan self.old.rows)) }
         ensures err { IfErr result (IsRefused key.now name.now ops.items self.old.rows) }
@@ -246,7 +276,7 @@ impl Caches {
     ) -> Result<CachePlan, BatchFault>
         requires { place < length self.old.rows }
         ensures same { self.new.rows ≡ self.old.rows }
-        ensures fits { IfOk result (λ plan. FitsTable plan self.new) }
+        ensures fits { IfOk result (λ plan. FitsTable plan self.new.indexes) }
         ensures place { IfOk result (λ plan. plan.place ≡ place) }
         ensures ok { IfOk result (λ plan. (row : KeptCache)
             → slice_get self.old.rows place ≡ Some row
@@ -260,7 +290,7 @@ impl Caches {
 
     /// Carries a plan out; it takes no memory.
     pub fn carry_out(&mut self, plan: CachePlan)
-        requires { FitsTable plan self.old }
+        requires { FitsTable plan self.old.indexes }
         ensures { self.new.rows ≡ carried_rows plan self.old.rows }
     {
         let CachePlan { place, change } = plan;
@@ -337,6 +367,23 @@ impl Caches {
         match place_in(&self.rows, key, name) {
             Some(place) => Ok(self.rows[place].pairs.all(alloc)?),
             None => Err(CacheFault::CacheGone),
+        }
+    }
+
+    /// Whether a query has a match in the cache of this name; it takes no memory.
+    pub fn has_match(
+        &self,
+        key: &Text,
+        name: &Text,
+        query: &Request,
+        options: Options,
+    ) -> Option<bool>
+        ensures { result ≡ option_map (λ pairs. is_some (first_match pairs query.now options))
+            (pairs_of key.now name.now self.now.rows) }
+    {
+        match place_in(&self.rows, key, name) {
+            Some(place) => Some(self.rows[place].pairs.first(query, options).is_some()),
+            None => None,
         }
     }
 

@@ -1,6 +1,3 @@
-pub mod CacheLemmas
-pub mod PlaceLemmas
-pub mod PlainLemmas
 pub mod PlayLemmas
 pub mod StandLemmas
 pub mod StepLemmas

@@ -21,7 +21,8 @@ use Rattle.sw_data.specs.declared.recordings.Recording.{Recording}
 use Rattle.sw_data.specs.declared.rows.ClientRow.{ClientRow}
 use Rattle.sw_data.specs.declared.exchange.Request.{Request}
 use Rattle.sw_data.specs.declared.storage.Kept.{Kept}
-use Rattle.sw_data.specs.Events.{event_of_action, who_of}
+use Rattle.sw_core.specs.Actions.{cache_action}
+use Rattle.sw_data.specs.Events.{event_of_action, is_lane, who_of}
 use Rattle.sw_data.specs.Exchange.{no_options}
 use Rattle.sw_rules.specs.History.{Controlled, ControlledFrom, ControlledIn, HasGiven, IsStep, Opens, after, after_entries, given_by, moved}
 use Rattle.sw_rules.specs.Picks.{Complete, HasLines, IsFollowing, IsPicked, IsRecorded, is_host_forget, is_of_lane, made_by, next, next_action}
@@ -35,10 +36,9 @@ use Rattle.sw_rules.specs.Step.{Step, enabled}
 use Rattle.sw_rules.specs.Told.{Outcome}
 use Rattle.sw_rules.specs.Storage.{nothing}
 use Rattle.sw_rules.proofs.HistoryLemmas.{AllStampedAt-snoc, EachLater-snoc, Legal-snoc, after-snoc, stamped_standing}
-use Rattle.sw_host.specs.Built.{are_built_lanes, ignores_nothing, is_built, is_built_action, is_plain_match, is_plain_put, is_plain_request, is_plain_response}
-use Rattle.sw_host.specs.Plain.{IsPlain, IsPlainMatch, IsPlainPut}
+use Rattle.sw_host.specs.Built.{are_built_lanes, is_built, is_built_action}
 use Rattle.sw_host.specs.Play.{HasActed, HasPlayed, HasPlayedAll, IsSoFar, lane_entry, one_lane, opening}
-use Rattle.sw_host.specs.Replies.{IsBare}
+use Rattle.sw_host.specs.Bare.{IsBare}
 
 -- ---- actions
 
@@ -68,53 +68,24 @@ both : (a b : Bool) → (a && b) ≡ true → (a ≡ true) × (b ≡ true)
 both true b is = (refl, is)
 both false b is = absurd cc
 
-none_of : {X : Type 0} (xs : List X) → (length xs == 0) ≡ true → xs ≡ []
-none_of xs is = nil_from_length xs (grind arith)
-
-plain_request : (request : Request) → is_plain_request request ≡ true → (is_get request ≡ true) × (request.headers ≡ [])
-plain_request request is =
-    let parts = both (is_get request) (length request.headers == 0) is in
-    (parts.0, none_of request.headers parts.1)
-
-plain_put : (put : CachePut) → is_plain_put put ≡ true → IsPlainPut put
-plain_put put is =
-    let parts = both (is_plain_request put.request) (is_plain_response put.response) is in
-    let request = plain_request put.request parts.0 in
-    let response = both (put.response.status == 200) (length put.response.headers == 0) parts.1 in
-    record {
-      get = request.0;
-      headers = request.1;
-      status = let e : (put.response.status == 200) ≡ true = response.0 in grind (arith, e);
-      response = none_of put.response.headers response.1;
-    }
-
-plain_options : (search method vary : Bool) → ignores_nothing (record { ignore_search = search; ignore_method = method; ignore_vary = vary }) ≡ true → record { ignore_search = search; ignore_method = method; ignore_vary = vary } ≡ no_options
-plain_options false false false is = refl
-plain_options true method vary is = absurd cc
-plain_options false true vary is = absurd cc
-plain_options false false true is = absurd cc
-
-no_name : (name : Option (List ℕ)) → is_none name ≡ true → name ≡ None
-no_name None is = refl
-no_name (Some name) is = absurd cc
-
-plain_match : (asked : CacheMatch) → is_plain_match asked ≡ true → IsPlainMatch asked
-plain_match asked is =
-    let parts = both (is_plain_request asked.request && is_none asked.name) (ignores_nothing asked.options) is in
-    let first = both (is_plain_request asked.request) (is_none asked.name) parts.0 in
-    record {
-      get = (plain_request asked.request first.0).0;
-      name = no_name asked.name first.1;
-      options = plain_options asked.options.ignore_search asked.options.ignore_method asked.options.ignore_vary parts.1;
-    }
-
--- a built action is a plain event
-pub plain_of_built : (at : ℕ) (happened : Action) → is_built_action happened ≡ true → IsPlain (event_of_action (Lane 0 at) happened)
+-- a built action is one on caches
+pub on_caches : (who : Who) (happened : Action) → is_built_action happened ≡ true → is_some (cache_action (event_of_action who happened)) ≡ true
 unfolding event_of_action
-plain_of_built at (action.CacheOpen place name) built = refl
-plain_of_built at (action.Put place put) built = (refl, plain_put put built)
-plain_of_built at (action.Match place asked) built = (refl, plain_match asked built)
-plain_of_built at _ built = absurd cc
+on_caches who (action.CacheOpen place name) built = refl
+on_caches who (action.CacheHas place name) built = refl
+on_caches who (action.CacheDelete place name) built = refl
+on_caches who (action.CacheKeys place) built = refl
+on_caches who (action.Match place asked) built = refl
+on_caches who (action.MatchAll place asked) built = refl
+on_caches who (action.Keys place asked) built = refl
+on_caches who (action.Put place put) built = refl
+on_caches who (action.Delete place asked) built = refl
+on_caches who (action.Batch place asked) built = refl
+on_caches who _ built = absurd cc
+
+-- its event is made by its lane
+pub by_lane : (lane at : ℕ) (happened : Action) → is_lane (who_of (event_of_action (Lane lane at) happened)) ≡ true
+by_lane lane at happened = ap is_lane (who_of-event_of_action (Lane lane at) happened)
 
 -- the element behind a front is built, where all are
 pub built_at_seam : (front : List Action) (x : Action) (rest : List Action) → list_all is_built_action (front ++ x ∷ rest) ≡ true → is_built_action x ≡ true

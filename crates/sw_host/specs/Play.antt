@@ -16,7 +16,7 @@ use Rattle.sw_rules.specs.State.{State}
 use Rattle.sw_rules.specs.Step.{Step}
 use Rattle.sw_rules.specs.Storage.{nothing}
 use Rattle.sw_rules.proofs.HistoryLemmas.{AllStampedAt}
-use Rattle.sw_host.specs.Replies.{IsBare}
+use Rattle.sw_host.specs.Bare.{IsBare}
 
 -- the entry of a restart from nothing
 abbrev pub opening : Entry

@@ -2,13 +2,12 @@
 
 ghost use Rattle.std.specs.Prelude.{◌≡◌};
 ghost use Rattle.std.specs.List.{list_all};
-ghost use Rattle.sw_host.specs.Built.{ignores_nothing, is_built, is_built_action, is_plain_match, is_plain_put, is_plain_request, is_plain_response};
+ghost use Rattle.sw_host.specs.Built.{is_built, is_built_action};
 
-use sw_data::{Action, CacheMatch, CachePut, Options, Recording, Request, Response};
+use sw_data::{Action, Recording};
 
-/// The recording has at most lane 0, and each action opens a cache, puts a plain response under a plain request, or
-/// looks a plain request up in all caches of a page. A plain request is a GET without headers, and a plain response
-/// has status 200 and no headers.
+/// The recording has at most lane 0, and each action is one on caches: `cacheOpen`, `cacheHas`, `cacheDelete`,
+/// `cacheKeys`, `match`, `matchAll`, `keys`, `put`, `delete` or `batch`.
 pub fn is_built(recording: &Recording) -> bool
     ensures { result ≡ is_built recording.now }
 {
@@ -29,39 +28,16 @@ fn is_built_action(action: &Action) -> bool
     ensures { result ≡ is_built_action action.now }
 {
     match action {
-        Action::CacheOpen { .. } => true,
-        Action::Put { put, .. } => is_plain_put(put),
-        Action::Match { find, .. } => is_plain_match(find),
+        Action::CacheOpen { .. }
+        | Action::CacheHas { .. }
+        | Action::CacheDelete { .. }
+        | Action::CacheKeys { .. }
+        | Action::Match { .. }
+        | Action::MatchAll { .. }
+        | Action::Keys { .. }
+        | Action::Put { .. }
+        | Action::Delete { .. }
+        | Action::Batch { .. } => true,
         _ => false,
     }
-}
-
-fn is_plain_put(put: &CachePut) -> bool
-    ensures { result ≡ is_plain_put put.now }
-{
-    is_plain_request(&put.request) && is_plain_response(&put.response)
-}
-
-fn is_plain_match(asked: &CacheMatch) -> bool
-    ensures { result ≡ is_plain_match asked.now }
-{
-    is_plain_request(&asked.request) && asked.name.is_none() && ignores_nothing(&asked.options)
-}
-
-fn is_plain_request(request: &Request) -> bool
-    ensures { result ≡ is_plain_request request.now }
-{
-    request.method.as_str() == "GET" && request.headers.as_slice().is_empty()
-}
-
-fn is_plain_response(response: &Response) -> bool
-    ensures { result ≡ is_plain_response response.now }
-{
-    response.status == 200 && response.headers.as_slice().is_empty()
-}
-
-fn ignores_nothing(options: &Options) -> bool
-    ensures { result ≡ ignores_nothing options.now }
-{
-    !options.ignore_search && !options.ignore_method && !options.ignore_vary
 }

@@ -3,9 +3,7 @@
 
 mod acting;
 mod built;
-mod caches;
 mod host;
-mod place;
 mod play;
 mod report;
 mod statuses;

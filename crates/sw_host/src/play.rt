@@ -6,7 +6,7 @@ ghost use Rattle.sw_rules.specs.Run.{IsWholeRun};
 ghost use Rattle.sw_rules.specs.Storage.{nothing};
 ghost use Rattle.sw_host.specs.Built.{is_built, is_built_action};
 ghost use Rattle.sw_host.specs.Play.{HasActed, HasPlayedAll, opening};
-ghost use Rattle.sw_host.specs.Replies.{IsBare};
+ghost use Rattle.sw_host.specs.Bare.{IsBare};
 
 use crate::acting::event_of_action;
 use crate::host::Host;
@@ -31,7 +31,7 @@ fn opening(alloc: Global) -> Entry
 }
 
 // The action of lane 0 at a position happens: it is one step, and one entry more.
-#[tactic(auto, using(crate::proofs::PlayLemmas::plain_of_built))]
+#[tactic(auto, using(crate::proofs::PlayLemmas::on_caches, crate::proofs::PlayLemmas::by_lane))]
 fn act(
     alloc: Global,
     host: &mut Host,
@@ -40,19 +40,18 @@ fn act(
     action: Action,
 ) -> Result<(), NoMemory>
     requires built { is_built_action action ≡ true }
-    requires bare { IsBare host.old }
     ensures { OnOk result
         (HasActed at action history.old.items host.old history.new.items host.new) }
 {
     let who = Who::Lane { lane: 0, at };
     let event = event_of_action(who, action);
-    let reply = host.apply(alloc, &event)?;
+    let answer = host.apply(alloc, &event)?;
     history.push(Entry {
         pass: 0,
         who,
         event,
-        answer: reply.answer,
-        notices: reply.notices,
+        answer,
+        notices: Items::new(alloc),
         stamp: 0,
     })?;
     Ok(())

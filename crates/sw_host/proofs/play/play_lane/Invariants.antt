@@ -1,7 +1,7 @@
 use Rattle.std.proofs.Common.{◌≡◌, ◌++◌, length}
 use Rattle.std.specs.Vec.Iter.{into_iter_items}
 use Rattle.sw_host.specs.Play.{HasPlayed}
-use Rattle.sw_host.specs.Replies.{IsBare}
+use Rattle.sw_host.specs.Bare.{IsBare}
 use Rattle.sw_host.proofs.play.play_lane.Given as goal
 
 abbrev pub invariant-loop-action : goal.invariant-loop-action
