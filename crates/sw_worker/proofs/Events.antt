@@ -1,6 +1,6 @@
 -- The pending fetch events as entries by number: how they are found, added, removed and counted.
-use Rattle.std.proofs.Common.{◌≡◌, ◌∙◌, ◌≢◌, ℕ, zero, suc, ◌+◌, ◌<◌, ◌≤◌, Bool, true, false, not, ◌==◌, nat_eq, List, [], ◌∷◌, ◌++◌, map, filter, length, set, get_or, Option, Some, None, refl, sym, ap, subst, arith, if◌then◌else◌, is_some, slice_index_or, slice_set, nat_lt, ◌-◌}
-use Rattle.std.specs.List.{find, list_any, IsDistinct, AllByRecursion}
+use Rattle.std.proofs.Common.{◌≡◌, ◌∙◌, ℕ, zero, suc, ◌+◌, ◌<◌, ◌≤◌, Bool, true, false, not, ◌==◌, nat_eq, List, [], ◌∷◌, ◌++◌, length, set, get_or, Some, None, refl, sym, ap, subst, arith, if◌then◌else◌, is_some, slice_index_or, slice_set, nat_lt, ◌-◌}
+use Rattle.std.specs.List.{list_any, IsDistinct, AllByRecursion}
 use Rattle.std.specs.Option.{option_map}
 use Rattle.std.specs.Map.{lookup, remove_entry, keys_of}
 use Rattle.std.proofs.lemmas.Bool.Decides.{nat_tests}

@@ -1,5 +1,5 @@
 -- The rows of a table of workers: how they are found, changed and added.
-use Rattle.std.proofs.Common.{◌≡◌, ◌∙◌, ℕ, zero, suc, ◌+◌, ◌<◌, ◌≤◌, Bool, true, false, List, [], ◌∷◌, ◌++◌, length, get_or, Option, Some, None, IfSome, option_map, refl, sym, ap, subst, arith, slice_set, slice_index_or}
+use Rattle.std.proofs.Common.{◌≡◌, ◌∙◌, ℕ, zero, suc, ◌<◌, ◌≤◌, Bool, true, false, List, [], ◌∷◌, ◌++◌, length, get_or, Option, Some, None, IfSome, option_map, refl, sym, ap, subst, arith, slice_set, slice_index_or}
 use Rattle.std.proofs.lemmas.List.{length-append, length-set}
 use Rattle.sw_data.specs.declared.rows.HandlerRow.{HandlerRow}
 use Rattle.sw_data.specs.declared.rows.WorkerRow.{WorkerRow}

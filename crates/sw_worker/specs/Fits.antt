@@ -1,5 +1,5 @@
 -- Finished rows that a table may take without memory (own).
-use Rattle.std.specs.Prelude.{ℕ, ◌≡◌, ◌<◌, ◌^◌, ◌+◌, true, false, length}
+use Rattle.std.specs.Prelude.{◌≡◌, ◌<◌, ◌^◌, ◌+◌, true, false, length}
 use Rattle.sw_data.specs.declared.rows.WorkerRow.{WorkerRow}
 use Rattle.sw_rules.specs.State.{FetchEvent}
 use Rattle.sw_worker.specs.Table.{Table, events_on, has_worker, is_activated, is_pending}
