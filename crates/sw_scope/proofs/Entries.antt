@@ -9,9 +9,6 @@ use Rattle.sw_scope.specs.Counted.{bare, entries_of}
 abbrev pub one_at : ℕ → ℕ → ℕ
 one_at length n = if length == n then 1 else 0
 
-is_same : (a : List ℕ) → bytes_eq a a ≡ true
-is_same a = (bytes_decides a a).1 refl
-
 -- equality of bytes goes both ways
 both_ways : (a b : List ℕ) → bytes_eq a b ≡ bytes_eq b a
 both_ways a b = by (bytes_eq a b) (bytes_eq b a) refl refl

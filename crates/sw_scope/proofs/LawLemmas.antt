@@ -1,12 +1,14 @@
 -- The laws of the map of scopes.
-use Rattle.std.proofs.Common.{◌≡◌, ◌∙◌, ◌⊎◌, inl, inr, ⊎_elim, ◌<◌, ◌≤◌, ◌==◌, ℕ, zero, suc, Bool, true, false, List, [], ◌∷◌, length, take, nat_lt, bytes_eq, filter, fold, option_map, is_some, Option, Some, None, refl, sym, ap, subst, arith, length-take, if◌then◌else◌}
+use Rattle.std.proofs.Common.{◌≡◌, ◌∙◌, ◌⊎◌, inl, inr, ⊎_elim, ◌<◌, ◌≤◌, ◌==◌, ℕ, zero, suc, Bool, true, false, List, [], ◌∷◌, length, take, nat_lt, bytes_eq, filter, fold, find, map, option_map, is_some, Option, Some, None, refl, sym, ap, subst, arith, length-take, if◌then◌else◌}
 use Rattle.std.proofs.lemmas.Bool.{and_parts}
 use Rattle.std.proofs.lemmas.Bool.Decides.{nat_tests}
 use Rattle.std.specs.Cmp.Lexicographic.{bytes_decides}
 use Rattle.std.specs.Map.{lookup}
 use Rattle.std.specs.Option.{IsSome}
 use Rattle.sw_rules.specs.Matching.{Scope, holds_address, longer, longest}
-use Rattle.sw_scope.specs.Laws.{LengthsAreOfScopes, LongestIsTheStandards, OneLengthIsOneStep}
+use Rattle.sw_rules.specs.Rows.{is_mapped_to, mapped_registration, mapped_scopes}
+use Rattle.sw_rules.specs.State.{Registration}
+use Rattle.sw_scope.specs.Laws.{LengthsAreOfScopes, LongestIsTheStandards, MatchIsTheLongestFront, OneLengthIsOneStep}
 use Rattle.sw_scope.specs.Scopes.{has_length, is_scope, longest_at, longest_front, number_in, own_scopes, passing_to}
 
 -- ---- the longest front goes by the fronts alone
@@ -172,6 +174,22 @@ module _ (key address : List ℕ) where
 
 pub longest_is : LongestIsTheStandards
 longest_is scopes key address = best_is key address scopes
+
+-- ---- the mapped registrations
+
+abbrev row_scope : Registration → Scope
+row_scope row = record { key = row.key; scope = row.scope; number = row.number }
+
+mapped_number : (key scope : List ℕ) (rows : List Registration)
+    → number_in (map row_scope (filter (λ row. row.mapped) rows)) key scope ≡ option_map (λ row. row.number) (find (is_mapped_to key scope) rows)
+mapped_number key scope [] = refl
+mapped_number key scope (row ∷ rows) = grind (arith, mapped_number key scope rows)
+
+pub match_is : MatchIsTheLongestFront
+match_is state key address =
+    longest_is (mapped_scopes state) key address
+    ∙ same_fronts (number_in (mapped_scopes state) key) (λ scope. option_map (λ row. row.number) (mapped_registration state key scope))
+    address (length address) (λ n inside. mapped_number key (take n address) state.registrations)
 
 -- ---- the counted lengths
 
