@@ -82,6 +82,14 @@ fn take_out(rows: &mut IndexMap<u32, OpenClient>, number: u32)
     let _ = rows.shift_remove(&number);
 }
 
+// Gives a client a controller, a worker of a registration.
+fn give(row: &mut OpenClient, controller: (u32, u32))
+    ensures { row.new ≡ controlled_by controller row.old }
+{
+    row.client.controller = Some(controller.0);
+    row.registration = Some(controller.1);
+}
+
 impl Clients {
     /// No clients, and no registration known. It takes no memory.
     pub fn new(alloc: Global) -> Clients
@@ -262,10 +270,8 @@ impl Clients {
         let Some(row) = self.rows.get_mut(&number) else {
             return Err(NoClient);
         };
-        counts::lower(&mut self.counts, row.registration);
-        counts::raise(&mut self.counts, Some(controller.1));
-        row.client.controller = Some(controller.0);
-        row.registration = Some(controller.1);
+        counts::exchange(&mut self.counts, row.registration, controller.1);
+        give(row, controller);
         Ok(())
     }
 }
