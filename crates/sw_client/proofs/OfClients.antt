@@ -112,12 +112,12 @@ raised es counts known None sound is few = tt
 raised es counts known (Some r) sound is few = (is, omega (arith, sound.users r, count_within number (uses r) (values_of es), few))
 
 -- and so has the one that a client is given
-pub raised_again : (n r : ℕ) (es : Entries) (counts now : List ℕ) (x : OpenClient) → IsCounted es counts → lookup (nat_eq n) es ≡ Some x
-    → slice_index_or now r 0 ≡ slice_index_or counts r 0 - one_of x.registration r → slice_index_or now r 0 < 2 ^ 32 - 1
-raised_again n r es counts now x sound there lower =
+pub raised_again : (n r : ℕ) (es : Entries) (counts : List ℕ) (x : OpenClient) → IsCounted es counts → lookup (nat_eq n) es ≡ Some x
+    → slice_index_or counts r 0 - one_of x.registration r < 2 ^ 32 - 1
+raised_again n r es counts x sound there =
     let found : find (is_open n) (values_of es) ≡ Some x = sym (found_by n es sound.keyed) ∙ there in
     let other = count_others number (uses r) n (values_of es) x found in
-    grind (arith, nat_tests, lower, sound.users r, other, sound.few)
+    grind (arith, nat_tests, sound.users r, other, sound.few)
 
 pub added_counted : (new : OpenClient) (es after : Entries) (counts now : List ℕ) → IsCounted es counts → list_any (is_client new.client.number) (map client (values_of es)) ≡ false → length (values_of es) < 2 ^ 32 - 1
     → after ≡ insert_entry nat_eq es new.client.number new → IsDistinct nat_eq (keys_of after) → ((r : ℕ) → slice_index_or now r 0 ≡ slice_index_or counts r 0 + one_of new.registration r) → IsCounted after now
@@ -138,13 +138,13 @@ removed_counted n es after counts now x sound there is apart less =
 pub removed_rows : (n : ℕ) (es after : Entries) → IsKeyed number es → after ≡ remove_entry (nat_eq n) es → values_of after ≡ without (is_open n) (values_of es)
 removed_rows n es after sound is = ap values_of (is ∙ removed n es sound) ∙ values_keyed number (without (is_open n) (values_of es))
 
-pub given_counted : (n : ℕ) (c : ℕ × ℕ) (es after : Entries) (counts lower now : List ℕ) (x : OpenClient) → IsCounted es counts → lookup (nat_eq n) es ≡ Some x
+pub given_counted : (n : ℕ) (c : ℕ × ℕ) (es after : Entries) (counts now : List ℕ) (x : OpenClient) → IsCounted es counts → lookup (nat_eq n) es ≡ Some x
     → after ≡ set_value (nat_eq n) es (controlled_by c x) → IsDistinct nat_eq (keys_of after)
-    → ((r : ℕ) → slice_index_or lower r 0 ≡ slice_index_or counts r 0 - one_of x.registration r) → ((r : ℕ) → slice_index_or now r 0 ≡ slice_index_or lower r 0 + one_of (Some c.1) r) → IsCounted after now
-given_counted n c es after counts lower now x sound there is apart less more =
+    → ((r : ℕ) → slice_index_or now r 0 ≡ slice_index_or counts r 0 - one_of x.registration r + one_of (Some c.1) r) → IsCounted after now
+given_counted n c es after counts now x sound there is apart shifted =
     let found : find (is_open n) (values_of es) ≡ Some x = sym (found_by n es sound.keyed) ∙ there in
     now_counted after (changed (is_open n) (controlled_by c) (values_of es)) now (is ∙ given n c es x sound.keyed there) apart
-    (λ r. omega (arith, less r, more r, sound.users r, count_least number (uses r) n (values_of es) x found, count_changed number (uses r) (controlled_by c) n (values_of es) x (apart_now es sound.keyed) found))
+    (λ r. omega (arith, shifted r, sound.users r, count_least number (uses r) n (values_of es) x found, count_changed number (uses r) (controlled_by c) n (values_of es) x (apart_now es sound.keyed) found))
     (omega (arith, sound.few, length-map (values_of es) (λ row. if is_open n row then controlled_by c row else row)))
 
 pub given_rows : (n : ℕ) (c : ℕ × ℕ) (es after : Entries) (x : OpenClient) → IsKeyed number es → lookup (nat_eq n) es ≡ Some x → after ≡ set_value (nat_eq n) es (controlled_by c x) → values_of after ≡ changed (is_open n) (controlled_by c) (values_of es)

@@ -1,9 +1,10 @@
 //! The table of clients: each is found by its number, and the users of each registration are counted.
 #![tactic(auto)]
 
-ghost use Rattle.std.specs.Prelude.{◌≡◌, ◌↔◌, ◌+◌, ◌-◌, ◌<◌, ◌≤◌, ◌^◌, [], ◌++◌, ◌∷◌, true, false, max, length, find, slice_get, IfSome, IfOk, IsErr, OnOk, OnErr, Some, None};
+ghost use Rattle.std.specs.Prelude.{◌≡◌, ◌↔◌, ◌+◌, ◌-◌, ◌<◌, ◌≤◌, ◌^◌, [], ◌++◌, ◌∷◌, true, false, max, nat_eq, length, find, slice_get, IfSome, IfOk, IsErr, OnOk, OnErr, Some, None};
 ghost use Rattle.std.specs.List.{list_any};
 ghost use Rattle.std.specs.Option.{option_copied, option_map};
+ghost use Rattle.indexmap.specs.IndexMap.{IsUnique, shift_remove_entry, spare};
 ghost use Rattle.sw_rules.specs.Rows.{changed, is_client, without};
 ghost use Rattle.sw_client.specs.Table.{Fits, clients_of, controlled_by, is_open, users_of};
 
@@ -71,6 +72,23 @@ pub enum AddFault {
 /// No client has this number.
 #[derive(Debug, Clone, Copy, PartialEq, Eq)]
 pub struct NoClient;
+
+// Takes a client out; the others keep their order.
+fn take_out(rows: &mut IndexMap<u32, OpenClient>, number: u32)
+    ensures entries { rows.new.entries ≡ shift_remove_entry (nat_eq number) rows.old.entries }
+    ensures unique { IsUnique nat_eq rows.new }
+    ensures room { spare rows.old ≤ spare rows.new }
+{
+    let _ = rows.shift_remove(&number);
+}
+
+// Gives a client a controller, a worker of a registration.
+fn give(row: &mut OpenClient, controller: (u32, u32))
+    ensures { row.new ≡ controlled_by controller row.old }
+{
+    row.client.controller = Some(controller.0);
+    row.registration = Some(controller.1);
+}
 
 impl Clients {
     /// No clients, and no registration known. It takes no memory.
@@ -233,7 +251,7 @@ impl Clients {
             return Err(NoClient);
         };
         counts::lower(&mut self.counts, gone.registration);
-        let _ = self.rows.shift_remove(&number);
+        take_out(&mut self.rows, number);
         Ok(())
     }
 
@@ -252,10 +270,8 @@ impl Clients {
         let Some(row) = self.rows.get_mut(&number) else {
             return Err(NoClient);
         };
-        counts::lower(&mut self.counts, row.registration);
-        counts::raise(&mut self.counts, Some(controller.1));
-        row.client.controller = Some(controller.0);
-        row.registration = Some(controller.1);
+        counts::exchange(&mut self.counts, row.registration, controller.1);
+        give(row, controller);
         Ok(())
     }
 }

@@ -15,8 +15,8 @@ lower-requires c = lowered c.args.number c.self.inside.rows.entries c.self.insid
 
 pub invariant_of-self : goal.invariant_of-self
 invariant_of-self c =
-    removed_counted c.args.number c.self.inside.rows.entries c.shift_remove.new.self.entries c.self.inside.counts.items c.lower.new.counts.items c.in-Some.gone.now c.self.invariant (sym c.get.ensures.value ∙ ap option_copied c.in-Some.is)
-    c.shift_remove.ensures.entries c.shift_remove.ensures.unique c.lower.ensures.count
+    removed_counted c.args.number c.self.inside.rows.entries c.take_out.new.rows.entries c.self.inside.counts.items c.lower.new.counts.items c.in-Some.gone.now c.self.invariant (sym c.get.ensures.value ∙ ap option_copied c.in-Some.is)
+    c.take_out.ensures.entries c.take_out.ensures.unique c.lower.ensures.count
 
 pub returns-clause-none : goal.returns-clause-none
 returns-clause-none c =
@@ -25,10 +25,10 @@ returns-clause-none c =
 
 pub returns-clause-rows : goal.returns-clause-rows
 returns-clause-rows c =
-    removed_rows c.args.number c.self.inside.rows.entries c.shift_remove.new.self.entries c.self.invariant.keyed c.shift_remove.ensures.entries
+    removed_rows c.args.number c.self.inside.rows.entries c.take_out.new.rows.entries c.self.invariant.keyed c.take_out.ensures.entries
     ∙ ap (λ (table : Table). without (is_open c.args.number) table.rows) c.self.view_is
 
 pub returns-clause-clients : goal.returns-clause-clients
 returns-clause-clients c =
-    removed_clients c.args.number c.self.inside.rows.entries c.shift_remove.new.self.entries c.self.invariant.keyed c.shift_remove.ensures.entries
+    removed_clients c.args.number c.self.inside.rows.entries c.take_out.new.rows.entries c.self.invariant.keyed c.take_out.ensures.entries
     ∙ ap (λ (table : Table). without (is_client c.args.number) (clients_of table)) c.self.view_is
