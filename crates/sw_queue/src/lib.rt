@@ -1,0 +1,6 @@
+//! Jobs by number, and their queues by storage key and scope.
+#![tactic(auto)]
+
+mod index;
+mod line;
+mod scopes;
