@@ -1,3 +1,5 @@
 pub mod Naming
 pub mod Scoping
 pub mod Keying
+pub mod Listing
+pub mod Places

@@ -34,3 +34,9 @@ Keyed = List (List ℕ × Scoped)
 -- own: the line of a key and a scope
 abbrev pub line_in : Keyed → List ℕ → List ℕ → Row
 line_in lines key scope = line_at (named lines key []) scope
+
+-- own: lists of numbers by place, how many more lists have room, and how many more numbers in each
+pub record Lists : Type 0 where
+  pub lists : List (List ℕ)
+  pub spare : ℕ
+  pub spares : List ℕ
