@@ -3,3 +3,5 @@ pub mod Scoping
 pub mod Keying
 pub mod Listing
 pub mod Places
+pub mod Alike
+pub mod Keeping
