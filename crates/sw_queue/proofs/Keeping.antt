@@ -5,7 +5,7 @@ use Rattle.std.specs.List.{find, list_all}
 use Rattle.std.specs.Cmp.Lexicographic.{bytes_decides}
 use Rattle.std.specs.Option.{option_map_or}
 use Rattle.std.proofs.lemmas.Bool.Decides.{nat_tests}
-use Rattle.std.proofs.lemmas.List.{append-nil, map-append, length-set, get_or-set_same, get_or-set_other, get_or_past, get_or_append_left}
+use Rattle.std.proofs.lemmas.List.{append-nil, map-append, length-set, get_or-set_same, get_or-set_other, get_or_default}
 use Rattle.std.proofs.lemmas.List.Elements.{filter-append}
 use Rattle.sw_data.specs.declared.rows.JobRow.{JobRow}
 use Rattle.sw_rules.specs.Rows.{first_job, is_done, is_number, is_unfinished, queue}
@@ -196,12 +196,13 @@ left_queue rows place row new are is here found done key scope = by (bytes_eq ro
     by false same_scope one two = stays (λ i. one i && two i)
 
 pub kept_finished : (rows : List JobRow) (lists : List (List ℕ)) (lines after : Keyed) (place : ℕ) (row new : JobRow) → IsKept rows lists lines
-    → number row ≡ place → row ≡ get_or rows place new → first_job row.job.key row.job.scope rows ≡ Some row
+    → number row ≡ place → place < length rows → row ≡ get_or rows place row → first_job row.job.key row.job.scope rows ≡ Some row
     → new.job ≡ row.job → new.leader ≡ row.leader → is_done new.phase ≡ true
     → ((key scope : List ℕ) → (line_in after key scope).numbers
     ≡ (if bytes_eq row.job.key key && bytes_eq row.job.scope scope then drop 1 (line_in lines key scope).numbers else (line_in lines key scope).numbers))
     → IsKept (set rows place new) lists after
-kept_finished rows lists lines after place row new kept is here found one_job one_leader done dropped =
+kept_finished rows lists lines after place row new kept is below read found one_job one_leader done dropped =
+    let here = read ∙ get_or_default rows place row new below in
     kept_but_queues rows (set rows place new) lists lines after
     (set_alike IsSame (λ r. record { job = refl; leader = refl }) rows place new new
     (subst (λ r. IsSame r new) here (record { job = one_job; leader = one_leader })))
@@ -210,3 +211,11 @@ kept_finished rows lists lines after place row new kept is here found one_job on
     dropped key scope
     ∙ (λ i. if bytes_eq row.job.key key && bytes_eq row.job.scope scope then drop 1 (kept.queues key scope i) else kept.queues key scope i)
     ∙ sym (left_queue rows place row new kept.numbers is here found done key scope))
+
+-- what is kept of these is kept of those, which are the same
+pub kept_is : (rows those_rows : List JobRow) (lists those_lists : List (List ℕ)) (lines those : Keyed) → rows ≡ those_rows → lists ≡ those_lists → lines ≡ those
+    → IsKept those_rows those_lists those → IsKept rows lists lines
+kept_is rows those_rows lists those_lists lines those one two three kept =
+    subst (λ (r : List JobRow). IsKept r lists lines) (sym one)
+    (subst (λ (l : List (List ℕ)). IsKept those_rows l lines) (sym two)
+    (subst (λ (k : Keyed). IsKept those_rows those_lists k) (sym three) kept))

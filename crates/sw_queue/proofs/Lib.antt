@@ -5,3 +5,6 @@ pub mod Listing
 pub mod Places
 pub mod Alike
 pub mod Keeping
+pub mod Reading
+pub mod Running
+pub mod Rooms
