@@ -37,7 +37,7 @@ module _ (R : JobRow → JobRow → Type 0) where
   map_alike f alike [] = tt
   map_alike f alike (row ∷ rows) = (alike row, map_alike f alike rows)
 
-  length_alike : (rows others : List JobRow) → AreBy rows others → length others ≡ length rows
+  pub length_alike : (rows others : List JobRow) → AreBy rows others → length others ≡ length rows
   length_alike [] [] alike = refl
   length_alike (row ∷ rows) (other ∷ others) alike = ap suc (length_alike rows others alike.1)
   length_alike [] (other ∷ others) alike = absurd alike
@@ -68,7 +68,7 @@ module _ (R : JobRow → JobRow → Type 0) where
 
 -- ---- what stays
 
-from_alike : (first : ℕ) (rows others : List JobRow) → AreBy IsSame rows others → AreFrom first rows → AreFrom first others
+pub from_alike : (first : ℕ) (rows others : List JobRow) → AreBy IsSame rows others → AreFrom first rows → AreFrom first others
 from_alike first [] [] alike are = tt
 from_alike first (row ∷ rows) (other ∷ others) alike are =
     (ap (λ job. job.number) alike.0.job ∙ are.0, from_alike (suc first) rows others alike.1 are.1)
@@ -90,7 +90,7 @@ kept_but_queues rows others lists lines after alike kept queues = record {
     ∙ kept.leaders;
 }
 
-same_rows : (rows others : List JobRow) → AreBy IsAlike rows others → AreBy IsSame rows others
+pub same_rows : (rows others : List JobRow) → AreBy IsAlike rows others → AreBy IsSame rows others
 same_rows [] [] alike = tt
 same_rows (row ∷ rows) (other ∷ others) alike = (alike.0.same, same_rows rows others alike.1)
 same_rows [] (other ∷ others) alike = absurd alike

@@ -8,3 +8,4 @@ pub mod Keeping
 pub mod Reading
 pub mod Running
 pub mod Rooms
+pub mod Settling

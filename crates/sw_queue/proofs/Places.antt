@@ -45,7 +45,7 @@ find_from first (row ∷ rows) are (suc place) job is =
     let rest = find_from (suc first) rows are.1 place job (omega (arith, is)) in
     grind (arith, nat_tests)
 
-before_from : (f : JobRow → JobRow) (first : ℕ) (rows : List JobRow) → AreFrom first rows → (job : ℕ) → job < first
+pub before_from : (f : JobRow → JobRow) (first : ℕ) (rows : List JobRow) → AreFrom first rows → (job : ℕ) → job < first
     → changed (is_job job) f rows ≡ rows
 before_from f first [] are job below = refl
 before_from f first (row ∷ rows) are job below =

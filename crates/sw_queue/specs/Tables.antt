@@ -1,5 +1,5 @@
 -- The table of jobs: its rows, the room for more of them, and what its calls answer.
-use Rattle.std.specs.Prelude.{◌≡◌, ℕ, ◌<◌, Bool, true, false, not, ◌&&◌, List, [], map, length, find, get_or, bytes_eq, is_none, Option, Some, None, option_and_then, if◌then◌else◌}
+use Rattle.std.specs.Prelude.{◌≡◌, ℕ, ◌<◌, fold, Bool, true, false, not, ◌&&◌, List, [], map, length, find, get_or, bytes_eq, is_none, Option, Some, None, option_and_then, if◌then◌else◌}
 use Rattle.std.specs.Map.{lookup}
 use Rattle.std.specs.Option.{option_map_or, unwrap_or}
 use Rattle.sw_data.specs.declared.answers.Settlement.{Settlement}
@@ -8,7 +8,7 @@ use Rattle.sw_data.specs.declared.rows.JobPhase.{JobPhase}
 use Rattle.sw_data.specs.declared.rows.JobPhase.TheVariants as job_phase
 use Rattle.sw_data.specs.declared.rows.JobRow.{JobRow}
 use Rattle.sw_rules.specs.Jobs.{is_equivalent, new_job_row}
-use Rattle.sw_rules.specs.Rows.{first_job, is_job, is_waiting, last_job}
+use Rattle.sw_rules.specs.Rows.{changed, first_job, is_job, is_waiting, last_job}
 use Rattle.sw_queue.specs.Lines.{Keyed, Scoped, named}
 use Rattle.sw_queue.specs.declared.calls.JobNotes.{JobNotes}
 use Rattle.sw_queue.specs.declared.calls.Scheduled.{Scheduled}
@@ -83,6 +83,10 @@ in_phase phase row = record row { phase = phase }
 -- own: a row whose promise settles with this value, where it has not settled
 abbrev pub given : Settlement → JobRow → JobRow
 given result row = if is_none row.settled then record row { settled = Some result } else row
+
+-- own: the promises of these jobs settle with this value, one after the other
+abbrev pub settled_all : Settlement → List JobRow → List ℕ → List JobRow
+settled_all result rows jobs = fold (λ done job. changed (is_job job) (given result) done) rows jobs
 
 -- own: a job in this phase runs
 abbrev pub is_running : JobPhase → Bool

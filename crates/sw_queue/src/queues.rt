@@ -1,13 +1,14 @@
 //! The table of jobs, with the queue of each key and scope and the followers of each job.
 
-ghost use Rattle.std.specs.Prelude.{◌≡◌, ◌++◌, ◌∷◌, [], length, map, true, not, ◌&&◌, find, is_none, is_some, Some, option_map, IfOk, OnOk, OnErr};
+ghost use Rattle.std.specs.Prelude.{◌≡◌, ◌++◌, ◌∷◌, [], ◌<◌, length, map, true, not, ◌&&◌, find, is_none, is_some, Some, option_map, IfOk, OnOk, OnErr};
+ghost use Rattle.std.specs.List.{All};
 ghost use Rattle.std.specs.Option.{option_copied};
 ghost use Rattle.std.specs.Result.{result_ok};
 ghost use Rattle.sw_data.specs.declared.rows.JobPhase.TheVariants as job_phase;
 ghost use Rattle.sw_rules.specs.Jobs.{gets_value, is_equivalent, new_job_row};
 ghost use Rattle.sw_rules.specs.Rows.{changed, first_job, is_first, is_job, is_waiting, last_job};
-ghost use Rattle.sw_queue.specs.Kept.{followers_of};
-ghost use Rattle.sw_queue.specs.Tables.{FitsJob, HasPlace, given, has_job, in_phase, is_running, joined_in, noted, ready_job, scheduled_as};
+ghost use Rattle.sw_queue.specs.Kept.{AreFrom, followers_of};
+ghost use Rattle.sw_queue.specs.Tables.{FitsJob, HasPlace, given, has_job, in_phase, is_running, joined_in, noted, ready_job, scheduled_as, settled_all};
 
 use crate::calls::{JobNotes, NewJob, NotReady, Scheduled};
 use crate::equivalent::is_equivalent;
@@ -67,6 +68,29 @@ fn is_waiting(phase: JobPhase) -> bool
     ensures { result ≡ is_waiting phase }
 {
     matches!(phase, JobPhase::Waiting)
+}
+
+// The promise of a job settles, where it has not settled.
+fn settle_one(row: &mut JobRow, value: Settlement)
+    ensures { row.new ≡ given value row.old }
+{
+    if row.settled.is_none() {
+        row.settled = Some(value);
+    }
+}
+
+// The promises of these jobs settle, and then that of the job that they follow.
+fn settle_rows(rows: &mut [JobRow], job: u32, followers: &[u32], value: Settlement)
+    requires numbers { AreFrom 0 rows.old }
+    requires job { job < length rows.old }
+    requires followers { All (λ follower. follower < length rows.old) followers.now }
+    ensures { rows.new
+        ≡ changed (is_job job) (given value) (settled_all value rows.old followers.now) }
+{
+    for follower in followers {
+        settle_one(&mut rows[*follower as usize], value);
+    }
+    settle_one(&mut rows[job as usize], value);
 }
 
 // Whether a new job joins the last of its queue.
@@ -174,6 +198,18 @@ impl Queues {
         row.fetch = notes.fetch;
         row.remembered = notes.remembered;
         row.worker = notes.worker;
+    }
+
+    /// The promises of a queued job and of the jobs that joined it get this value, where they have none. It takes no
+    /// memory, and time in the number of those jobs alone.
+    pub fn settle(&mut self, job: u32, value: Settlement)
+        requires { has_job (λ row. is_none row.leader && is_none row.settled)
+            job self.old.rows ≡ true }
+        ensures { self.new ≡ record self.old { rows = changed (gets_value job)
+            (λ row. record row { settled = Some value }) self.old.rows } }
+    {
+        let followers = self.followers.at(job as usize);
+        settle_rows(self.rows.as_mut_slice(), job, followers, value);
     }
 
     /// The first job of its queue, whose promise has settled, is done and leaves its queue. It takes no memory.
