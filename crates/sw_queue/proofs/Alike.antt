@@ -1,10 +1,10 @@
 -- Rows that a change leaves alike: their jobs, leaders and queues stay.
-use Rattle.std.proofs.Common.{◌≡◌, ◌∙◌, ℕ, zero, suc, ◌+◌, ◌<◌, ◌≤◌, Bool, true, false, List, [], ◌∷◌, ◌++◌, map, filter, length, set, get_or, refl, sym, ap, subst, arith, if◌then◌else◌}
+use Rattle.std.proofs.Common.{◌≡◌, ◌∙◌, ℕ, zero, suc, Bool, true, false, List, [], ◌∷◌, map, filter, length, set, get_or, refl, sym, ap, if◌then◌else◌}
 use Rattle.std.specs.Prelude.{◌&&◌, bytes_eq, is_none, not}
 use Rattle.std.specs.List.{list_all}
 use Rattle.sw_data.specs.declared.rows.JobRow.{JobRow}
 use Rattle.sw_rules.specs.Rows.{is_done, is_number, is_unfinished, queue}
-use Rattle.sw_queue.specs.Kept.{AreFrom, IsKept, followers_of, is_led_before, number}
+use Rattle.sw_queue.specs.Kept.{AreFrom, IsKept, is_led_before, number}
 use Rattle.sw_queue.specs.Lines.{Keyed, line_in}
 
 -- the two are of one job and have joined one
@@ -83,11 +83,11 @@ kept_but_queues rows others lists lines after alike kept queues = record {
   count = kept.count ∙ sym (length_alike IsSame rows others alike);
   queues = queues;
   followers = λ job.
-    kept.followers job
-    ∙ sym (filter_alike IsSame (λ old new same. same.job) (λ row. is_number row.leader job) (λ old new same i. is_number (same.leader i) job) rows others alike);
+      kept.followers job
+      ∙ sym (filter_alike IsSame (λ old new same. same.job) (λ row. is_number row.leader job) (λ old new same i. is_number (same.leader i) job) rows others alike);
   leaders =
-    all_alike IsSame is_led_before (λ old new same i. is_led_before (record old { job = same.job i; leader = same.leader i })) rows others alike
-    ∙ kept.leaders;
+      all_alike IsSame is_led_before (λ old new same i. is_led_before (record old { job = same.job i; leader = same.leader i })) rows others alike
+      ∙ kept.leaders;
 }
 
 pub same_rows : (rows others : List JobRow) → AreBy IsAlike rows others → AreBy IsSame rows others

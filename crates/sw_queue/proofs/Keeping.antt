@@ -1,5 +1,5 @@
 -- What is kept of the rows, after a job comes and after one is done.
-use Rattle.std.proofs.Common.{◌≡◌, ◌≢◌, ◌∙◌, ℕ, zero, suc, ◌+◌, ◌<◌, ◌≤◌, Bool, true, false, List, [], ◌∷◌, ◌++◌, map, filter, length, drop, set, get_or, Option, Some, None, refl, sym, ap, subst, arith, append_assoc, length-append, if◌then◌else◌}
+use Rattle.std.proofs.Common.{◌≡◌, ◌∙◌, ℕ, zero, suc, ◌+◌, ◌<◌, ◌≤◌, Bool, true, false, List, [], ◌∷◌, ◌++◌, map, filter, length, drop, set, get_or, Option, Some, None, refl, sym, ap, subst, arith, length-append, if◌then◌else◌}
 use Rattle.std.specs.Prelude.{◌&&◌, ◌==◌, bytes_eq, is_none, not, nat_lt}
 use Rattle.std.specs.List.{find, list_all}
 use Rattle.std.specs.Cmp.Lexicographic.{bytes_decides}
@@ -54,15 +54,15 @@ module _ (rows : List JobRow) (lists : List (List ℕ)) (lines after : Keyed) (n
     numbers = from_more 0 rows new kept.numbers (omega (arith, is));
     count = longer lists [] (length rows) kept.count ∙ sym (longer rows new (length rows) refl);
     queues = λ key scope.
-      added key scope
-      ∙ (λ i. if bytes_eq new.job.key key && bytes_eq new.job.scope scope then kept.queues key scope i ++ number new ∷ [] else kept.queues key scope i)
-      ∙ (λ i. if is_none (sym joined i) && not (sym done i) && bytes_eq new.job.key key && bytes_eq new.job.scope scope
-      then map number (queue key scope rows) ++ number new ∷ [] else map number (queue key scope rows))
-      ∙ sym (filter_more (λ row. is_unfinished row && bytes_eq row.job.key key && bytes_eq row.job.scope scope) rows new);
+        added key scope
+        ∙ (λ i. if bytes_eq new.job.key key && bytes_eq new.job.scope scope then kept.queues key scope i ++ number new ∷ [] else kept.queues key scope i)
+        ∙ (λ i. if is_none (sym joined i) && not (sym done i) && bytes_eq new.job.key key && bytes_eq new.job.scope scope
+        then map number (queue key scope rows) ++ number new ∷ [] else map number (queue key scope rows))
+        ∙ sym (filter_more (λ row. is_unfinished row && bytes_eq row.job.key key && bytes_eq row.job.scope scope) rows new);
     followers = λ job.
-      padded lists job ∙ kept.followers job
-      ∙ (λ i. if is_number (sym joined i) job then followers_of job rows ++ number new ∷ [] else followers_of job rows)
-      ∙ sym (filter_more (λ row. is_number row.leader job) rows new);
+        padded lists job ∙ kept.followers job
+        ∙ (λ i. if is_number (sym joined i) job then followers_of job rows ++ number new ∷ [] else followers_of job rows)
+        ∙ sym (filter_more (λ row. is_number row.leader job) rows new);
     leaders = all_more is_led_before rows new kept.leaders (ap (λ (l : Option ℕ). option_map_or (λ leader. nat_lt leader new.job.number) l true) joined);
   }
 
@@ -86,23 +86,23 @@ module _ (rows : List JobRow) (lists : List (List ℕ)) (lines after : Keyed) (n
   kept_joined kept is leader joined below = record {
     numbers = from_more 0 rows new kept.numbers (omega (arith, is));
     count =
-      longer (set lists leader (get_or lists leader [] ++ number new ∷ [])) [] (length rows)
-      (length-set lists leader (get_or lists leader [] ++ number new ∷ []) ∙ kept.count)
-      ∙ sym (longer rows new (length rows) refl);
+        longer (set lists leader (get_or lists leader [] ++ number new ∷ [])) [] (length rows)
+        (length-set lists leader (get_or lists leader [] ++ number new ∷ []) ∙ kept.count)
+        ∙ sym (longer rows new (length rows) refl);
     queues = λ key scope.
-      kept.queues key scope
-      ∙ (λ i. if is_none (sym joined i) && not (is_done new.phase) && bytes_eq new.job.key key && bytes_eq new.job.scope scope
-      then map number (queue key scope rows) ++ number new ∷ [] else map number (queue key scope rows))
-      ∙ sym (filter_more (λ row. is_unfinished row && bytes_eq row.job.key key && bytes_eq row.job.scope scope) rows new);
+        kept.queues key scope
+        ∙ (λ i. if is_none (sym joined i) && not (is_done new.phase) && bytes_eq new.job.key key && bytes_eq new.job.scope scope
+        then map number (queue key scope rows) ++ number new ∷ [] else map number (queue key scope rows))
+        ∙ sym (filter_more (λ row. is_unfinished row && bytes_eq row.job.key key && bytes_eq row.job.scope scope) rows new);
     followers = λ job.
-      padded (set lists leader (get_or lists leader [] ++ number new ∷ [])) job
-      ∙ followed_by leader job (subst (λ n. leader < n) (sym kept.count) below)
-      ∙ (λ i. if is_number (sym joined i) job then kept.followers job i ++ number new ∷ [] else kept.followers job i)
-      ∙ sym (filter_more (λ row. is_number row.leader job) rows new);
+        padded (set lists leader (get_or lists leader [] ++ number new ∷ [])) job
+        ∙ followed_by leader job (subst (λ n. leader < n) (sym kept.count) below)
+        ∙ (λ i. if is_number (sym joined i) job then kept.followers job i ++ number new ∷ [] else kept.followers job i)
+        ∙ sym (filter_more (λ row. is_number row.leader job) rows new);
     leaders =
-      all_more is_led_before rows new kept.leaders
-      (ap (λ (l : Option ℕ). option_map_or (λ n. nat_lt n new.job.number) l true) joined
-      ∙ (let earlier : leader < number new = omega (arith, below, is) in grind (arith, nat_tests, earlier)));
+        all_more is_led_before rows new kept.leaders
+        (ap (λ (l : Option ℕ). option_map_or (λ n. nat_lt n new.job.number) l true) joined
+        ∙ (let earlier : leader < number new = omega (arith, below, is) in grind (arith, nat_tests, earlier)));
   }
 
 -- ---- a job that is done

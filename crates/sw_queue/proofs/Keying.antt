@@ -1,9 +1,9 @@
 -- The lines of all keys and scopes, after one of them changes or comes.
-use Rattle.std.proofs.Common.{◌≡◌, ◌∙◌, ℕ, Bool, true, false, List, [], ◌∷◌, ◌++◌, bytes_eq, drop, length, ◌-◌, ◌<◌, Option, Some, None, refl, sym, ap, subst, arith, if◌then◌else◌}
+use Rattle.std.proofs.Common.{◌≡◌, ◌∙◌, ℕ, Bool, true, false, List, [], ◌∷◌, ◌++◌, bytes_eq, drop, ◌<◌, Some, None, refl, sym, ap, arith, if◌then◌else◌}
 use Rattle.std.specs.Prelude.{◌&&◌}
 use Rattle.std.specs.Map.{lookup, set_value}
 use Rattle.indexmap.specs.IndexMap.{insert_entry}
-use Rattle.sw_queue.specs.Lines.{Row, Scoped, by_name, line_at, line_in, named, no_row}
+use Rattle.sw_queue.specs.Lines.{Scoped, by_name, line_at, line_in, named}
 use Rattle.sw_queue.proofs.Naming.{named_found, named_absent, named_set, named_new, named_same, bytes_same}
 
 -- what a name stands for, where it is there

@@ -1,10 +1,10 @@
 -- Rows whose number is their place: what a look-up, a write and a scan find.
-use Rattle.std.proofs.Common.{◌≡◌, ◌∙◌, ℕ, zero, suc, ◌+◌, ◌<◌, ◌≤◌, Bool, true, false, List, [], ◌∷◌, ◌++◌, map, filter, length, set, get_or, Option, Some, None, option_map, slice_get, refl, sym, ap, subst, arith, append_assoc, length-append, if◌then◌else◌}
+use Rattle.std.proofs.Common.{◌≡◌, ◌∙◌, ℕ, zero, suc, ◌+◌, ◌<◌, Bool, true, false, List, [], ◌∷◌, ◌++◌, map, filter, length, set, get_or, Option, Some, option_map, slice_get, refl, sym, ap, subst, arith, append_assoc, length-append, if◌then◌else◌}
 use Rattle.std.specs.List.{AllByRecursion, find, last_or}
 use Rattle.std.proofs.lemmas.Bool.Decides.{nat_tests}
 use Rattle.sw_data.specs.declared.rows.JobRow.{JobRow}
 use Rattle.sw_rules.specs.Rows.{changed, is_job}
-use Rattle.sw_queue.specs.Kept.{AreFrom, number}
+use Rattle.sw_queue.specs.Kept.{AreFrom}
 
 -- ---- members that pass
 
@@ -74,10 +74,11 @@ there_from : (before rows : List JobRow) → AreFrom (length before) rows
     → AllByRecursion (λ (row : JobRow). slice_get (before ++ rows) row.job.number ≡ Some row) rows
 there_from before [] are = tt
 there_from before (row ∷ rows) are =
-    let longer : length (before ++ row ∷ []) ≡ suc (length before) = let sum = length-append before (row ∷ []) in omega (arith, sum) in
-    (ap (slice_get (before ++ row ∷ rows)) are.0 ∙ at_end before row rows,
-    subst (λ (all : List JobRow). AllByRecursion (λ (r : JobRow). slice_get all r.job.number ≡ Some r) rows) (append_assoc before (row ∷ []) rows)
-    (there_from (before ++ row ∷ []) rows (subst (λ n. AreFrom n rows) (sym longer) are.1)))
+    let longer : length (before ++ row ∷ []) ≡ suc (length before) = let sum = length-append before (row ∷ []) in omega (arith, sum) in (
+      ap (slice_get (before ++ row ∷ rows)) are.0 ∙ at_end before row rows,
+      subst (λ (all : List JobRow). AllByRecursion (λ (r : JobRow). slice_get all r.job.number ≡ Some r) rows) (append_assoc before (row ∷ []) rows)
+          (there_from (before ++ row ∷ []) rows (subst (λ n. AreFrom n rows) (sym longer) are.1)),
+    )
 
 pub each_there : (rows : List JobRow) → AreFrom 0 rows → AllByRecursion (λ (row : JobRow). slice_get rows row.job.number ≡ Some row) rows
 each_there rows are = there_from [] rows are

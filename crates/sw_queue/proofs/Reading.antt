@@ -1,7 +1,7 @@
 -- What is read of the rows by what is kept to find them.
-use Rattle.std.proofs.Common.{◌≡◌, ◌∙◌, ℕ, zero, suc, ◌+◌, ◌<◌, ◌≤◌, Bool, true, false, List, [], ◌∷◌, map, filter, length, get_or, Option, Some, None, option_map, slice_get, refl, sym, ap, subst, arith, nat_lt, Bor}
+use Rattle.std.proofs.Common.{◌≡◌, ◌∙◌, ℕ, ◌<◌, ◌≤◌, List, [], ◌∷◌, map, length, get_or, Option, Some, None, option_map, slice_get, refl, sym, ap, arith, nat_lt, Bor}
 use Rattle.std.specs.Prelude.{◌&&◌, bytes_eq}
-use Rattle.std.specs.List.{AllByRecursion, find, last_or}
+use Rattle.std.specs.List.{find, last_or}
 use Rattle.std.specs.Option.{IfSome, is_some, option_copied}
 use Rattle.std.proofs.lemmas.Bool.Decides.{nat_tests}
 use Rattle.std.proofs.lemmas.Option.{slice_get-get_or, slice_get_past}
@@ -9,7 +9,7 @@ use Rattle.sw_data.specs.declared.rows.JobRow.{JobRow}
 use Rattle.sw_rules.specs.Rows.{first_job, is_job, is_unfinished, last_job, queue}
 use Rattle.sw_queue.specs.Kept.{IsKept, number}
 use Rattle.sw_queue.specs.Lines.{Keyed, line_in}
-use Rattle.sw_queue.proofs.Places.{all-filter, all-last, each_there, find-filter, find_from, last-map}
+use Rattle.sw_queue.proofs.Places.{find-filter, find_from, last-map}
 
 -- what is got of a list is its member at that place
 pub got : (rows : List JobRow) (place : ℕ) (read : Option (Bor JobRow)) → is_some read ≡ nat_lt place (length rows)

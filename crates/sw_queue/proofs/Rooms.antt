@@ -1,6 +1,6 @@
 -- The room of lines is that of each line.
-use Rattle.std.proofs.Common.{◌≡◌, ◌∙◌, ℕ, List, [], ◌∷◌, bytes_eq, refl, ap, arith}
-use Rattle.sw_queue.specs.Lines.{Keyed, Scoped, line_at, line_in, named, no_row}
+use Rattle.std.proofs.Common.{◌≡◌, ◌∙◌, ℕ, List, [], ◌∷◌, refl, ap, arith}
+use Rattle.sw_queue.specs.Lines.{Keyed, Scoped, line_at, line_in, named}
 use Rattle.sw_queue.specs.Tables.{queue_spare, scope_spares, spares}
 
 spare_at : (lines : Scoped) (scope : List ℕ) → named (scope_spares lines) scope 0 ≡ (line_at lines scope).spare

@@ -1,9 +1,8 @@
 -- The rows of jobs that run: where they stand, and that a change of them keeps what is kept.
-use Rattle.std.proofs.Common.{◌≡◌, ◌∙◌, ℕ, zero, suc, ◌+◌, ◌<◌, ◌≤◌, Bool, true, false, List, [], ◌∷◌, map, filter, length, set, get_or, Option, Some, None, option_map, slice_get, refl, sym, ap, subst, arith, if◌then◌else◌}
+use Rattle.std.proofs.Common.{◌≡◌, ◌∙◌, ℕ, zero, suc, ◌+◌, ◌<◌, Bool, true, false, List, [], ◌∷◌, length, set, get_or, Option, Some, None, option_map, slice_get, refl, sym, ap, subst, arith, if◌then◌else◌}
 use Rattle.std.specs.Prelude.{◌&&◌, bytes_eq, is_none, not, option_and_then}
-use Rattle.std.specs.List.{AllByRecursion, find, last_or}
+use Rattle.std.specs.List.{AllByRecursion, find}
 use Rattle.std.specs.Option.{option_map_or}
-use Rattle.std.proofs.lemmas.Bool.{and_parts}
 use Rattle.std.proofs.lemmas.Bool.Decides.{nat_tests}
 use Rattle.std.proofs.lemmas.Option.{get_or_from_slice_get, slice_get-get_or, slice_get_within}
 use Rattle.sw_data.specs.declared.rows.Job.{Job}
@@ -13,8 +12,8 @@ use Rattle.sw_data.specs.declared.rows.JobRow.{JobRow}
 use Rattle.sw_rules.specs.Jobs.{is_equivalent}
 use Rattle.sw_rules.specs.Rows.{changed, first_job, is_done, is_first, is_job, is_unfinished, is_waiting, last_job, queue}
 use Rattle.sw_queue.specs.Kept.{AreFrom, IsKept, number}
-use Rattle.sw_queue.specs.Lines.{Keyed, line_in}
-use Rattle.sw_queue.specs.Tables.{Table, has_job, is_running, joined_in, ready_job}
+use Rattle.sw_queue.specs.Lines.{Keyed}
+use Rattle.sw_queue.specs.Tables.{Table, has_job, is_under_way, joined_in, ready_job}
 use Rattle.sw_queue.proofs.Alike.{IsAlike, kept_alike, set_alike}
 use Rattle.sw_queue.proofs.Places.{all-filter, all-last, each_there, find_from, set_from}
 
@@ -104,8 +103,8 @@ module _ (rows : List JobRow) (are : AreFrom 0 rows) where
       by (Some row) here same =
           let own = some_same (number row) job same in
           let stands = all-last (λ (r : JobRow). slice_get rows (number r) ≡ Some r) None (queue key scope rows) row
-              (all-filter (λ (r : JobRow). slice_get rows (number r) ≡ Some r) (λ r. is_unfinished r && bytes_eq r.job.key key && bytes_eq r.job.scope scope) rows (each_there rows are))
-              (λ never. absurd cc) here in
+          (all-filter (λ (r : JobRow). slice_get rows (number r) ≡ Some r) (λ r. is_unfinished r && bytes_eq r.job.key key && bytes_eq r.job.scope scope) rows (each_there rows are))
+          (λ never. absurd cc) here in
           let there = ap (slice_get rows) (sym own) ∙ stands in
           (slice_get_within rows job row there, λ d. here ∙ ap Some (sym (get_or_from_slice_get rows job row d there)))
 
@@ -142,7 +141,7 @@ table_set view now test f rows is same =
     (λ i. record view { rows = same i }) ∙ (λ i. record (is i) { rows = changed test f (is i).rows })
 
 -- what runs isn't done
-pub runs_on : (phase : JobPhase) → is_running phase ≡ true → is_done phase ≡ false
+pub runs_on : (phase : JobPhase) → is_under_way phase ≡ true → is_done phase ≡ false
 runs_on job_phase.Waiting runs = refl
 runs_on job_phase.Fetching runs = refl
 runs_on job_phase.Evaluating runs = refl

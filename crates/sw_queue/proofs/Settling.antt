@@ -1,6 +1,6 @@
 -- The promises of a job and of its followers settle, one after the other.
-use Rattle.std.proofs.Common.{◌≡◌, ◌∙◌, ℕ, zero, suc, ◌+◌, ◌<◌, ◌≤◌, Bool, true, false, List, [], ◌∷◌, ◌++◌, map, filter, length, set, get_or, take, Option, Some, None, refl, sym, ap, subst, arith, if◌then◌else◌}
-use Rattle.std.specs.Prelude.{◌&&◌, ◌||◌, ◌==◌, is_none, fold}
+use Rattle.std.proofs.Common.{◌≡◌, ◌∙◌, ℕ, suc, ◌+◌, ◌<◌, ◌≤◌, Bool, true, false, List, [], ◌∷◌, map, filter, length, set, get_or, take, Some, refl, sym, ap, subst, arith, if◌then◌else◌}
+use Rattle.std.specs.Prelude.{◌&&◌, ◌||◌, ◌==◌, is_none}
 use Rattle.std.specs.List.{All, AllByRecursion}
 use Rattle.std.proofs.lemmas.List.Elements.{All-from_recursion}
 use Rattle.std.proofs.lemmas.Bool.Decides.{nat_tests}
@@ -13,7 +13,7 @@ use Rattle.sw_rules.specs.Rows.{changed, is_job, is_number}
 use Rattle.sw_queue.specs.Kept.{AreFrom, IsKept, followers_of, number}
 use Rattle.sw_queue.specs.Lines.{Keyed}
 use Rattle.sw_queue.specs.Tables.{given, settled_all}
-use Rattle.sw_queue.proofs.Alike.{AreBy, IsAlike, IsSame, from_alike, kept_alike, length_alike, map_alike, same_rows}
+use Rattle.sw_queue.proofs.Alike.{AreBy, IsAlike, from_alike, kept_alike, length_alike, map_alike, same_rows}
 use Rattle.sw_queue.proofs.Places.{before_from, set_from}
 
 -- a row keeps its job

@@ -1,16 +1,16 @@
 -- Numbers that stand in line, by key and scope (own).
-use Rattle.std.specs.Prelude.{ℕ, Bool, List, [], ◌∷◌, bytes_eq, Option}
+use Rattle.std.specs.Prelude.{ℕ, List, [], ◌∷◌, bytes_eq}
 use Rattle.std.specs.Map.{lookup}
 use Rattle.std.specs.Option.{unwrap_or}
 
 -- own: numbers in order, and how many more have room
-pub record Row : Type 0 where
+pub record InLine : Type 0 where
   pub numbers : List ℕ
   pub spare : ℕ
 
 -- own: nothing stands in line, and nothing has room
-abbrev pub no_row : Row
-no_row = record { numbers = []; spare = 0 }
+abbrev pub no_line : InLine
+no_line = record { numbers = []; spare = 0 }
 
 -- own: entries by the bytes of their names
 abbrev pub by_name : {K V : Type 0} → (K → List ℕ) → List (K × V) → List (List ℕ × V)
@@ -22,17 +22,17 @@ abbrev pub named : {V : Type 0} → List (List ℕ × V) → List ℕ → V → 
 named entries name absent = unwrap_or (lookup (bytes_eq name) entries) absent
 
 abbrev pub Scoped : Type 0
-Scoped = List (List ℕ × Row)
+Scoped = List (List ℕ × InLine)
 
 -- own: the line of a scope
-abbrev pub line_at : Scoped → List ℕ → Row
-line_at lines scope = named lines scope no_row
+abbrev pub line_at : Scoped → List ℕ → InLine
+line_at lines scope = named lines scope no_line
 
 abbrev pub Keyed : Type 0
 Keyed = List (List ℕ × Scoped)
 
 -- own: the line of a key and a scope
-abbrev pub line_in : Keyed → List ℕ → List ℕ → Row
+abbrev pub line_in : Keyed → List ℕ → List ℕ → InLine
 line_in lines key scope = line_at (named lines key []) scope
 
 -- own: lists of numbers by place, how many more lists have room, and how many more numbers in each

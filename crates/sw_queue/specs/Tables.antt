@@ -1,7 +1,6 @@
 -- The table of jobs: its rows, the room for more of them, and what its calls answer.
-use Rattle.std.specs.Prelude.{◌≡◌, ℕ, ◌<◌, fold, Bool, true, false, not, ◌&&◌, List, [], map, length, find, get_or, bytes_eq, is_none, Option, Some, None, option_and_then, if◌then◌else◌}
-use Rattle.std.specs.Map.{lookup}
-use Rattle.std.specs.Option.{option_map_or, unwrap_or}
+use Rattle.std.specs.Prelude.{◌≡◌, ℕ, ◌<◌, fold, Bool, true, false, ◌&&◌, List, [], map, length, find, get_or, is_none, Option, Some, None, option_and_then, if◌then◌else◌}
+use Rattle.std.specs.Option.{option_map_or}
 use Rattle.sw_data.specs.declared.answers.Settlement.{Settlement}
 use Rattle.sw_data.specs.declared.rows.Job.{Job}
 use Rattle.sw_data.specs.declared.rows.JobPhase.{JobPhase}
@@ -77,8 +76,8 @@ abbrev pub ready_job : List ℕ → List ℕ → List JobRow → Option ℕ
 ready_job key scope rows =
     option_and_then (λ row. if is_waiting row.phase then Some row.job.number else None) (first_job key scope rows)
 
-abbrev pub in_phase : JobPhase → JobRow → JobRow
-in_phase phase row = record row { phase = phase }
+abbrev pub with_phase : JobPhase → JobRow → JobRow
+with_phase phase row = record row { phase = phase }
 
 -- own: a row whose promise settles with this value, where it has not settled
 abbrev pub given : Settlement → JobRow → JobRow
@@ -88,12 +87,12 @@ given result row = if is_none row.settled then record row { settled = Some resul
 abbrev pub settled_all : Settlement → List JobRow → List ℕ → List JobRow
 settled_all result rows jobs = fold (λ done job. changed (is_job job) (given result) done) rows jobs
 
--- own: a job in this phase runs
-abbrev pub is_running : JobPhase → Bool
-is_running job_phase.Fetching = true
-is_running job_phase.Evaluating = true
-is_running job_phase.Installing = true
-is_running _ = false
+-- own: a job in this phase is under way
+abbrev pub is_under_way : JobPhase → Bool
+is_under_way job_phase.Fetching = true
+is_under_way job_phase.Evaluating = true
+is_under_way job_phase.Installing = true
+is_under_way _ = false
 
 -- own: the notes of a job stand in its row
 abbrev pub noted : JobNotes → JobRow → JobRow

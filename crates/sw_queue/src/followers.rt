@@ -20,9 +20,9 @@ impl Model for Followers {
     ghost Value = { Lists };
 
     ghost view = { λ followers. record {
-        lists = map (λ list. list.items) followers.lists.items;
-        spare = vec_capacity followers.lists - vec_len followers.lists;
-        spares = map (λ list. vec_capacity list - vec_len list) followers.lists.items;
+      lists = map (λ list. list.items) followers.lists.items;
+      spare = vec_capacity followers.lists - vec_len followers.lists;
+      spares = map (λ list. vec_capacity list - vec_len list) followers.lists.items;
     } };
 }
 

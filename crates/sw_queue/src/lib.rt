@@ -8,7 +8,6 @@ mod index;
 mod line;
 mod queues;
 mod scopes;
-
 #[cfg(test)]
 mod tests;
 

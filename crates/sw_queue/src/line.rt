@@ -17,13 +17,13 @@ pub(crate) struct Line {
 impl Model for Line {
     ghost use Rattle.std.specs.Prelude.{◌-◌};
     ghost use Rattle.std.specs.VecDeque.{deque_len, deque_capacity};
-    ghost use Rattle.sw_queue.specs.Lines.{Row};
+    ghost use Rattle.sw_queue.specs.Lines.{InLine};
 
-    ghost Value = { Row };
+    ghost Value = { InLine };
 
     ghost view = { λ line. record {
-        numbers = line.numbers.items;
-        spare = deque_capacity line.numbers - deque_len line.numbers;
+      numbers = line.numbers.items;
+      spare = deque_capacity line.numbers - deque_len line.numbers;
     } };
 }
 

@@ -8,7 +8,7 @@ ghost use Rattle.sw_data.specs.declared.rows.JobPhase.TheVariants as job_phase;
 ghost use Rattle.sw_rules.specs.Jobs.{gets_value, is_equivalent, new_job_row};
 ghost use Rattle.sw_rules.specs.Rows.{changed, first_job, is_first, is_job, is_waiting, last_job};
 ghost use Rattle.sw_queue.specs.Kept.{AreFrom, followers_of};
-ghost use Rattle.sw_queue.specs.Tables.{FitsJob, HasPlace, given, has_job, in_phase, is_running, joined_in, noted, ready_job, scheduled_as, settled_all};
+ghost use Rattle.sw_queue.specs.Tables.{FitsJob, HasPlace, given, has_job, with_phase, is_under_way, joined_in, noted, ready_job, scheduled_as, settled_all};
 
 use crate::calls::{JobNotes, NewJob, NotReady, Scheduled};
 use crate::equivalent::is_equivalent;
@@ -35,13 +35,13 @@ impl Model for Queues {
     ghost Value = { Table };
 
     ghost view = { λ queues. record {
-        rows = queues.rows.items;
-        room = record {
-            rows = vec_capacity queues.rows - vec_len queues.rows;
-            lists = queues.followers.spare;
-            followers = queues.followers.spares;
-            queues = spares queues.index;
-        };
+      rows = queues.rows.items;
+      room = record {
+        rows = vec_capacity queues.rows - vec_len queues.rows;
+        lists = queues.followers.spare;
+        followers = queues.followers.spares;
+        queues = spares queues.index;
+      };
     } };
 
     ghost invariant = { λ queues. IsKept queues.rows.items queues.followers.lists queues.index };
@@ -169,7 +169,7 @@ impl Queues {
     pub fn start(&mut self, key: &Text, scope: &Text) -> Result<u32, NotReady>
         ensures answer { result_ok result ≡ ready_job key.now scope.now self.old.rows }
         ensures ok { IfOk result (λ job. self.new ≡ record self.old {
-            rows = changed (is_job job) (in_phase job_phase.Fetching) self.old.rows;
+          rows = changed (is_job job) (with_phase job_phase.Fetching) self.old.rows;
         }) }
         ensures err { OnErr result (self.new ≡ self.old) }
     {
@@ -188,7 +188,7 @@ impl Queues {
     pub fn note(&mut self, job: u32, notes: JobNotes)
         requires first { has_job (λ row. is_first self.old.rows row && not (is_waiting row.phase))
             job self.old.rows ≡ true }
-        requires runs { is_running notes.phase ≡ true }
+        requires runs { is_under_way notes.phase ≡ true }
         ensures { self.new
             ≡ record self.old { rows = changed (is_job job) (noted notes) self.old.rows } }
     {
@@ -205,8 +205,10 @@ impl Queues {
     pub fn settle(&mut self, job: u32, value: Settlement)
         requires { has_job (λ row. is_none row.leader && is_none row.settled)
             job self.old.rows ≡ true }
-        ensures { self.new ≡ record self.old { rows = changed (gets_value job)
-            (λ row. record row { settled = Some value }) self.old.rows } }
+        ensures { self.new ≡ record self.old {
+          rows = changed (gets_value job)
+              (λ row. record row { settled = Some value }) self.old.rows;
+        } }
     {
         let followers = self.followers.at(job as usize);
         settle_rows(self.rows.as_mut_slice(), job, followers, value);
@@ -217,7 +219,7 @@ impl Queues {
         requires { has_job (λ row. is_first self.old.rows row && is_some row.settled)
             job self.old.rows ≡ true }
         ensures { self.new.rows
-            ≡ changed (is_job job) (in_phase job_phase.Done) self.old.rows }
+            ≡ changed (is_job job) (with_phase job_phase.Done) self.old.rows }
     {
         let place = job as usize;
         let gone = &self.rows[place].job;
@@ -271,8 +273,11 @@ impl Queues {
                 Scheduled::Joined(leader)
             }
             None => {
-                self.index
-                    .add(row.job.key.as_bytes(), row.job.scope.as_bytes(), row.job.number);
+                self.index.add(
+                    row.job.key.as_bytes(),
+                    row.job.scope.as_bytes(),
+                    row.job.number,
+                );
                 Scheduled::Queued
             }
         };

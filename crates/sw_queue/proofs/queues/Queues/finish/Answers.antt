@@ -1,4 +1,4 @@
-use Rattle.std.proofs.Common.{◌≡◌, ◌∙◌, ◌<◌, true, false, not, length, drop, refl, sym, ap, subst, arith, if◌then◌else◌}
+use Rattle.std.proofs.Common.{◌≡◌, ◌∙◌, true, drop, refl, sym, ap, subst, arith, if◌then◌else◌}
 use Rattle.std.specs.Prelude.{◌&&◌, bytes_eq, is_some}
 use Rattle.std.proofs.lemmas.List.{get_or_default}
 use Rattle.sw_data.specs.declared.rows.JobRow.{JobRow}
@@ -6,7 +6,7 @@ use Rattle.sw_queue.specs.Lines.{line_in}
 use Rattle.std.proofs.lemmas.Bool.{and_parts}
 use Rattle.sw_data.specs.declared.rows.JobPhase.TheVariants as job_phase
 use Rattle.sw_rules.specs.Rows.{changed, is_first, is_job}
-use Rattle.sw_queue.specs.Tables.{Table, has_job, in_phase}
+use Rattle.sw_queue.specs.Tables.{Table, has_job, with_phase}
 use Rattle.sw_queue.proofs.Keeping.{kept_finished}
 use Rattle.sw_queue.proofs.Running.{first_is, number_at, passing_below, passing_row, rows_set}
 use Rattle.sw_queue.proofs.queues.Queues.finish.Goals as goal
@@ -14,13 +14,13 @@ use Rattle.sw_queue.proofs.queues.Queues.finish.Goals as goal
 pub index-requires : goal.index-requires
 index-requires c =
     let below = passing_below _ c.self.invariant.numbers _ c.args.job
-        (subst (λ (t : Table). has_job (λ row. is_first t.rows row && is_some row.settled) c.args.job t.rows ≡ true) (sym c.self.view_is) c.requires) in
+    (subst (λ (t : Table). has_job (λ row. is_first t.rows row && is_some row.settled) c.args.job t.rows ≡ true) (sym c.self.view_is) c.requires) in
     omega (arith, below, c.self.inside.rows.ok)
 
 pub index_mut-requires : goal.index_mut-requires
 index_mut-requires c =
     let below = passing_below _ c.self.invariant.numbers _ c.args.job
-        (subst (λ (t : Table). has_job (λ row. is_first t.rows row && is_some row.settled) c.args.job t.rows ≡ true) (sym c.self.view_is) c.requires) in
+    (subst (λ (t : Table). has_job (λ row. is_first t.rows row && is_some row.settled) c.args.job t.rows ≡ true) (sym c.self.view_is) c.requires) in
     omega (arith, below, c.self.inside.rows.ok)
 
 pub returns : goal.returns
@@ -28,9 +28,9 @@ returns c =
     let rows = c.self.inside.rows.items in
     let are = c.self.invariant.numbers in
     let below = passing_below rows are _ c.args.job
-        (subst (λ (t : Table). has_job (λ row. is_first t.rows row && is_some row.settled) c.args.job t.rows ≡ true) (sym c.self.view_is) c.requires) in
-    rows_set rows are (in_phase job_phase.Done) c.args.job c.index_mut.result.now c.index_mut.ensures.value below
-    ∙ ap (λ (t : Table). changed (is_job c.args.job) (in_phase job_phase.Done) t.rows) c.self.view_is
+    (subst (λ (t : Table). has_job (λ row. is_first t.rows row && is_some row.settled) c.args.job t.rows ≡ true) (sym c.self.view_is) c.requires) in
+    rows_set rows are (with_phase job_phase.Done) c.args.job c.index_mut.result.now c.index_mut.ensures.value below
+    ∙ ap (λ (t : Table). changed (is_job c.args.job) (with_phase job_phase.Done) t.rows) c.self.view_is
 
 pub invariant_of-self : goal.invariant_of-self
 invariant_of-self c =

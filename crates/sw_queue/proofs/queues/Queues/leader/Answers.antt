@@ -1,11 +1,11 @@
-use Rattle.std.proofs.Common.{ℕ, ◌≡◌, ◌∙◌, ◌<◌, true, false, Some, length, option_map, refl, sym, ap, arith}
+use Rattle.std.proofs.Common.{◌∙◌, true, false, option_map, sym, ap, arith}
 use Rattle.std.specs.Prelude.{◌&&◌, is_none}
 use Rattle.sw_data.specs.declared.rows.JobRow.{JobRow}
 use Rattle.sw_rules.specs.Jobs.{is_equivalent}
 use Rattle.sw_rules.specs.Rows.{last_job}
 use Rattle.sw_queue.specs.Kept.{number}
 use Rattle.sw_queue.specs.Tables.{Table, joined_in}
-use Rattle.sw_queue.proofs.Running.{joined, last_there, none_joined}
+use Rattle.sw_queue.proofs.Running.{joined, last_there}
 use Rattle.sw_queue.proofs.queues.Queues.leader.Goals as goal
 
 pub index-requires : goal.index-requires

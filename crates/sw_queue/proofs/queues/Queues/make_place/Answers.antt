@@ -1,4 +1,4 @@
-use Rattle.std.proofs.Common.{List, ℕ, ◌∙◌, ◌<◌, length, sym, ap, subst, arith}
+use Rattle.std.proofs.Common.{List, ℕ, ◌∙◌, ◌<◌, sym, ap, subst, arith}
 use Rattle.sw_queue.specs.Lines.{line_in}
 use Rattle.sw_queue.specs.Tables.{Table, joined_in}
 use Rattle.sw_queue.proofs.Rooms.{spare_in}

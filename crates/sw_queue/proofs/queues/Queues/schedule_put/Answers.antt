@@ -1,4 +1,4 @@
-use Rattle.std.proofs.Common.{List, ℕ, ◌≡◌, ◌∙◌, ◌<◌, ◌++◌, ◌∷◌, [], Option, None, Some, length, get_or, refl, sym, ap, subst, arith, if◌then◌else◌}
+use Rattle.std.proofs.Common.{List, ℕ, ◌∙◌, ◌<◌, ◌++◌, ◌∷◌, [], Option, None, length, sym, ap, subst, if◌then◌else◌}
 use Rattle.std.specs.Prelude.{◌&&◌, bytes_eq}
 use Rattle.sw_data.specs.declared.rows.JobRow.{JobRow}
 use Rattle.sw_rules.specs.Rows.{is_done}
@@ -17,7 +17,7 @@ add-requires-in-None c =
     let lines = c.self.inside.index in
     let place = subst (λ (r : JobRow). HasPlace c.args.self.now.room r.job r.leader) (sym c.row.view_is) c.requires.place in
     let own = subst (λ (t : Table). HasPlace t.room row.job None) (sym c.self.view_is)
-        (subst (λ (l : Option ℕ). HasPlace c.args.self.now.room row.job l) c.in-None.is place) in
+    (subst (λ (l : Option ℕ). HasPlace c.args.self.now.room row.job l) c.in-None.is place) in
     subst (λ (key : List ℕ). 0 < (line_in lines key c.as_bytes-in-None.result.now).spare) (sym c.as_bytes.ensures)
     (subst (λ (scope : List ℕ). 0 < (line_in lines row.job.key scope).spare) (sym c.as_bytes-in-None.ensures)
     (subst (λ n. 0 < n) (spare_in lines row.job.key row.job.scope) own))
@@ -34,7 +34,7 @@ invariant_of-self c =
       | in-Some w ↦
           let leader = w.in-Some.leader in
           let joined = ap (λ (t : Table). joined_in t.rows c.args.row.job) c.self.view_is
-              ∙ (sym (ap (λ (r : JobRow). r.leader) c.requires.row) ∙ (sym (ap (λ (r : JobRow). r.leader) c.row.view_is) ∙ w.in-Some.is)) in
+          ∙ (sym (ap (λ (r : JobRow). r.leader) c.requires.row) ∙ (sym (ap (λ (r : JobRow). r.leader) c.row.view_is) ∙ w.in-Some.is)) in
           let below = joined_below rows kept.numbers c.args.row.job leader joined in
           kept_is _ _ _ _ _ _
           (c.push_reserved.ensures.items ∙ ap (λ inside. inside.rows.items ++ row ∷ []) w.self-inside-is)

@@ -1,4 +1,4 @@
-use Rattle.std.proofs.Common.{List, ℕ, ◌≡◌, ◌∙◌, ◌<◌, true, Some, length, map, sym, ap, subst, arith, if◌then◌else◌}
+use Rattle.std.proofs.Common.{List, ℕ, ◌≡◌, ◌∙◌, ◌<◌, true, Some, length, sym, ap, subst, arith, if◌then◌else◌}
 use Rattle.std.specs.Prelude.{◌&&◌, is_none}
 use Rattle.std.specs.List.{All}
 use Rattle.std.proofs.lemmas.List.{length-map, with_items_is}
@@ -13,7 +13,7 @@ use Rattle.sw_queue.proofs.queues.Queues.settle.Goals as goal
 pub settle_rows-requires-clause-job : goal.settle_rows-requires-clause-job
 settle_rows-requires-clause-job c =
     let below = passing_below _ c.self.invariant.numbers _ c.args.job
-        (subst (λ (t : Table). has_job (λ row. is_none row.leader && is_none row.settled) c.args.job t.rows ≡ true) (sym c.self.view_is) c.requires) in
+    (subst (λ (t : Table). has_job (λ row. is_none row.leader && is_none row.settled) c.args.job t.rows ≡ true) (sym c.self.view_is) c.requires) in
     subst (λ (rows : List JobRow). c.args.job < length rows) (sym c.as_mut_slice.ensures.value) below
 
 pub settle_rows-requires-clause-followers : goal.settle_rows-requires-clause-followers
@@ -29,8 +29,8 @@ invariant_of-self c =
     let rows = c.self.inside.rows.items in
     let own = c.at-followers.ensures ∙ c.self.invariant.followers c.args.job in
     let is = c.settle_rows.ensures
-        ∙ ((λ i. changed (is_job c.args.job) (given c.args.value) (settled_all c.args.value (c.as_mut_slice.ensures.value i) (own i)))
-        ∙ settled_whole c.args.value rows c.self.invariant.numbers c.args.job) in
+    ∙ ((λ i. changed (is_job c.args.job) (given c.args.value) (settled_all c.args.value (c.as_mut_slice.ensures.value i) (own i)))
+    ∙ settled_whole c.args.value rows c.self.invariant.numbers c.args.job) in
     let mapped = length-map rows (λ row. if gets_value c.args.job row then record row { settled = Some c.args.value } else row) in
     let many : length c.settle_rows.new.rows ≡ c.self.inside.rows.len = omega (arith, ap length is, mapped, c.self.inside.rows.ok) in
     kept_settled c.args.value rows _ _ _ c.args.job c.self.invariant (with_items_is c.self.inside.rows c.settle_rows.new.rows many ∙ is)
@@ -40,8 +40,8 @@ returns c =
     let rows = c.self.inside.rows.items in
     let own = c.at-followers.ensures ∙ c.self.invariant.followers c.args.job in
     let is = c.settle_rows.ensures
-        ∙ ((λ i. changed (is_job c.args.job) (given c.args.value) (settled_all c.args.value (c.as_mut_slice.ensures.value i) (own i)))
-        ∙ settled_whole c.args.value rows c.self.invariant.numbers c.args.job) in
+    ∙ ((λ i. changed (is_job c.args.job) (given c.args.value) (settled_all c.args.value (c.as_mut_slice.ensures.value i) (own i)))
+    ∙ settled_whole c.args.value rows c.self.invariant.numbers c.args.job) in
     let mapped = length-map rows (λ row. if gets_value c.args.job row then record row { settled = Some c.args.value } else row) in
     let many : length c.settle_rows.new.rows ≡ c.self.inside.rows.len = omega (arith, ap length is, mapped, c.self.inside.rows.ok) in
     table_set _ _ (gets_value c.args.job) (λ row. record row { settled = Some c.args.value }) _ c.self.view_is

@@ -1,9 +1,8 @@
-use Rattle.std.proofs.Common.{ℕ, ◌≡◌, ◌∙◌, ◌<◌, true, false, not, Some, length, option_map, refl, sym, ap, subst, arith}
+use Rattle.std.proofs.Common.{◌∙◌, true, false, Some, option_map, refl, sym, ap, arith}
 use Rattle.sw_data.specs.declared.rows.JobPhase.TheVariants as job_phase
-use Rattle.sw_data.specs.declared.rows.JobRow.{JobRow}
-use Rattle.sw_rules.specs.Rows.{first_job, is_done, is_waiting}
+use Rattle.sw_rules.specs.Rows.{first_job}
 use Rattle.sw_queue.specs.Kept.{number}
-use Rattle.sw_queue.specs.Tables.{Table, in_phase, ready_job}
+use Rattle.sw_queue.specs.Tables.{Table, with_phase, ready_job}
 use Rattle.sw_queue.proofs.Running.{first_there, kept_set, not_done, number_at, ready, rows_set, table_set}
 use Rattle.sw_queue.proofs.queues.Queues.start.Goals as goal
 
@@ -59,5 +58,5 @@ returns-clause-ok c =
     let are = c.self.invariant.numbers in
     let first = ap (λ (t : Table). option_map number (first_job c.args.key.now c.args.scope.now t.rows)) c.self.view_is ∙ (sym c.first.ensures ∙ c.in-Some.is) in
     let below = (first_there rows are c.args.key.now c.args.scope.now c.in-Some.number first).0 in
-    table_set _ _ _ (in_phase job_phase.Fetching) _ c.self.view_is
-    (rows_set rows are (in_phase job_phase.Fetching) c.in-Some.number c.index_mut-row.result.now c.index_mut-row.ensures.value below)
+    table_set _ _ _ (with_phase job_phase.Fetching) _ c.self.view_is
+    (rows_set rows are (with_phase job_phase.Fetching) c.in-Some.number c.index_mut-row.result.now c.index_mut-row.ensures.value below)

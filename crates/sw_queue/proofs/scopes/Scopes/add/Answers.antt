@@ -1,6 +1,6 @@
 use Rattle.std.proofs.Common.{◌∙◌, ◌<◌, sym, ap, subst}
 use Rattle.std.specs.Option.{option_copied_mut}
-use Rattle.sw_queue.specs.Lines.{Row, Scoped, line_at, no_row}
+use Rattle.sw_queue.specs.Lines.{InLine, Scoped, line_at, no_line}
 use Rattle.sw_queue.proofs.Naming.{named_found}
 use Rattle.sw_queue.proofs.Scoping.{line_added, none_added}
 use Rattle.sw_queue.proofs.scopes.Scopes.add.Goals as goal
@@ -21,6 +21,6 @@ returns c asked =
 
 pub add-requires : goal.add-requires
 add-requires c =
-    subst (λ (line : Row). 0 < line.spare)
-    (named_found _ c.args.scope.now no_row c.self.inside.lines.entries _ (sym c.get_mut.ensures.value ∙ ap option_copied_mut c.in-Some.is))
+    subst (λ (line : InLine). 0 < line.spare)
+    (named_found _ c.args.scope.now no_line c.self.inside.lines.entries _ (sym c.get_mut.ensures.value ∙ ap option_copied_mut c.in-Some.is))
     (subst (λ (lines : Scoped). 0 < (line_at lines c.args.scope.now).spare) (sym c.self.view_is) c.requires)

@@ -1,6 +1,5 @@
 use Rattle.std.proofs.Common.{◌∙◌, sym, ap}
 use Rattle.std.specs.Option.{option_copied_mut}
-use Rattle.sw_queue.specs.Lines.{Row, line_at}
 use Rattle.sw_queue.proofs.Scoping.{line_dropped, none_dropped}
 use Rattle.sw_queue.proofs.scopes.Scopes.drop_first.Goals as goal
 use Rattle.sw_queue.proofs.scopes.Scopes.drop_first.Goals.{in-Some, in_default}

@@ -1,6 +1,5 @@
-use Rattle.std.proofs.Common.{◌∙◌, ◌<◌, sym, ap, subst}
+use Rattle.std.proofs.Common.{◌∙◌, sym, ap}
 use Rattle.std.specs.Option.{option_copied_mut}
-use Rattle.sw_queue.specs.Lines.{Row, line_at}
 use Rattle.sw_queue.proofs.Scoping.{line_kept, line_written}
 use Rattle.sw_queue.proofs.scopes.Scopes.make_room.Goals as goal
 
