@@ -6,12 +6,6 @@ use Rattle.indexmap.specs.IndexMap.{insert_entry}
 use Rattle.sw_queue.specs.Lines.{Scoped, by_name, line_at, line_in, named}
 use Rattle.sw_queue.proofs.Naming.{named_found, named_absent, named_set, named_new, named_same, bytes_same}
 
--- what a name stands for, where it is there
-looked_up : {K V : Type 0} (bytes : K → List ℕ) (name : List ℕ) (entries : List (K × V))
-    → lookup (bytes_eq name) (by_name bytes entries) ≡ lookup (λ key. bytes_eq name (bytes key)) entries
-looked_up bytes name [] = refl
-looked_up bytes name (e ∷ es) = grind (arith, looked_up bytes name es)
-
 module _ {K : Type 0} (bytes : K → List ℕ) (name k s : List ℕ) (entries : List (K × Scoped)) where
   abbrev of_scope : Scoped → List ℕ
   of_scope lines = (line_at lines s).numbers

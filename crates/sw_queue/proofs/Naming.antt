@@ -1,26 +1,16 @@
 -- What entries have for each name, after one of them changes or comes.
-use Rattle.std.proofs.Common.{◌≡◌, ◌∙◌, ℕ, Bool, true, false, List, [], ◌∷◌, bytes_eq, Some, None, refl, sym, ap, subst, arith, if◌then◌else◌}
-use Rattle.std.specs.Cmp.Lexicographic.{bytes_decides}
+use Rattle.std.proofs.Common.{◌≡◌, ◌∙◌, ℕ, Bool, true, List, [], ◌∷◌, bytes_eq, Some, None, refl, sym, ap, arith, if◌then◌else◌}
+use Rattle.std.specs.Cmp.Lexicographic.{bytes_decides, nat_list_eq_equiv}
 use Rattle.std.specs.Map.{lookup, set_value}
 use Rattle.indexmap.specs.IndexMap.{insert_entry}
 use Rattle.sw_queue.specs.Lines.{by_name, named}
 
 pub bytes_same : (a : List ℕ) → bytes_eq a a ≡ true
-bytes_same a = (bytes_decides a a).1 refl
-
--- equality of bytes goes both ways
-both_ways : (a b : List ℕ) → bytes_eq a b ≡ bytes_eq b a
-both_ways a b = by (bytes_eq a b) (bytes_eq b a) refl refl
-  where
-    by : (p q : Bool) → bytes_eq a b ≡ p → bytes_eq b a ≡ q → bytes_eq a b ≡ bytes_eq b a
-    by true true is back = is ∙ sym back
-    by false false is back = is ∙ sym back
-    by true false is back = subst (λ c. bytes_eq a c ≡ bytes_eq c a) ((bytes_decides a b).0 is) refl
-    by false true is back = subst (λ c. bytes_eq c b ≡ bytes_eq b c) ((bytes_decides b a).0 back) refl
+bytes_same a = nat_list_eq_equiv.refl a
 
 -- what is asked for is one name and the other, or neither
 one_name : (name asked other : List ℕ) → bytes_eq name other ≡ true → bytes_eq asked other ≡ bytes_eq name asked
-one_name name asked other is = ap (bytes_eq asked) (sym ((bytes_decides name other).0 is)) ∙ both_ways asked name
+one_name name asked other is = nat_list_eq_equiv.symm asked other ∙ sym (nat_list_eq_equiv.congr name other asked is)
 
 other_name : (name asked other : List ℕ) → bytes_eq asked other ≡ true → bytes_eq name asked ≡ bytes_eq name other
 other_name name asked other is = ap (bytes_eq name) ((bytes_decides asked other).0 is)
@@ -51,7 +41,7 @@ module _ {K V : Type 0} (bytes : K → List ℕ) (name : List ℕ) (absent : V) 
       → named (by_name bytes (insert_entry eq entries key new)) asked absent
       ≡ (if bytes_eq name asked then new else named (by_name bytes entries) asked absent)
   named_new asked eq key new decides is [] none_there =
-      let turned = ap (bytes_eq asked) is ∙ both_ways asked name in grind (arith, turned)
+      let turned = ap (bytes_eq asked) is ∙ nat_list_eq_equiv.symm asked name in grind (arith, turned)
   named_new asked eq key new decides is (e ∷ es) none_there =
       let other = decides key e.0 ∙ ap (λ a. bytes_eq a (bytes e.0)) is in
       grind (arith, other, other_name name asked (bytes e.0), named_new asked eq key new decides is es)

@@ -154,14 +154,6 @@ pub ready : (rows : List JobRow) (key scope : List ℕ) (row : JobRow) (job : �
 ready rows key scope row job waits first own is =
     ap (option_and_then (λ (r : JobRow). if is_waiting r.phase then Some (number r) else None)) first ∙ (λ i. if is i then Some (own i) else None)
 
-pub none_ready : (rows : List JobRow) (key scope : List ℕ) → option_map number (first_job key scope rows) ≡ None → None ≡ ready_job key scope rows
-none_ready rows key scope = by (first_job key scope rows)
-  where
-    by : (found : Option JobRow) → option_map number found ≡ None
-        → None ≡ option_and_then (λ (r : JobRow). if is_waiting r.phase then Some (number r) else None) found
-    by None is = refl
-    by (Some row) is = absurd cc
-
 -- a job joins the last of its queue exactly where it can
 pub joined : (rows : List JobRow) → AreFrom 0 rows → (new : Job) (job : ℕ) (d : JobRow) (can : Bool)
     → option_map number (last_job new.key new.scope rows) ≡ Some job
@@ -172,14 +164,6 @@ joined rows are new job d can last is =
     let own = number_at rows are 0 rows are job d there.0 ∙ omega arith in
     (λ i. if is i then Some (sym own i) else None)
     ∙ sym (ap (option_and_then (λ (r : JobRow). if is_equivalent new r.job && is_none r.settled then Some (number r) else None)) (there.1 d))
-
-pub none_joined : (rows : List JobRow) (new : Job) → option_map number (last_job new.key new.scope rows) ≡ None → None ≡ joined_in rows new
-none_joined rows new = by (last_job new.key new.scope rows)
-  where
-    by : (found : Option JobRow) → option_map number found ≡ None
-        → None ≡ option_and_then (λ (r : JobRow). if is_equivalent new r.job && is_none r.settled then Some (number r) else None) found
-    by None is = refl
-    by (Some row) is = absurd cc
 
 -- the job that a new job joins is there
 pub joined_below : (rows : List JobRow) → AreFrom 0 rows → (new : Job) (leader : ℕ) → joined_in rows new ≡ Some leader → leader < length rows

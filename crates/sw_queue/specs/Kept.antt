@@ -1,4 +1,4 @@
--- What holds of the rows of jobs and of what is kept to find them.
+-- What holds of the rows of jobs and of what is kept to find them (own).
 use Rattle.std.specs.Prelude.{◌≡◌, ℕ, suc, Bool, true, nat_lt, List, [], ◌∷◌, map, length, filter, get_or}
 use Rattle.std.specs.List.{list_all}
 use Rattle.std.specs.Option.{option_map_or}
