@@ -1,0 +1,35 @@
+use Rattle.std.proofs.Common.{◌≡◌, ◌∙◌, true, not, refl, sym, subst, arith}
+use Rattle.std.specs.Prelude.{◌&&◌}
+use Rattle.std.proofs.lemmas.Bool.{and_parts}
+use Rattle.sw_rules.specs.Rows.{is_first, is_waiting}
+use Rattle.sw_queue.specs.Tables.{Table, has_job, noted}
+use Rattle.sw_queue.proofs.Running.{first_is, kept_set, not_done, passing_below, passing_row, rows_set, runs_on, table_set}
+use Rattle.sw_queue.proofs.queues.Queues.note.Goals as goal
+
+pub index_mut-row-requires : goal.index_mut-row-requires
+index_mut-row-requires c =
+    let below = passing_below _ c.self.invariant.numbers _ c.args.job
+    (subst (λ (t : Table). has_job (λ row. is_first t.rows row && not (is_waiting row.phase)) c.args.job t.rows ≡ true) (sym c.self.view_is) c.requires.first) in
+    omega (arith, below, c.self.inside.rows.ok)
+
+pub invariant_of-self : goal.invariant_of-self
+invariant_of-self c =
+    let rows = c.self.inside.rows.items in
+    let old = c.index_mut-row.result.now in
+    let here = c.index_mut-row.ensures.value in
+    let kept = c.self.invariant in
+    let passes = subst (λ (t : Table). has_job (λ row. is_first t.rows row && not (is_waiting row.phase)) c.args.job t.rows ≡ true) (sym c.self.view_is) c.requires.first in
+    let below = passing_below rows kept.numbers _ c.args.job passes in
+    let it = passing_row rows kept.numbers _ c.args.job passes old here in
+    let first = first_is rows kept.numbers old c.args.job here below (and_parts _ _ it).0 in
+    kept_set rows _ _ kept c.args.job old _ here refl refl
+    (runs_on c.args.notes.phase c.requires.runs ∙ sym (not_done rows kept.numbers old.job.key old.job.scope old first))
+
+pub returns : goal.returns
+returns c =
+    let rows = c.self.inside.rows.items in
+    let kept = c.self.invariant in
+    let below = passing_below rows kept.numbers _ c.args.job
+    (subst (λ (t : Table). has_job (λ row. is_first t.rows row && not (is_waiting row.phase)) c.args.job t.rows ≡ true) (sym c.self.view_is) c.requires.first) in
+    table_set _ _ _ (noted c.args.notes) _ c.self.view_is
+    (rows_set rows kept.numbers (noted c.args.notes) c.args.job c.index_mut-row.result.now c.index_mut-row.ensures.value below)

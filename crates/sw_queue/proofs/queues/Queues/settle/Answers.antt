@@ -1,0 +1,48 @@
+use Rattle.std.proofs.Common.{List, ℕ, ◌≡◌, ◌∙◌, ◌<◌, true, Some, length, sym, ap, subst, arith, if◌then◌else◌}
+use Rattle.std.specs.Prelude.{◌&&◌, is_none}
+use Rattle.std.specs.List.{All}
+use Rattle.std.proofs.lemmas.List.{length-map, with_items_is}
+use Rattle.sw_data.specs.declared.rows.JobRow.{JobRow}
+use Rattle.sw_rules.specs.Jobs.{gets_value}
+use Rattle.sw_rules.specs.Rows.{changed, is_job}
+use Rattle.sw_queue.specs.Tables.{Table, given, has_job, settled_all}
+use Rattle.sw_queue.proofs.Running.{passing_below, table_set}
+use Rattle.sw_queue.proofs.Settling.{followers_below, kept_settled, settled_whole}
+use Rattle.sw_queue.proofs.queues.Queues.settle.Goals as goal
+
+pub settle_rows-requires-clause-job : goal.settle_rows-requires-clause-job
+settle_rows-requires-clause-job c =
+    let below = passing_below _ c.self.invariant.numbers _ c.args.job
+    (subst (λ (t : Table). has_job (λ row. is_none row.leader && is_none row.settled) c.args.job t.rows ≡ true) (sym c.self.view_is) c.requires) in
+    subst (λ (rows : List JobRow). c.args.job < length rows) (sym c.as_mut_slice.ensures.value) below
+
+pub settle_rows-requires-clause-followers : goal.settle_rows-requires-clause-followers
+settle_rows-requires-clause-followers c =
+    let rows = c.self.inside.rows.items in
+    let own = c.at-followers.ensures ∙ c.self.invariant.followers c.args.job in
+    subst (λ (all : List JobRow). All (λ follower. follower < length all) c.at-followers.result.now) (sym c.as_mut_slice.ensures.value)
+    (subst (λ (followers : List ℕ). All (λ follower. follower < length rows) followers) (sym own)
+    (followers_below rows c.self.invariant.numbers c.args.job))
+
+pub invariant_of-self : goal.invariant_of-self
+invariant_of-self c =
+    let rows = c.self.inside.rows.items in
+    let own = c.at-followers.ensures ∙ c.self.invariant.followers c.args.job in
+    let is = c.settle_rows.ensures
+    ∙ ((λ i. changed (is_job c.args.job) (given c.args.value) (settled_all c.args.value (c.as_mut_slice.ensures.value i) (own i)))
+    ∙ settled_whole c.args.value rows c.self.invariant.numbers c.args.job) in
+    let mapped = length-map rows (λ row. if gets_value c.args.job row then record row { settled = Some c.args.value } else row) in
+    let many : length c.settle_rows.new.rows ≡ c.self.inside.rows.len = omega (arith, ap length is, mapped, c.self.inside.rows.ok) in
+    kept_settled c.args.value rows _ _ _ c.args.job c.self.invariant (with_items_is c.self.inside.rows c.settle_rows.new.rows many ∙ is)
+
+pub returns : goal.returns
+returns c =
+    let rows = c.self.inside.rows.items in
+    let own = c.at-followers.ensures ∙ c.self.invariant.followers c.args.job in
+    let is = c.settle_rows.ensures
+    ∙ ((λ i. changed (is_job c.args.job) (given c.args.value) (settled_all c.args.value (c.as_mut_slice.ensures.value i) (own i)))
+    ∙ settled_whole c.args.value rows c.self.invariant.numbers c.args.job) in
+    let mapped = length-map rows (λ row. if gets_value c.args.job row then record row { settled = Some c.args.value } else row) in
+    let many : length c.settle_rows.new.rows ≡ c.self.inside.rows.len = omega (arith, ap length is, mapped, c.self.inside.rows.ok) in
+    table_set _ _ (gets_value c.args.job) (λ row. record row { settled = Some c.args.value }) _ c.self.view_is
+    (with_items_is c.self.inside.rows c.settle_rows.new.rows many ∙ is)

@@ -1,0 +1,62 @@
+use Rattle.std.proofs.Common.{◌∙◌, true, false, Some, option_map, refl, sym, ap, arith}
+use Rattle.sw_data.specs.declared.rows.JobPhase.TheVariants as job_phase
+use Rattle.sw_rules.specs.Rows.{first_job}
+use Rattle.sw_queue.specs.Kept.{number}
+use Rattle.sw_queue.specs.Tables.{Table, with_phase, ready_job}
+use Rattle.sw_queue.proofs.Running.{first_there, kept_set, not_done, number_at, ready, rows_set, table_set}
+use Rattle.sw_queue.proofs.queues.Queues.start.Goals as goal
+
+pub index_mut-row-requires : goal.index_mut-row-requires
+index_mut-row-requires c =
+    let first = ap (λ (t : Table). option_map number (first_job c.args.key.now c.args.scope.now t.rows)) c.self.view_is ∙ (sym c.first.ensures ∙ c.in-Some.is) in
+    let below = (first_there _ c.self.invariant.numbers c.args.key.now c.args.scope.now c.in-Some.number first).0 in
+    omega (arith, below, c.self.inside.rows.ok)
+
+pub invariant_of-self-2 : goal.invariant_of-self-2
+invariant_of-self-2 c =
+    let rows = c.self.inside.rows.items in
+    let key = c.args.key.now in
+    let scope = c.args.scope.now in
+    let old = c.index_mut-row.result.now in
+    let here = c.index_mut-row.ensures.value in
+    let kept = c.self.invariant in
+    let first = ap (λ (t : Table). option_map number (first_job key scope t.rows)) c.self.view_is ∙ (sym c.first.ensures ∙ c.in-Some.is) in
+    let found = (first_there rows kept.numbers key scope c.in-Some.number first).1 old ∙ ap Some (sym here) in
+    kept_set rows _ _ kept c.in-Some.number old _ here refl refl (sym (not_done rows kept.numbers key scope old found))
+
+pub returns-then-not-is_waiting-clause-answer : goal.returns-then-not-is_waiting-clause-answer
+returns-then-not-is_waiting-clause-answer c =
+    let rows = c.self.inside.rows.items in
+    let key = c.args.key.now in
+    let scope = c.args.scope.now in
+    let old = c.index_mut-row.result.now in
+    let here = c.index_mut-row.ensures.value in
+    let are = c.self.invariant.numbers in
+    let first = ap (λ (t : Table). option_map number (first_job key scope t.rows)) c.self.view_is ∙ (sym c.first.ensures ∙ c.in-Some.is) in
+    let there = first_there rows are key scope c.in-Some.number first in
+    let own = ap number here ∙ (number_at rows are 0 rows are c.in-Some.number old there.0 ∙ omega arith) in
+    sym (ready rows key scope old c.in-Some.number false (there.1 old ∙ ap Some (sym here)) own (sym c.is_waiting.ensures ∙ c.if-not-is_waiting.true))
+    ∙ ap (λ (t : Table). ready_job key scope t.rows) c.self.view_is
+
+pub returns-clause-answer : goal.returns-clause-answer
+returns-clause-answer c =
+    let rows = c.self.inside.rows.items in
+    let key = c.args.key.now in
+    let scope = c.args.scope.now in
+    let old = c.index_mut-row.result.now in
+    let here = c.index_mut-row.ensures.value in
+    let are = c.self.invariant.numbers in
+    let first = ap (λ (t : Table). option_map number (first_job key scope t.rows)) c.self.view_is ∙ (sym c.first.ensures ∙ c.in-Some.is) in
+    let there = first_there rows are key scope c.in-Some.number first in
+    let own = ap number here ∙ (number_at rows are 0 rows are c.in-Some.number old there.0 ∙ omega arith) in
+    sym (ready rows key scope old c.in-Some.number true (there.1 old ∙ ap Some (sym here)) own (sym c.is_waiting.ensures ∙ c.if-not-is_waiting.false))
+    ∙ ap (λ (t : Table). ready_job key scope t.rows) c.self.view_is
+
+pub returns-clause-ok : goal.returns-clause-ok
+returns-clause-ok c =
+    let rows = c.self.inside.rows.items in
+    let are = c.self.invariant.numbers in
+    let first = ap (λ (t : Table). option_map number (first_job c.args.key.now c.args.scope.now t.rows)) c.self.view_is ∙ (sym c.first.ensures ∙ c.in-Some.is) in
+    let below = (first_there rows are c.args.key.now c.args.scope.now c.in-Some.number first).0 in
+    table_set _ _ _ (with_phase job_phase.Fetching) _ c.self.view_is
+    (rows_set rows are (with_phase job_phase.Fetching) c.in-Some.number c.index_mut-row.result.now c.index_mut-row.ensures.value below)

@@ -1,0 +1,302 @@
+//! The table of jobs, with the queue of each key and scope and the followers of each job.
+
+ghost use Rattle.std.specs.Prelude.{◌≡◌, ◌++◌, ◌∷◌, [], ◌<◌, length, map, true, not, ◌&&◌, find, is_none, is_some, Some, option_map, IfOk, OnOk, OnErr};
+ghost use Rattle.std.specs.List.{All};
+ghost use Rattle.std.specs.Option.{option_copied};
+ghost use Rattle.std.specs.Result.{result_ok};
+ghost use Rattle.sw_data.specs.declared.rows.JobPhase.TheVariants as job_phase;
+ghost use Rattle.sw_rules.specs.Jobs.{gets_value, is_equivalent, new_job_row};
+ghost use Rattle.sw_rules.specs.Rows.{changed, first_job, is_first, is_job, is_waiting, last_job};
+ghost use Rattle.sw_queue.specs.Kept.{AreFrom, followers_of};
+ghost use Rattle.sw_queue.specs.Tables.{FitsJob, HasPlace, given, has_job, with_phase, is_under_way, joined_in, noted, ready_job, scheduled_as, settled_all};
+
+use crate::calls::{JobNotes, NewJob, NotReady, Scheduled};
+use crate::equivalent::is_equivalent;
+use crate::followers::Followers;
+use crate::index::Index;
+use std::alloc::Global;
+use std::marker::Model;
+use sw_data::{Job, JobPhase, JobRow, NoMemory, Settlement, Text};
+
+/// The jobs by number, in order of scheduling, and their queues by storage key and scope.
+#[derive(Drop)]
+pub struct Queues {
+    rows: Vec<JobRow>,
+    followers: Followers,
+    index: Index,
+}
+
+impl Model for Queues {
+    ghost use Rattle.std.specs.Prelude.{◌-◌};
+    ghost use Rattle.std.specs.Vec.{vec_len, vec_capacity};
+    ghost use Rattle.sw_queue.specs.Kept.{IsKept};
+    ghost use Rattle.sw_queue.specs.Tables.{Table, spares};
+
+    ghost Value = { Table };
+
+    ghost view = { λ queues. record {
+      rows = queues.rows.items;
+      room = record {
+        rows = vec_capacity queues.rows - vec_len queues.rows;
+        lists = queues.followers.spare;
+        followers = queues.followers.spares;
+        queues = spares queues.index;
+      };
+    } };
+
+    ghost invariant = { λ queues. IsKept queues.rows.items queues.followers.lists queues.index };
+}
+
+// The row of a job that was just scheduled.
+fn new_row(job: Job, leader: Option<u32>) -> JobRow
+    ensures { result ≡ new_job_row job leader }
+{
+    JobRow {
+        job,
+        leader,
+        phase: JobPhase::Waiting,
+        settled: None,
+        registration: None,
+        fetch: None,
+        remembered: None,
+        worker: None,
+    }
+}
+
+// Whether a job waits.
+fn is_waiting(phase: JobPhase) -> bool
+    ensures { result ≡ is_waiting phase }
+{
+    matches!(phase, JobPhase::Waiting)
+}
+
+// The promise of a job settles, where it has not settled.
+fn settle_one(row: &mut JobRow, value: Settlement)
+    ensures { row.new ≡ given value row.old }
+{
+    if row.settled.is_none() {
+        row.settled = Some(value);
+    }
+}
+
+// The promises of these jobs settle, and then that of the job that they follow.
+fn settle_rows(rows: &mut [JobRow], job: u32, followers: &[u32], value: Settlement)
+    requires numbers { AreFrom 0 rows.old }
+    requires job { job < length rows.old }
+    requires followers { All (λ follower. follower < length rows.old) followers.now }
+    ensures { rows.new
+        ≡ changed (is_job job) (given value) (settled_all value rows.old followers.now) }
+{
+    for follower in followers {
+        settle_one(&mut rows[*follower as usize], value);
+    }
+    settle_one(&mut rows[job as usize], value);
+}
+
+// Whether a new job joins the last of its queue.
+fn can_join(job: &Job, last: &JobRow) -> bool
+    ensures { result ≡ (is_equivalent job.now last.now.job && is_none last.now.settled) }
+{
+    is_equivalent(job, &last.job) && last.settled.is_none()
+}
+
+impl Queues {
+    /// No job; it takes no memory.
+    pub fn new(alloc: Global) -> Queues
+        ensures { result.rows ≡ [] }
+    {
+        Queues {
+            rows: Vec::new(alloc),
+            followers: Followers::new(alloc),
+            index: Index::new(alloc),
+        }
+    }
+
+    /// How many jobs were scheduled.
+    pub fn len(&self) -> usize
+        ensures { result ≡ length self.now.rows }
+    {
+        self.rows.len()
+    }
+
+    /// The row of a job. None exactly where no such job was scheduled. It takes no memory.
+    pub fn row(&self, job: u32) -> Option<&JobRow>
+        ensures { option_copied result ≡ find (is_job job) self.now.rows }
+    {
+        self.rows.get(job as usize)
+    }
+
+    /// The jobs that joined a job, in order. It takes no memory.
+    pub fn followers(&self, job: u32) -> &[u32]
+        ensures { result.now ≡ followers_of job self.now.rows }
+    {
+        self.followers.at(job as usize)
+    }
+
+    /// The first job of the queue of a key and a scope. It takes no memory.
+    #[tactic(auto, using(crate::proofs::Reading::first_number))]
+    pub fn first(&self, key: &Text, scope: &Text) -> Option<u32>
+        ensures { result
+            ≡ option_map (λ row. row.job.number) (first_job key.now scope.now self.now.rows) }
+    {
+        self.index.first(key.as_bytes(), scope.as_bytes())
+    }
+
+    // The last job of the queue of a key and a scope. It takes no memory.
+    #[tactic(auto, using(crate::proofs::Reading::last_number))]
+    fn last(&self, key: &Text, scope: &Text) -> Option<u32>
+        ensures { result
+            ≡ option_map (λ row. row.job.number) (last_job key.now scope.now self.now.rows) }
+    {
+        self.index.last(key.as_bytes(), scope.as_bytes())
+    }
+
+    // The job that a new job joins. It takes no memory.
+    fn leader(&self, job: &Job) -> Option<u32>
+        ensures { result ≡ joined_in self.now.rows job.now }
+    {
+        let Some(number) = self.last(&job.key, &job.scope) else {
+            return None;
+        };
+        if can_join(job, &self.rows[number as usize]) {
+            Some(number)
+        } else {
+            None
+        }
+    }
+
+    /// Starts the first job of the queue of a key and a scope, where that one waits. It takes no memory.
+    pub fn start(&mut self, key: &Text, scope: &Text) -> Result<u32, NotReady>
+        ensures answer { result_ok result ≡ ready_job key.now scope.now self.old.rows }
+        ensures ok { IfOk result (λ job. self.new ≡ record self.old {
+          rows = changed (is_job job) (with_phase job_phase.Fetching) self.old.rows;
+        }) }
+        ensures err { OnErr result (self.new ≡ self.old) }
+    {
+        let Some(number) = self.first(key, scope) else {
+            return Err(NotReady);
+        };
+        let row = &mut self.rows[number as usize];
+        if !is_waiting(row.phase) {
+            return Err(NotReady);
+        }
+        row.phase = JobPhase::Fetching;
+        Ok(number)
+    }
+
+    /// A job that runs gets these notes. It takes no memory.
+    pub fn note(&mut self, job: u32, notes: JobNotes)
+        requires first { has_job (λ row. is_first self.old.rows row && not (is_waiting row.phase))
+            job self.old.rows ≡ true }
+        requires runs { is_under_way notes.phase ≡ true }
+        ensures { self.new
+            ≡ record self.old { rows = changed (is_job job) (noted notes) self.old.rows } }
+    {
+        let row = &mut self.rows[job as usize];
+        row.phase = notes.phase;
+        row.registration = notes.registration;
+        row.fetch = notes.fetch;
+        row.remembered = notes.remembered;
+        row.worker = notes.worker;
+    }
+
+    /// The promises of a queued job and of the jobs that joined it get this value, where they have none. It takes no
+    /// memory, and time in the number of those jobs alone.
+    pub fn settle(&mut self, job: u32, value: Settlement)
+        requires { has_job (λ row. is_none row.leader && is_none row.settled)
+            job self.old.rows ≡ true }
+        ensures { self.new ≡ record self.old {
+          rows = changed (gets_value job)
+              (λ row. record row { settled = Some value }) self.old.rows;
+        } }
+    {
+        let followers = self.followers.at(job as usize);
+        settle_rows(self.rows.as_mut_slice(), job, followers, value);
+    }
+
+    /// The first job of its queue, whose promise has settled, is done and leaves its queue. It takes no memory.
+    pub fn finish(&mut self, job: u32)
+        requires { has_job (λ row. is_first self.old.rows row && is_some row.settled)
+            job self.old.rows ≡ true }
+        ensures { self.new.rows
+            ≡ changed (is_job job) (with_phase job_phase.Done) self.old.rows }
+    {
+        let place = job as usize;
+        let gone = &self.rows[place].job;
+        self.index
+            .drop_first(gone.key.as_bytes(), gone.scope.as_bytes());
+        self.rows[place].phase = JobPhase::Done;
+    }
+
+    // Makes room for a job among the followers of the one that it joins, or in its queue.
+    fn make_place(&mut self, alloc: Global, job: &Job) -> Result<Option<u32>, NoMemory>
+        ensures same { self.new.rows ≡ self.old.rows }
+        ensures leader { IfOk result (λ leader. leader ≡ joined_in self.old.rows job.now) }
+        ensures place { IfOk result (λ leader. HasPlace self.new.room job.now leader) }
+    {
+        let Some(leader) = self.leader(job) else {
+            self.index
+                .make_room(alloc, job.key.as_bytes(), job.scope.as_bytes())?;
+            return Ok(None);
+        };
+        self.followers.make_room_at(leader as usize)?;
+        Ok(Some(leader))
+    }
+
+    /// Makes the row of a job, whose number is the count of rows, and the room for it. The rows stay.
+    pub fn schedule_row(&mut self, alloc: Global, job: Job) -> Result<NewJob, NoMemory>
+        requires { job.number ≡ length self.old.rows }
+        ensures same { self.new.rows ≡ self.old.rows }
+        ensures row { IfOk result (λ new. new
+            ≡ new_job_row job (joined_in self.old.rows job)) }
+        ensures fits { IfOk result (λ new. FitsJob new self.new) }
+    {
+        let leader = self.make_place(alloc, &job)?;
+        self.rows.reserve(1)?;
+        self.followers.make_room()?;
+        Ok(NewJob {
+            row: new_row(job, leader),
+            followers: Vec::new(alloc),
+        })
+    }
+
+    /// Adds the row of a job, which stands in its queue or has joined the last one of it. It takes no memory.
+    pub fn schedule_put(&mut self, row: NewJob) -> Scheduled
+        requires { FitsJob row self.old }
+        ensures rows { self.new.rows ≡ self.old.rows ++ row ∷ [] }
+        ensures scheduled { result ≡ scheduled_as row.leader }
+    {
+        let NewJob { row, followers } = row;
+        let scheduled = match row.leader {
+            Some(leader) => {
+                self.followers.add(leader as usize, row.job.number);
+                Scheduled::Joined(leader)
+            }
+            None => {
+                self.index.add(
+                    row.job.key.as_bytes(),
+                    row.job.scope.as_bytes(),
+                    row.job.number,
+                );
+                Scheduled::Queued
+            }
+        };
+        self.followers.begin(followers);
+        self.rows.push_reserved(row);
+        scheduled
+    }
+
+    /// Schedules a job, whose number is the count of rows: it joins the last one of its queue, where the two are
+    /// equivalent and that one's promise has not settled, or stands last in the queue.
+    pub fn schedule(&mut self, alloc: Global, job: Job) -> Result<Scheduled, NoMemory>
+        requires { job.number ≡ length self.old.rows }
+        ensures ok { OnOk result (self.new.rows
+            ≡ self.old.rows ++ new_job_row job (joined_in self.old.rows job) ∷ []) }
+        ensures scheduled { IfOk result (λ scheduled. scheduled
+            ≡ scheduled_as (joined_in self.old.rows job)) }
+        ensures err { OnErr result (self.new.rows ≡ self.old.rows) }
+    {
+        let row = self.schedule_row(alloc, job)?;
+        Ok(self.schedule_put(row))
+    }
+}
