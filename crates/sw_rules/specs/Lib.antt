@@ -31,3 +31,4 @@ pub mod Step
 pub mod Storage
 pub mod Tasks
 pub mod Told
+pub mod Noticing

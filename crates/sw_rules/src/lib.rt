@@ -5,7 +5,9 @@
 #![tactic(auto)]
 
 pub mod laws;
+mod notices;
 
+pub use notices::Notices;
 pub use sw_data::{
     Action, Answer, Bytes, CacheAddAll, CacheBatch, CacheDelete, CacheMatch, CachePut, CacheQuery,
     Call, Cause, Change, ClientRow, ClientScope, End, Entry, Event, Fault, FetchLine, Fetched,

@@ -9,7 +9,7 @@ use Rattle.sw_worker.specs.declared.edit.Edit.TheVariants as edit_of
 use Rattle.sw_worker.specs.Edits.{allows, call_counted, edited, task_counted}
 use Rattle.sw_worker.specs.Kept.{AreWorkers, Counts, IsKept, StandsAt}
 use Rattle.sw_worker.specs.Table.{has_worker, is_worker, worker_at}
-use Rattle.sw_places.proofs.Places.{changed_here, found_here, found_none, more_at_places, passes_here, place_within, set_at_places}
+use Rattle.sw_rules.proofs.Places.{changed_here, found_here, found_none, more_at_places, passes_here, place_within, set_at_places}
 
 abbrev number : WorkerRow → ℕ
 number row = row.number

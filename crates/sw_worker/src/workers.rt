@@ -37,7 +37,8 @@ impl Model for Workers {
     ghost view = { λ w. record {
       rows = w.rows.items;
       events = events_of w.events.entries;
-      spare_rows = min (vec_capacity w.rows - vec_len w.rows) (vec_capacity w.counts - vec_len w.counts);
+      spare_rows =
+          min (vec_capacity w.rows - vec_len w.rows) (vec_capacity w.counts - vec_len w.counts);
       spare_events = spare w.events;
     } };
 
@@ -211,7 +212,8 @@ impl Workers {
     ) -> Result<u32, NoMemory>
         ensures number { IfOk result (λ number. number ≡ length self.old.rows) }
         ensures made { OnOk result (self.new.rows ≡ self.old.rows
-            ++ new_worker (length self.old.rows) registration script.now kind body from handlers ∷ []) }
+            ++ new_worker (length self.old.rows) registration script.now kind body from handlers
+            ∷ []) }
         ensures refused { OnErr result (self.new.rows ≡ self.old.rows) }
         ensures same { self.new ≡ record self.old {
           rows = self.new.rows;
