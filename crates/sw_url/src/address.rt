@@ -30,6 +30,16 @@ pub fn resolve(alloc: Global, text: &Text, base: &Text) -> Result<Text, UrlFault
     resolved(alloc, text.as_str(), base.as_str())
 }
 
+/// The serialized address that a text is, with its fragment (URL, 4.4 and 4.5).
+///
+/// `Unparsed` where the text doesn't parse.
+pub fn serialized(alloc: Global, text: &Text) -> Result<Text, UrlFault>
+    ensures { Answers result (ok_or (option_map serialize (address_of text.now)) Unparsed) }
+{
+    let url = parsed(alloc, text.as_str())?;
+    Ok(Text::of(alloc, url.as_str())?)
+}
+
 /// The script address of a text against a base, without its fragment (Service Workers, "Start
 /// Register").
 ///

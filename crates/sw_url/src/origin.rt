@@ -1,7 +1,7 @@
 //! Storage keys and the bound of a scope.
 
 ghost use Rattle.std.specs.Prelude.{◌≡◌, ◌++◌, codes, string_bytes, IfOk, option_and_then, option_copied, option_map};
-ghost use Rattle.sw_data.specs.Addresses.{address_of, allowed_bound, joined, parsed_against, parsed_origin, equal_origins, is_within_bound, path_of, path_of_same_origin, origin_of, scope_bound};
+ghost use Rattle.sw_data.specs.Addresses.{address_of, allowed_bound, joined, parsed_against, parsed_origin, equal_origins, is_within_bound, path_of, path_of_same_origin, origin_of, same_origin, scope_bound};
 ghost use Rattle.sw_data.specs.Keys.{key_of, key_origin, partitioned};
 
 use crate::fault::UrlFault;
@@ -34,6 +34,18 @@ pub fn key_of(
         Err(UrlFault::NoMemory) => Err(NoMemory),
         Err(_) => Ok(None),
     }
+}
+
+/// Two texts are addresses of one origin (HTML, 7.1.1, "same origin"). A text that doesn't parse,
+/// or whose scheme is neither http nor https, has the origin of no other.
+#[tactic(auto, unfolding(sw_data::specs::Keys::key_of))]
+pub fn same_origin(alloc: Global, left: &Text, right: &Text) -> Result<bool, NoMemory>
+    ensures { IfOk result (λ same. same ≡ same_origin left.now right.now) }
+{
+    // A key without a partition is an origin.
+    let left = key_of(alloc, left, None)?;
+    let right = key_of(alloc, right, None)?;
+    Ok(equal_origins(&left, &right))
 }
 
 /// The bound of the scopes that a script may have: the path of `./` against the script, or the

@@ -2,7 +2,8 @@
 //! Secure Contexts.
 use crate::{
     PageFault, UrlFault, http_address, is_trustworthy, is_within_bound, key_of, max_scope,
-    page_key, resolve, scope_url, script_url, without_fragment, without_query,
+    page_key, resolve, same_origin, scope_url, script_url, serialized, without_fragment,
+    without_query,
 };
 use std::alloc::Global;
 use std::test::Fail;
@@ -251,6 +252,34 @@ fn an_http_address_stands_alone(rt: HostRuntime) -> Result<(), Fail> {
         ("ftp://a.test/", Err(UrlFault::Scheme)),
     ] {
         assert_eq!(rt; answers(http_address(alloc, text), want), true, "{text}");
+    }
+    Ok(())
+}
+
+#[test]
+fn an_address_keeps_its_fragment(rt: HostRuntime) -> Result<(), Fail> {
+    let alloc = rt.alloc();
+    for (text, want) in [
+        ("HTTP://A.TEST:80/x#f", Ok("http://a.test/x#f")),
+        ("mailto:a", Ok("mailto:a")),
+        ("x", Err(UrlFault::Unparsed)),
+    ] {
+        let answer = serialized(alloc, &Text::of(alloc, text)?);
+        assert!(rt; answers(answer, want), "{text}");
+    }
+    Ok(())
+}
+
+#[test]
+fn origins_are_the_same(rt: HostRuntime) -> Result<(), Fail> {
+    let alloc = rt.alloc();
+    for (left, right, want) in [
+        ("https://a.test/x", "https://A.test:443/y", true),
+        ("https://a.test/", "http://a.test/", false),
+        ("mailto:a", "mailto:a", false),
+    ] {
+        let same = same_origin(alloc, &Text::of(alloc, left)?, &Text::of(alloc, right)?)?;
+        assert!(rt; same == want, "{left} and {right}");
     }
     Ok(())
 }
