@@ -1,5 +1,5 @@
 -- The entries of the table of clients, its rows and its counts: what each call does to them.
-use Rattle.std.proofs.Common.{◌≡◌, ◌∙◌, ◌<◌, ◌+◌, ◌-◌, ◌^◌, ℕ, false, not, nat_eq, List, [], ◌∷◌, ◌++◌, map, length, slice_get, slice_index_or, length-append, Option, Some, None, option_map, IfSome, Result, Ok, Err, refl, sym, ap, subst, arith, if◌then◌else◌}
+use Rattle.std.proofs.Common.{◌≡◌, ◌∙◌, ◌<◌, ◌≤◌, ◌+◌, ◌-◌, ◌^◌, ℕ, false, not, nat_eq, List, [], ◌∷◌, ◌++◌, map, length, slice_get, slice_index_or, length-append, Option, Some, None, option_map, IfSome, Result, Ok, Err, refl, sym, ap, subst, arith, if◌then◌else◌}
 use Rattle.std.proofs.lemmas.List.{length-map}
 use Rattle.std.proofs.lemmas.Bool.Decides.{nat_tests}
 use Rattle.std.specs.List.{find, list_any, IsDistinct}
@@ -11,13 +11,13 @@ use Rattle.sw_data.specs.declared.rows.ClientRow.{ClientRow}
 use Rattle.sw_rules.specs.Rows.{changed, is_client, is_number, without}
 use Rattle.sw_client.specs.declared.OpenClient.{OpenClient}
 use Rattle.sw_client.specs.Keyed.{keyed, IsKeyed}
-use Rattle.sw_client.specs.Table.{IsCounted, controlled_by, is_open, users_of, uses}
+use Rattle.sw_client.specs.Table.{IsCounted, controlled_by, is_open, uncontrolled, users_of, uses}
 use Rattle.sw_client.proofs.KeyedRows.{count_changed, count_least, count_others, count_pushed, count_removed, count_within, insert_keyed, lookup_keyed, remove_keyed, set_keyed, some_keyed, values_keyed}
 
-abbrev Entries : Type 0
+abbrev pub Entries : Type 0
 Entries = List (ℕ × OpenClient)
 
-abbrev number : OpenClient → ℕ
+abbrev pub number : OpenClient → ℕ
 number row = row.client.number
 
 abbrev client : OpenClient → ClientRow
@@ -73,17 +73,18 @@ inserted new es is fresh =
 removed : (n : ℕ) (es : Entries) → IsKeyed number es → remove_entry (nat_eq n) es ≡ keyed number (without (is_open n) (values_of es))
 removed n es is = ap (remove_entry (nat_eq n)) is.rows ∙ remove_keyed number n (values_of es) (apart_now es is)
 
-given : (n : ℕ) (c : ℕ × ℕ) (es : Entries) (x : OpenClient) → IsKeyed number es → lookup (nat_eq n) es ≡ Some x → set_value (nat_eq n) es (controlled_by c x) ≡ keyed number (changed (is_open n) (controlled_by c) (values_of es))
-given n c es x is there =
-    ap (λ (xs : Entries). set_value (nat_eq n) xs (controlled_by c x)) is.rows
-    ∙ set_keyed number (controlled_by c) (λ _. refl) n (values_of es) x (apart_now es is) (sym (found_by n es is) ∙ there)
+given : (n : ℕ) (f : OpenClient → OpenClient) (es : Entries) (x : OpenClient) → ((row : OpenClient) → number (f row) ≡ number row) → IsKeyed number es → lookup (nat_eq n) es ≡ Some x
+    → set_value (nat_eq n) es (f x) ≡ keyed number (changed (is_open n) f (values_of es))
+given n f es x keeps is there =
+    ap (λ (xs : Entries). set_value (nat_eq n) xs (f x)) is.rows
+    ∙ set_keyed number f keeps n (values_of es) x (apart_now es is) (sym (found_by n es is) ∙ there)
 
 -- ---- counts
 
 abbrev one_of : Option ℕ → ℕ → ℕ
 one_of used registration = if is_number used registration then 1 else 0
 
-now_counted : (es : Entries) (rows : List OpenClient) (counts : List ℕ) → es ≡ keyed number rows → IsDistinct nat_eq (keys_of es)
+pub now_counted : (es : Entries) (rows : List OpenClient) (counts : List ℕ) → es ≡ keyed number rows → IsDistinct nat_eq (keys_of es)
     → ((registration : ℕ) → slice_index_or counts registration 0 ≡ users_of registration rows) → length rows < 2 ^ 32 → IsCounted es counts
 now_counted es rows counts is apart users few =
     let same : values_of es ≡ rows = ap values_of is ∙ values_keyed number rows in
@@ -138,17 +139,28 @@ removed_counted n es after counts now x sound there is apart less =
 pub removed_rows : (n : ℕ) (es after : Entries) → IsKeyed number es → after ≡ remove_entry (nat_eq n) es → values_of after ≡ without (is_open n) (values_of es)
 removed_rows n es after sound is = ap values_of (is ∙ removed n es sound) ∙ values_keyed number (without (is_open n) (values_of es))
 
-pub given_counted : (n : ℕ) (c : ℕ × ℕ) (es after : Entries) (counts now : List ℕ) (x : OpenClient) → IsCounted es counts → lookup (nat_eq n) es ≡ Some x
-    → after ≡ set_value (nat_eq n) es (controlled_by c x) → IsDistinct nat_eq (keys_of after)
-    → ((r : ℕ) → slice_index_or now r 0 ≡ slice_index_or counts r 0 - one_of x.registration r + one_of (Some c.1) r) → IsCounted after now
-given_counted n c es after counts now x sound there is apart shifted =
+pub given_counted : (n : ℕ) (f : OpenClient → OpenClient) (es after : Entries) (counts now : List ℕ) (x : OpenClient) → ((row : OpenClient) → number (f row) ≡ number row) → IsCounted es counts → lookup (nat_eq n) es ≡ Some x
+    → after ≡ set_value (nat_eq n) es (f x) → IsDistinct nat_eq (keys_of after)
+    → ((r : ℕ) → slice_index_or now r 0 ≡ slice_index_or counts r 0 - one_of x.registration r + one_of (f x).registration r) → IsCounted after now
+given_counted n f es after counts now x keeps sound there is apart shifted =
     let found : find (is_open n) (values_of es) ≡ Some x = sym (found_by n es sound.keyed) ∙ there in
-    now_counted after (changed (is_open n) (controlled_by c) (values_of es)) now (is ∙ given n c es x sound.keyed there) apart
-    (λ r. omega (arith, shifted r, sound.users r, count_least number (uses r) n (values_of es) x found, count_changed number (uses r) (controlled_by c) n (values_of es) x (apart_now es sound.keyed) found))
-    (omega (arith, sound.few, length-map (values_of es) (λ row. if is_open n row then controlled_by c row else row)))
+    now_counted after (changed (is_open n) f (values_of es)) now (is ∙ given n f es x keeps sound.keyed there) apart
+    (λ r. omega (arith, shifted r, sound.users r, count_least number (uses r) n (values_of es) x found, count_changed number (uses r) f n (values_of es) x (apart_now es sound.keyed) found))
+    (omega (arith, sound.few, length-map (values_of es) (λ row. if is_open n row then f row else row)))
 
-pub given_rows : (n : ℕ) (c : ℕ × ℕ) (es after : Entries) (x : OpenClient) → IsKeyed number es → lookup (nat_eq n) es ≡ Some x → after ≡ set_value (nat_eq n) es (controlled_by c x) → values_of after ≡ changed (is_open n) (controlled_by c) (values_of es)
-given_rows n c es after x sound there is = ap values_of (is ∙ given n c es x sound there) ∙ values_keyed number (changed (is_open n) (controlled_by c) (values_of es))
+pub given_rows : (n : ℕ) (f : OpenClient → OpenClient) (es after : Entries) (x : OpenClient) → ((row : OpenClient) → number (f row) ≡ number row) → IsKeyed number es → lookup (nat_eq n) es ≡ Some x → after ≡ set_value (nat_eq n) es (f x)
+    → values_of after ≡ changed (is_open n) f (values_of es)
+given_rows n f es after x keeps sound there is = ap values_of (is ∙ given n f es x keeps sound there) ∙ values_keyed number (changed (is_open n) f (values_of es))
+
+-- without its controller, a client uses no registration
+pub released_users : (n r : ℕ) (rows : List OpenClient) → users_of r (changed (is_open n) uncontrolled rows) ≤ users_of r rows
+released_users n r [] = omega arith
+released_users n r (x ∷ xs) = grind (arith, nat_tests, released_users n r xs)
+
+-- where no client has the number, nothing is changed
+pub unchanged : (n : ℕ) (f : OpenClient → OpenClient) (rows : List OpenClient) → find (is_open n) rows ≡ None → changed (is_open n) f rows ≡ rows
+unchanged n f [] none = refl
+unchanged n f (x ∷ xs) none = grind (arith, nat_tests, unchanged n f xs)
 
 -- ---- clients
 
@@ -157,7 +169,7 @@ removed_clients n es after sound is = ap (map client) (removed_rows n es after s
 
 pub given_clients : (n : ℕ) (c : ℕ × ℕ) (es after : Entries) (x : OpenClient) → IsKeyed number es → lookup (nat_eq n) es ≡ Some x → after ≡ set_value (nat_eq n) es (controlled_by c x)
     → map client (values_of after) ≡ changed (is_client n) (λ row. record row { controller = Some c.0 }) (map client (values_of es))
-given_clients n c es after x sound there is = ap (map client) (given_rows n c es after x sound there is) ∙ changed_clients n c (values_of es)
+given_clients n c es after x sound there is = ap (map client) (given_rows n (controlled_by c) es after x (λ _. refl) sound there is) ∙ changed_clients n c (values_of es)
 
 -- what holds after Ok, of a call that succeeds
 pub on_ok : {T E : Type 0} {P : Type 0} (r : Result T E) → OnOk r P → IsOk r → P

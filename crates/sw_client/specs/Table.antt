@@ -1,5 +1,5 @@
 -- The table of clients as contracts see it (own), and the users of a registration.
-use Rattle.std.specs.Prelude.{ℕ, Bool, false, ◌≡◌, ◌<◌, ◌-◌, ◌^◌, List, map, filter, length, slice_index_or, Some, IfSome}
+use Rattle.std.specs.Prelude.{ℕ, Bool, false, ◌≡◌, ◌<◌, ◌-◌, ◌^◌, List, map, filter, length, slice_index_or, Some, None, IfSome, if◌then◌else◌}
 use Rattle.std.specs.List.{list_any}
 use Rattle.std.specs.Map.{values_of}
 use Rattle.sw_data.specs.declared.rows.ClientRow.{ClientRow}
@@ -35,6 +35,14 @@ controlled_by controller row = record {
   client = record row.client { controller = Some controller.0 };
   registration = Some controller.1;
 }
+
+-- a client, which gets this worker of a registration if it uses that one
+abbrev pub handed : ℕ → ℕ → OpenClient → OpenClient
+handed registration worker row = if uses registration row then controlled_by (worker, registration) row else row
+
+-- a client that has no controller any more
+abbrev pub uncontrolled : OpenClient → OpenClient
+uncontrolled row = record { client = record row.client { controller = None }; registration = None }
 
 -- a row can be put into the table: no row has its number, its registration is known, and there is room
 pub record Fits (new : OpenClient) (table : Table) : Type 0 where

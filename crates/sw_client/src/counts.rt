@@ -18,7 +18,8 @@ pub(crate) fn count_of(counts: &[u32], registration: u32) -> u32
 pub(crate) fn lower(counts: &mut Vec<u32>, registration: Option<u32>)
     requires { IfSome registration (λ r. 0 < slice_index_or counts.old.items r 0) }
     ensures count { (asked : ℕ) → slice_index_or counts.new.items asked 0
-        ≡ slice_index_or counts.old.items asked 0 - (if is_number registration asked then 1 else 0) }
+        ≡ slice_index_or counts.old.items asked 0
+        - (if is_number registration asked then 1 else 0) }
     ensures len { vec_len counts.new ≡ vec_len counts.old }
 {
     if let Some(registration) = registration {
@@ -31,7 +32,8 @@ pub(crate) fn raise(counts: &mut Vec<u32>, registration: Option<u32>)
     requires { IfSome registration (λ r. (r < vec_len counts.old)
         × (slice_index_or counts.old.items r 0 < 2 ^ 32 - 1)) }
     ensures count { (asked : ℕ) → slice_index_or counts.new.items asked 0
-        ≡ slice_index_or counts.old.items asked 0 + (if is_number registration asked then 1 else 0) }
+        ≡ slice_index_or counts.old.items asked 0
+        + (if is_number registration asked then 1 else 0) }
     ensures len { vec_len counts.new ≡ vec_len counts.old }
 {
     if let Some(registration) = registration {
@@ -43,7 +45,8 @@ pub(crate) fn raise(counts: &mut Vec<u32>, registration: Option<u32>)
 pub(crate) fn exchange(counts: &mut Vec<u32>, from: Option<u32>, to: u32)
     requires from { IfSome from (λ r. 0 < slice_index_or counts.old.items r 0) }
     requires to { (to < vec_len counts.old)
-        × (slice_index_or counts.old.items to 0 - (if is_number from to then 1 else 0) < 2 ^ 32 - 1) }
+        × (slice_index_or counts.old.items to 0
+        - (if is_number from to then 1 else 0) < 2 ^ 32 - 1) }
     ensures count { (asked : ℕ) → slice_index_or counts.new.items asked 0
         ≡ slice_index_or counts.old.items asked 0 - (if is_number from asked then 1 else 0)
         + (if is_number (Some to) asked then 1 else 0) }

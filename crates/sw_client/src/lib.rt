@@ -1,12 +1,13 @@
 //! The table of clients: each is found by its number, and the users of each registration are counted.
 #![tactic(auto)]
 
-ghost use Rattle.std.specs.Prelude.{◌≡◌, ◌↔◌, ◌+◌, ◌-◌, ◌<◌, ◌≤◌, ◌^◌, [], ◌++◌, ◌∷◌, true, false, max, nat_eq, length, find, slice_get, IfSome, IfOk, IsErr, OnOk, OnErr, Some, None};
+ghost use Rattle.std.specs.Prelude.{◌≡◌, ◌↔◌, ◌+◌, ◌-◌, ◌<◌, ◌≤◌, ◌^◌, ℕ, [], ◌++◌, ◌∷◌, true, false, max, nat_eq, length, filter, find, map, slice_get, IfSome, IfOk, IsErr, OnOk, OnErr, Some, None};
 ghost use Rattle.std.specs.List.{list_any};
-ghost use Rattle.std.specs.Option.{option_copied, option_map};
+ghost use Rattle.std.specs.Option.{option_and_then, option_copied, option_map};
 ghost use Rattle.indexmap.specs.IndexMap.{IsUnique, shift_remove_entry, spare};
+ghost use Rattle.sw_data.specs.declared.answers.Notice.TheVariants as notice;
 ghost use Rattle.sw_rules.specs.Rows.{changed, is_client, without};
-ghost use Rattle.sw_client.specs.Table.{Fits, clients_of, controlled_by, is_open, users_of};
+ghost use Rattle.sw_client.specs.Table.{Fits, clients_of, controlled_by, handed, is_open, uncontrolled, users_of, uses};
 
 mod counts;
 #[cfg(test)]
@@ -15,7 +16,8 @@ mod tests;
 use indexmap::IndexMap;
 use std::alloc::Global;
 use std::marker::Model;
-use sw_data::{ClientRow, NoMemory, Text};
+use sw_data::{ClientRow, NoMemory, Notice, Text};
+use sw_rules::Notices;
 
 /// A client that is open, with the registration of its controller where it has one.
 #[derive(Drop)]
@@ -90,6 +92,60 @@ fn give(row: &mut OpenClient, controller: (u32, u32))
     row.registration = Some(controller.1);
 }
 
+// Takes the controller from a client.
+fn release(row: &mut OpenClient)
+    ensures { row.new ≡ uncontrolled row.old }
+{
+    row.client.controller = None;
+    row.registration = None;
+}
+
+// Whether a client uses a registration.
+fn is_user(row: &OpenClient, registration: u32) -> bool
+    ensures { result ≡ uses registration row.now }
+{
+    match row.registration {
+        Some(number) => number == registration,
+        None => false,
+    }
+}
+
+// Tells the clients that use a registration of their new controller.
+#[tactic(auto, using(crate::proofs::TakeOver::room_left))]
+fn tell(rows: &[OpenClient], registration: u32, notices: &mut Notices)
+    requires { users_of registration rows.now ≤ notices.old.spare }
+    ensures told { notices.new.rows ≡ notices.old.rows
+        ++ map (λ row. notice.ControllerChange row.client.number)
+        (filter (uses registration) rows.now) }
+    ensures room { notices.new.spare + users_of registration rows.now ≡ notices.old.spare }
+{
+    for row in rows {
+        if is_user(row, registration) {
+            notices.push(Notice::ControllerChange(row.client.number));
+        }
+    }
+}
+
+// A client gets this worker of a registration if it uses that one.
+fn pass_on(row: &mut OpenClient, registration: u32, worker: u32)
+    ensures { row.new ≡ handed registration worker row.old }
+{
+    if is_user(row, registration) {
+        give(row, (worker, registration));
+    }
+}
+
+// The clients that use a registration get this worker of it.
+fn hand_over(rows: &mut IndexMap<u32, OpenClient>, registration: u32, worker: u32)
+    ensures entries { rows.new.entries
+        ≡ map (λ entry. (entry.0, handed registration worker entry.1)) rows.old.entries }
+    ensures room { spare rows.new ≡ spare rows.old }
+{
+    for place in 0..rows.len() {
+        pass_on(&mut rows[place], registration, worker);
+    }
+}
+
 impl Clients {
     /// No clients, and no registration known. It takes no memory.
     pub fn new(alloc: Global) -> Clients
@@ -136,6 +192,14 @@ impl Clients {
         ensures { option_copied result ≡ find (is_client number) (clients_of self.now) }
     {
         Some(&self.found(number)?.client)
+    }
+
+    /// The registration that a client uses. It takes no memory.
+    pub fn registration(&self, number: u32) -> Option<u32>
+        ensures { result ≡ option_and_then (λ row. row.registration)
+            (find (is_open number) self.now.rows) }
+    {
+        self.found(number)?.registration
     }
 
     /// The client at a place in the order of opening. It takes no memory.
@@ -273,5 +337,40 @@ impl Clients {
         counts::exchange(&mut self.counts, row.registration, controller.1);
         give(row, controller);
         Ok(())
+    }
+
+    /// A client has no controller any more; nothing happens where its number isn't there. It takes no memory.
+    pub fn unset_controller(&mut self, number: u32)
+        ensures rows { self.new ≡ record self.old {
+          rows = changed (is_open number) uncontrolled self.old.rows;
+        } }
+        ensures users { (registration : ℕ)
+            → users_of registration self.new.rows ≤ users_of registration self.old.rows }
+    {
+        let Some(row) = self.rows.get_mut(&number) else {
+            return;
+        };
+        counts::lower(&mut self.counts, row.registration);
+        release(row);
+    }
+
+    /// The clients that use a registration get this worker of it as controller and are told, in order of opening. It
+    /// takes no memory, and looks at no client where none uses the registration.
+    pub fn take_over(&mut self, registration: u32, worker: u32, notices: &mut Notices)
+        requires { users_of registration self.old.rows ≤ notices.old.spare }
+        ensures rows { self.new ≡ record self.old {
+          rows = changed (uses registration) (controlled_by (worker, registration)) self.old.rows;
+        } }
+        ensures told { notices.new.rows ≡ notices.old.rows
+            ++ map (λ row. notice.ControllerChange row.client.number)
+            (filter (uses registration) self.old.rows) }
+        ensures room { notices.new.spare + users_of registration self.old.rows
+            ≡ notices.old.spare }
+    {
+        if self.users(registration) == 0 {
+            return;
+        }
+        tell(self.rows.values().as_slice(), registration, notices);
+        hand_over(&mut self.rows, registration, worker);
     }
 }

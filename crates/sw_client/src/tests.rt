@@ -1,7 +1,8 @@
 use crate::{AddFault, Clients, NoClient};
 use std::alloc::Global;
 use std::test::Fail;
-use sw_data::{NoMemory, Text};
+use sw_data::{NoMemory, Notice, Text};
+use sw_rules::Notices;
 
 fn open(
     alloc: Global,
@@ -97,6 +98,62 @@ fn moves_a_client_to_another_registration(rt: HostRuntime) -> Result<(), Fail> {
     assert_eq!(rt; clients.set_controller(5, (22, 1)), Err(NoClient));
     let controller = clients.row(1).and_then(|row| row.controller);
     assert_eq!(rt; controller, Some(21));
+    Ok(())
+}
+
+#[test]
+fn finds_the_registration_of_a_client(rt: HostRuntime) -> Result<(), Fail> {
+    let clients = five(rt.alloc())?;
+    assert_eq!(rt; clients.registration(4), Some(1));
+    assert_eq!(rt; clients.registration(9), None);
+    assert_eq!(rt; clients.registration(5), None);
+    Ok(())
+}
+
+#[test]
+fn a_client_without_its_controller_uses_nothing(rt: HostRuntime) -> Result<(), Fail> {
+    let mut clients = five(rt.alloc())?;
+    clients.unset_controller(3);
+    clients.unset_controller(9);
+    clients.unset_controller(5);
+    assert_eq!(rt; users(&clients), (2, 1, 0));
+    assert_eq!(rt; clients.registration(3), None);
+    let controller = clients.row(3).and_then(|row| row.controller);
+    assert_eq!(rt; controller, None);
+    Ok(())
+}
+
+// Gives the clients of a registration another worker, and tells which clients were told, in order.
+fn take_over(
+    alloc: Global,
+    clients: &mut Clients,
+    registration: u32,
+    worker: u32,
+) -> Result<Vec<u32>, NoMemory> {
+    let room = clients.users(registration) as usize;
+    let mut notices = Notices::with_room(alloc, room)?;
+    clients.take_over(registration, worker, &mut notices);
+    let mut told = Vec::new(alloc);
+    for notice in notices.into_items().as_slice() {
+        if let Notice::ControllerChange(client) = notice {
+            told.push(*client)?;
+        }
+    }
+    Ok(told)
+}
+
+#[test]
+fn a_new_worker_takes_over_the_clients(rt: HostRuntime) -> Result<(), Fail> {
+    let alloc = rt.alloc();
+    let mut clients = five(alloc)?;
+    let nobody = take_over(alloc, &mut clients, 2, 30)?;
+    let told = take_over(alloc, &mut clients, 0, 12)?;
+    assert_eq!(rt; nobody.as_slice().is_empty(), true);
+    assert_eq!(rt; told.as_slice(), [7, 1].as_slice());
+    assert_eq!(rt; users(&clients), (2, 2, 0));
+    let controller = |number| clients.row(number).and_then(|row| row.controller);
+    assert_eq!(rt; (controller(7), controller(1)), (Some(12), Some(12)));
+    assert_eq!(rt; (controller(3), controller(9)), (Some(20), None));
     Ok(())
 }
 

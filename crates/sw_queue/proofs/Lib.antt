@@ -9,3 +9,5 @@ pub mod Reading
 pub mod Running
 pub mod Rooms
 pub mod Settling
+pub mod Heads
+pub mod Telling

@@ -32,7 +32,7 @@ find_by P test (y ∷ ys) x all found = by (test y) refl (λ later. find_by P te
 
 module _ (rows : List JobRow) (are : AreFrom 0 rows) where
   -- the job of a number is there and passes
-  passing : (test : JobRow → Bool) (job : ℕ) → has_job test job rows ≡ true
+  pub passing : (test : JobRow → Bool) (job : ℕ) → has_job test job rows ≡ true
       → (row : JobRow) × (slice_get rows job ≡ Some row) × (test row ≡ true)
   passing test job passes = by (slice_get rows job) refl (sym (ap (λ (o : Option JobRow). option_map_or test o false) (find_from 0 rows are job job (omega arith))) ∙ passes)
     where
@@ -50,7 +50,7 @@ module _ (rows : List JobRow) (are : AreFrom 0 rows) where
       ap test (here ∙ get_or_from_slice_get rows job it.0 row it.1) ∙ it.2
 
   -- a row that a scan finds stands at its number
-  found_at : (test : JobRow → Bool) (row : JobRow) → find test rows ≡ Some row → (slice_get rows (number row) ≡ Some row) × (test row ≡ true)
+  pub found_at : (test : JobRow → Bool) (row : JobRow) → find test rows ≡ Some row → (slice_get rows (number row) ≡ Some row) × (test row ≡ true)
   found_at test row found = find_by (λ (r : JobRow). slice_get rows (number r) ≡ Some r) test rows row (each_there rows are) found
 
   pub number_at : (first : ℕ) (some_rows : List JobRow) → AreFrom first some_rows → (place : ℕ) (d : JobRow) → place < length some_rows
@@ -147,6 +147,14 @@ runs_on job_phase.Fetching runs = refl
 runs_on job_phase.Evaluating runs = refl
 runs_on job_phase.Installing runs = refl
 runs_on job_phase.Done runs = absurd cc
+
+-- nor does it wait
+pub waits_not : (phase : JobPhase) → is_under_way phase ≡ true → not (is_waiting phase) ≡ true
+waits_not job_phase.Waiting runs = absurd cc
+waits_not job_phase.Fetching runs = refl
+waits_not job_phase.Evaluating runs = refl
+waits_not job_phase.Installing runs = refl
+waits_not job_phase.Done runs = refl
 
 -- the first job of a queue starts exactly where it waits
 pub ready : (rows : List JobRow) (key scope : List ℕ) (row : JobRow) (job : ℕ) (waits : Bool) → first_job key scope rows ≡ Some row → number row ≡ job

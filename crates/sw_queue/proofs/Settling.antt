@@ -4,7 +4,7 @@ use Rattle.std.specs.Prelude.{◌&&◌, ◌||◌, ◌==◌, is_none}
 use Rattle.std.specs.List.{All, AllByRecursion}
 use Rattle.std.proofs.lemmas.List.Elements.{All-from_recursion}
 use Rattle.std.proofs.lemmas.Bool.Decides.{nat_tests}
-use Rattle.std.proofs.lemmas.List.{take_more}
+use Rattle.std.proofs.lemmas.List.{length-map, take_more}
 use Rattle.std.proofs.lemmas.List.Sums.{fold-append}
 use Rattle.sw_data.specs.declared.answers.Settlement.{Settlement}
 use Rattle.sw_data.specs.declared.rows.JobRow.{JobRow}
@@ -181,11 +181,15 @@ followers_below rows are job =
         one_more (test row) end row (filter test rest) (let here = from.0 in omega (arith, here, inside))
         (below test (suc first) rest from.1 end (omega (arith, inside)))
 
-pub settled_whole : (result : Settlement) (rows : List JobRow) → AreFrom 0 rows → (job : ℕ)
-    → changed (is_job job) (given result) (settled_all result rows (followers_of job rows))
-    ≡ changed (gets_value job) (λ row. record row { settled = Some result }) rows
-settled_whole result rows are job =
-    ap (changed (is_job job) (given result)) (settled_passing result (λ row. is_number row.leader job) 0 rows are) ∙ settled_rows result job rows
+-- the rows that get the value, and as many as before
+pub settled_whole : (result : Settlement) (rows seen done : List JobRow) (job : ℕ) (followers : List ℕ) → AreFrom 0 rows → seen ≡ rows
+    → followers ≡ followers_of job rows → done ≡ changed (is_job job) (given result) (settled_all result seen followers)
+    → (done ≡ changed (gets_value job) (λ row. record row { settled = Some result }) rows) × (length done ≡ length rows)
+settled_whole result rows seen done job followers are one two is =
+    let whole = is
+    ∙ ((λ i. changed (is_job job) (given result) (settled_all result (one i) (two i)))
+    ∙ (ap (changed (is_job job) (given result)) (settled_passing result (λ row. is_number row.leader job) 0 rows are) ∙ settled_rows result job rows)) in
+    (whole, ap length whole ∙ length-map rows (λ row. if gets_value job row then record row { settled = Some result } else row))
 
 pub kept_settled : (result : Settlement) (rows others : List JobRow) (lists : List (List ℕ)) (lines : Keyed) (job : ℕ) → IsKept rows lists lines
     → others ≡ changed (gets_value job) (λ row. record row { settled = Some result }) rows → IsKept others lists lines

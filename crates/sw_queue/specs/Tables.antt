@@ -1,13 +1,17 @@
 -- The table of jobs: its rows, the room for more of them, and what its calls answer.
-use Rattle.std.specs.Prelude.{◌≡◌, ℕ, ◌<◌, fold, Bool, true, false, ◌&&◌, List, [], map, length, find, get_or, is_none, Option, Some, None, option_and_then, if◌then◌else◌}
+use Rattle.std.specs.Prelude.{◌≡◌, ℕ, ◌<◌, fold, Bool, true, false, ◌&&◌, List, [], ◌∷◌, map, length, find, get_or, is_none, Option, Some, None, option_and_then, if◌then◌else◌}
+use Rattle.std.specs.List.{slice_get}
 use Rattle.std.specs.Option.{option_map_or}
+use Rattle.sw_data.specs.declared.answers.Notice.{Notice}
+use Rattle.sw_data.specs.declared.answers.Notice.TheVariants as notice
 use Rattle.sw_data.specs.declared.answers.Settlement.{Settlement}
 use Rattle.sw_data.specs.declared.rows.Job.{Job}
 use Rattle.sw_data.specs.declared.rows.JobPhase.{JobPhase}
 use Rattle.sw_data.specs.declared.rows.JobPhase.TheVariants as job_phase
 use Rattle.sw_data.specs.declared.rows.JobRow.{JobRow}
 use Rattle.sw_rules.specs.Jobs.{is_equivalent, new_job_row}
-use Rattle.sw_rules.specs.Rows.{changed, first_job, is_job, is_waiting, last_job}
+use Rattle.sw_rules.specs.Rows.{changed, first_job, is_first, is_job, is_waiting, last_job}
+use Rattle.sw_queue.specs.Kept.{followers_of}
 use Rattle.sw_queue.specs.Lines.{Keyed, Scoped, named}
 use Rattle.sw_queue.specs.declared.calls.JobNotes.{JobNotes}
 use Rattle.sw_queue.specs.declared.calls.Scheduled.{Scheduled}
@@ -71,6 +75,14 @@ scheduled_as (Some leader) = scheduled.Joined leader
 abbrev pub has_job : (JobRow → Bool) → ℕ → List JobRow → Bool
 has_job test job rows = option_map_or test (find (is_job job) rows) false
 
+-- own: the job of this number stands first in its queue and passes
+abbrev pub has_head : (JobRow → Bool) → ℕ → List JobRow → Bool
+has_head test job rows = has_job (λ row. is_first rows row && test row) job rows
+
+-- own: each job keeps the jobs that joined it
+abbrev pub FollowersStay : List JobRow → List JobRow → Type 0
+FollowersStay before after = (other : ℕ) → followers_of other after ≡ followers_of other before
+
 -- own: the job that may start, of a key and a scope
 abbrev pub ready_job : List ℕ → List ℕ → List JobRow → Option ℕ
 ready_job key scope rows =
@@ -86,6 +98,14 @@ given result row = if is_none row.settled then record row { settled = Some resul
 -- own: the promises of these jobs settle with this value, one after the other
 abbrev pub settled_all : Settlement → List JobRow → List ℕ → List JobRow
 settled_all result rows jobs = fold (λ done job. changed (is_job job) (given result) done) rows jobs
+
+-- own: what the maker of a job is told, where the job has no value yet and gets this one
+abbrev pub told_of : Settlement → JobRow → List Notice
+told_of result row = if is_none row.settled && row.job.has_client then notice.Settled row.job.number result ∷ [] else []
+
+-- own: the same, by the place of the job
+abbrev pub told_at : Settlement → List JobRow → ℕ → List Notice
+told_at result rows place = option_map_or (told_of result) (slice_get rows place) []
 
 -- own: a job in this phase is under way
 abbrev pub is_under_way : JobPhase → Bool

@@ -1,5 +1,7 @@
 //! What the calls of the table of jobs take and answer.
 
+ghost use Rattle.std.specs.Prelude.{◌≡◌};
+
 use std::marker::Model;
 use sw_data::{JobPhase, JobRow};
 
@@ -44,4 +46,13 @@ impl Model for NewJob {
     ghost view = { λ new. new.row };
 
     ghost invariant = { λ new. new.followers.items ≡ [] };
+}
+
+impl NewJob {
+    /// The job that it joins. It takes no memory.
+    pub fn leader(&self) -> Option<u32>
+        ensures { result ≡ self.now.leader }
+    {
+        self.row.leader
+    }
 }

@@ -1,14 +1,15 @@
 //! The table of jobs, with the queue of each key and scope and the followers of each job.
 
-ghost use Rattle.std.specs.Prelude.{◌≡◌, ◌++◌, ◌∷◌, [], ◌<◌, length, map, true, not, ◌&&◌, find, is_none, is_some, Some, option_map, IfOk, OnOk, OnErr};
-ghost use Rattle.std.specs.List.{All};
+ghost use Rattle.std.specs.Prelude.{◌≡◌, ◌++◌, ◌∷◌, [], ◌+◌, ◌<◌, ◌≤◌, length, map, filter, true, not, ◌&&◌, find, is_none, is_some, Some, option_map, IfOk, OnOk, OnErr};
+ghost use Rattle.std.specs.List.{All, flat_map};
 ghost use Rattle.std.specs.Option.{option_copied};
 ghost use Rattle.std.specs.Result.{result_ok};
+ghost use Rattle.sw_data.specs.declared.answers.Notice.TheVariants as notice;
 ghost use Rattle.sw_data.specs.declared.rows.JobPhase.TheVariants as job_phase;
 ghost use Rattle.sw_rules.specs.Jobs.{gets_value, is_equivalent, new_job_row};
 ghost use Rattle.sw_rules.specs.Rows.{changed, first_job, is_first, is_job, is_waiting, last_job};
 ghost use Rattle.sw_queue.specs.Kept.{AreFrom, followers_of};
-ghost use Rattle.sw_queue.specs.Tables.{FitsJob, HasPlace, given, has_job, with_phase, is_under_way, joined_in, noted, ready_job, scheduled_as, settled_all};
+ghost use Rattle.sw_queue.specs.Tables.{FitsJob, FollowersStay, HasPlace, given, has_head, has_job, with_phase, is_under_way, joined_in, noted, ready_job, scheduled_as, settled_all, told_at, told_of};
 
 use crate::calls::{JobNotes, NewJob, NotReady, Scheduled};
 use crate::equivalent::is_equivalent;
@@ -16,7 +17,8 @@ use crate::followers::Followers;
 use crate::index::Index;
 use std::alloc::Global;
 use std::marker::Model;
-use sw_data::{Job, JobPhase, JobRow, NoMemory, Settlement, Text};
+use sw_data::{Job, JobPhase, JobRow, NoMemory, Notice, Settlement, Text};
+use sw_rules::Notices;
 
 /// The jobs by number, in order of scheduling, and their queues by storage key and scope.
 #[derive(Drop)]
@@ -93,6 +95,33 @@ fn settle_rows(rows: &mut [JobRow], job: u32, followers: &[u32], value: Settleme
     settle_one(&mut rows[job as usize], value);
 }
 
+// A job with a client is told the value of its promise, where it has none yet.
+fn tell_one(row: &JobRow, value: Settlement, notices: &mut Notices)
+    requires { 0 < notices.old.spare }
+    ensures told { notices.new.rows ≡ notices.old.rows ++ told_of value row.now }
+    ensures room { notices.old.spare ≤ notices.new.spare + 1 }
+{
+    if row.settled.is_none() && row.job.has_client {
+        notices.push(Notice::Settled {
+            job: row.job.number,
+            value,
+        });
+    }
+}
+
+// These jobs are told, in this order.
+fn tell_rows(rows: &[JobRow], jobs: &[u32], value: Settlement, notices: &mut Notices)
+    requires jobs { All (λ job. job < length rows.now) jobs.now }
+    requires room { length jobs.now ≤ notices.old.spare }
+    ensures told { notices.new.rows
+        ≡ notices.old.rows ++ flat_map (told_at value rows.now) jobs.now }
+    ensures room { notices.old.spare ≤ notices.new.spare + length jobs.now }
+{
+    for job in jobs {
+        tell_one(&rows[*job as usize], value, notices);
+    }
+}
+
 // Whether a new job joins the last of its queue.
 fn can_join(job: &Job, last: &JobRow) -> bool
     ensures { result ≡ (is_equivalent job.now last.now.job && is_none last.now.settled) }
@@ -117,6 +146,13 @@ impl Queues {
         ensures { result ≡ length self.now.rows }
     {
         self.rows.len()
+    }
+
+    /// The rows of all jobs, by their numbers. It takes no memory.
+    pub fn rows(&self) -> &[JobRow]
+        ensures { result.now ≡ self.now.rows }
+    {
+        &self.rows
     }
 
     /// The row of a job. None exactly where no such job was scheduled. It takes no memory.
@@ -172,6 +208,9 @@ impl Queues {
           rows = changed (is_job job) (with_phase job_phase.Fetching) self.old.rows;
         }) }
         ensures err { OnErr result (self.new ≡ self.old) }
+        ensures head { IfOk result (λ job.
+            has_head (λ row. not (is_waiting row.phase)) job self.new.rows ≡ true) }
+        ensures followers { FollowersStay self.old.rows self.new.rows }
     {
         let Some(number) = self.first(key, scope) else {
             return Err(NotReady);
@@ -186,11 +225,12 @@ impl Queues {
 
     /// A job that runs gets these notes. It takes no memory.
     pub fn note(&mut self, job: u32, notes: JobNotes)
-        requires first { has_job (λ row. is_first self.old.rows row && not (is_waiting row.phase))
-            job self.old.rows ≡ true }
+        requires first { has_head (λ row. not (is_waiting row.phase)) job self.old.rows ≡ true }
         requires runs { is_under_way notes.phase ≡ true }
-        ensures { self.new
+        ensures noted { self.new
             ≡ record self.old { rows = changed (is_job job) (noted notes) self.old.rows } }
+        ensures head { has_head (λ row. not (is_waiting row.phase)) job self.new.rows ≡ true }
+        ensures followers { FollowersStay self.old.rows self.new.rows }
     {
         let row = &mut self.rows[job as usize];
         row.phase = notes.phase;
@@ -203,23 +243,46 @@ impl Queues {
     /// The promises of a queued job and of the jobs that joined it get this value, where they have none. It takes no
     /// memory, and time in the number of those jobs alone.
     pub fn settle(&mut self, job: u32, value: Settlement)
-        requires { has_job (λ row. is_none row.leader && is_none row.settled)
-            job self.old.rows ≡ true }
-        ensures { self.new ≡ record self.old {
+        requires { has_job (λ row. is_none row.leader) job self.old.rows ≡ true }
+        ensures settled { self.new ≡ record self.old {
           rows = changed (gets_value job)
               (λ row. record row { settled = Some value }) self.old.rows;
         } }
+        ensures heads { has_job (is_first self.old.rows) job self.old.rows ≡ true
+            → has_head (λ row. is_some row.settled) job self.new.rows ≡ true }
+        ensures followers { FollowersStay self.old.rows self.new.rows }
     {
         let followers = self.followers.at(job as usize);
         settle_rows(self.rows.as_mut_slice(), job, followers, value);
     }
 
+    /// Tells the value that `settle` gives a queued job and the jobs that joined it: the job first, then the others in
+    /// order, each where it has a client and no value yet. It takes no memory, and time in the number of those jobs alone.
+    pub fn tell_settled(&self, job: u32, value: Settlement, notices: &mut Notices)
+        requires there { has_job (λ row. is_none row.leader) job self.now.rows ≡ true }
+        requires room { length (followers_of job self.now.rows) < notices.old.spare }
+        ensures told { notices.new.rows ≡ notices.old.rows
+            ++ map (λ row. notice.Settled row.job.number value)
+            (filter (λ row. gets_value job row && row.job.has_client) self.now.rows) }
+        ensures room { notices.old.spare
+            ≤ notices.new.spare + (length (followers_of job self.now.rows) + 1) }
+    {
+        let place = job as usize;
+        tell_one(&self.rows[place], value, notices);
+        tell_rows(
+            self.rows.as_slice(),
+            self.followers.at(place),
+            value,
+            notices,
+        );
+    }
+
     /// The first job of its queue, whose promise has settled, is done and leaves its queue. It takes no memory.
     pub fn finish(&mut self, job: u32)
-        requires { has_job (λ row. is_first self.old.rows row && is_some row.settled)
-            job self.old.rows ≡ true }
-        ensures { self.new.rows
+        requires { has_head (λ row. is_some row.settled) job self.old.rows ≡ true }
+        ensures done { self.new.rows
             ≡ changed (is_job job) (with_phase job_phase.Done) self.old.rows }
+        ensures followers { FollowersStay self.old.rows self.new.rows }
     {
         let place = job as usize;
         let gone = &self.rows[place].job;

@@ -1,11 +1,12 @@
 ghost use Rattle.std.specs.Prelude.{◌≡◌, ◌&&◌, not, is_none, is_some, IfOk};
-ghost use Rattle.sw_rules.specs.Rows.{is_first, is_waiting};
-ghost use Rattle.sw_queue.specs.Tables.{has_job};
+ghost use Rattle.sw_rules.specs.Rows.{is_waiting};
+ghost use Rattle.sw_queue.specs.Tables.{has_head, has_job};
 
 use crate::{JobNotes, NotReady, Queues, Scheduled};
 use std::alloc::Global;
 use std::test::Fail;
-use sw_data::{Job, JobKind, JobPhase, Kind, Mode, NoMemory, Settlement, Text};
+use sw_data::{Items, Job, JobKind, JobPhase, Kind, Mode, NoMemory, Notice, Settlement, Text};
+use sw_rules::Notices;
 
 // A job of this number that imports a classic script.
 fn job(
@@ -47,24 +48,24 @@ fn schedule(
     queues.schedule(alloc, job)
 }
 
-// Whether a job joined none and has no value.
-fn is_open(queues: &Queues, job: u32) -> bool
+// Whether a job joined none.
+fn is_leader(queues: &Queues, job: u32) -> bool
     ensures { result
-        ≡ has_job (λ row. is_none row.leader && is_none row.settled) job queues.now.rows }
+        ≡ has_job (λ row. is_none row.leader) job queues.now.rows }
 {
     match queues.row(job) {
-        Some(row) => row.leader.is_none() && row.settled.is_none(),
+        Some(row) => row.leader.is_none(),
         None => false,
     }
 }
 
 // Settles a job, where it can settle.
 fn settle(queues: &mut Queues, job: u32, value: Settlement) -> bool {
-    let open = is_open(queues, job);
-    if open {
+    let leads = is_leader(queues, job);
+    if leads {
         queues.settle(job, value);
     }
-    open
+    leads
 }
 
 // Notes what is known of a job that runs, where it is the first of its queue and past waiting.
@@ -87,8 +88,7 @@ fn note(queues: &mut Queues, job: u32, worker: Option<u32>) -> bool {
 
 // Whether a job is the first of its queue and past waiting.
 fn may_note(queues: &Queues, job: u32) -> bool
-    ensures { result ≡ has_job (λ row. is_first queues.now.rows row && not (is_waiting row.phase))
-        job queues.now.rows }
+    ensures { result ≡ has_head (λ row. not (is_waiting row.phase)) job queues.now.rows }
 {
     let Some(row) = queues.row(job) else {
         return false;
@@ -101,8 +101,7 @@ fn may_note(queues: &Queues, job: u32) -> bool
 
 // Whether a job is the first of its queue and its promise has settled.
 fn may_finish(queues: &Queues, job: u32) -> bool
-    ensures { result ≡ has_job (λ row. is_first queues.now.rows row && is_some row.settled)
-        job queues.now.rows }
+    ensures { result ≡ has_head (λ row. is_some row.settled) job queues.now.rows }
 {
     let Some(row) = queues.row(job) else {
         return false;
@@ -183,6 +182,62 @@ fn joins_no_job_whose_promise_has_settled(rt: HostRuntime) -> Result<(), Fail> {
     assert_eq!(rt; answered && settled && answered_later, true);
     assert_eq!(rt; value(&queues, 1), Some(Settlement::Truth(true)));
     assert_eq!(rt; value(&queues, 3), None);
+    Ok(())
+}
+
+// Schedules the next job of one queue, for a client or for none.
+fn schedule_for(
+    alloc: Global,
+    queues: &mut Queues,
+    script: &str,
+    has_client: bool,
+) -> Result<Scheduled, NoMemory> {
+    let Ok(number) = u32::try_from(queues.len()) else {
+        return Err(NoMemory);
+    };
+    let mut job = job(alloc, number, JobKind::Register, "a", "/s/", script)?;
+    job.has_client = has_client;
+    queues.schedule(alloc, job)
+}
+
+// What is told of a job and of those that joined it, where it can settle.
+fn told(
+    alloc: Global,
+    queues: &Queues,
+    job: u32,
+    value: Settlement,
+) -> Result<Items<Notice>, NoMemory> {
+    let room = queues.followers(job).len().saturating_add(1);
+    let mut notices = Notices::with_room(alloc, room)?;
+    if is_leader(queues, job) {
+        queues.tell_settled(job, value, &mut notices);
+    }
+    Ok(notices.into_items())
+}
+
+#[test]
+fn tells_a_job_and_those_that_joined_it(rt: HostRuntime) -> Result<(), Fail> {
+    let alloc = rt.alloc();
+    let mut queues = Queues::new(alloc);
+    for (script, has_client) in [
+        ("/x", true),
+        ("/x", false),
+        ("/x", true),
+        ("/y", true),
+        ("/x", true),
+    ] {
+        let _ = schedule_for(alloc, &mut queues, script, has_client)?;
+    }
+    let value = Settlement::Truth(true);
+    let expected = [
+        Notice::Settled { job: 0, value },
+        Notice::Settled { job: 2, value },
+    ];
+    let notices = told(alloc, &queues, 0, value)?;
+    assert_eq!(rt; notices.as_slice(), expected.as_slice());
+    let settled = settle(&mut queues, 0, value);
+    let later = told(alloc, &queues, 0, value)?;
+    assert_eq!(rt; settled && later.as_slice().is_empty(), true);
     Ok(())
 }
 

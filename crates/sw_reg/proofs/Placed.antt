@@ -9,7 +9,7 @@ use Rattle.sw_reg.specs.declared.edit.Edit.TheVariants as edit_of
 use Rattle.sw_reg.specs.Edits.{edited}
 use Rattle.sw_reg.specs.Kept.{ArePlaced, IsKept, IsNew}
 use Rattle.sw_reg.specs.Table.{firsts, has_first, is_registration, is_there, registration_at}
-use Rattle.sw_places.proofs.Places.{changed_here, found_here, found_none, more_at_places, place_within, set_at_places}
+use Rattle.sw_rules.proofs.Places.{changed_here, found_here, found_none, more_at_places, place_within, set_at_places}
 
 abbrev number : RegistrationRow → ℕ
 number row = row.number

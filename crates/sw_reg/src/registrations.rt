@@ -30,7 +30,10 @@ impl Model for Registrations {
 
     ghost Value = { Table };
 
-    ghost view = { λ r. record { rows = r.rows.items; spare = vec_capacity r.rows - vec_len r.rows } };
+    ghost view = { λ r. record {
+      rows = r.rows.items;
+      spare = vec_capacity r.rows - vec_len r.rows;
+    } };
 
     ghost invariant = { λ r. IsKept r.rows.items r.firsts };
 }
@@ -77,6 +80,13 @@ impl Registrations {
         ensures { result ≡ length self.now.rows }
     {
         self.rows.len()
+    }
+
+    /// The rows of all registrations, by their numbers. It takes no memory.
+    pub fn rows(&self) -> &[RegistrationRow]
+        ensures { result.now ≡ self.now.rows }
+    {
+        &self.rows
     }
 
     /// The row of a registration. It takes no memory.

@@ -26,7 +26,7 @@ pub invariant_of-self-2 : goal.invariant_of-self-2
 invariant_of-self-2 c =
     let there = sym c.get_mut.ensures.value ∙ ap option_copied_mut c.in-Some.is in
     let written = c.get_mut.follows.holds c.give.new.row in
-    given_counted c.args.number c.args.controller c.self.inside.rows.entries (c.get_mut.follows.lender c.give.new.row).entries c.self.inside.counts.items c.exchange.new.counts.items c.in-Some.row.now c.self.invariant there
+    given_counted c.args.number (controlled_by c.args.controller) c.self.inside.rows.entries (c.get_mut.follows.lender c.give.new.row).entries c.self.inside.counts.items c.exchange.new.counts.items c.in-Some.row.now (λ _. refl) c.self.invariant there
     (written.0 ∙ ap (λ (row : OpenClient). set_value (nat_eq c.args.number) c.self.inside.rows.entries row) c.give.ensures) written.4 c.exchange.ensures.count
 
 pub returns-clause-none : goal.returns-clause-none
@@ -38,7 +38,7 @@ pub returns-clause-rows : goal.returns-clause-rows
 returns-clause-rows c =
     let there = sym c.get_mut.ensures.value ∙ ap option_copied_mut c.in-Some.is in
     let written = c.get_mut.follows.holds c.give.new.row in
-    let rows = given_rows c.args.number c.args.controller c.self.inside.rows.entries (c.get_mut.follows.lender c.give.new.row).entries c.in-Some.row.now c.self.invariant.keyed there
+    let rows = given_rows c.args.number (controlled_by c.args.controller) c.self.inside.rows.entries (c.get_mut.follows.lender c.give.new.row).entries c.in-Some.row.now (λ _. refl) c.self.invariant.keyed there
     (written.0 ∙ ap (λ (row : OpenClient). set_value (nat_eq c.args.number) c.self.inside.rows.entries row) c.give.ensures)
     ∙ ap (λ (table : Table). changed (is_open c.args.number) (controlled_by c.args.controller) table.rows) c.self.view_is in
     let known = c.exchange.ensures.len ∙ ap (λ (table : Table). table.known) c.self.view_is in

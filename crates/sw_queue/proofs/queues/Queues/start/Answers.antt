@@ -1,8 +1,9 @@
-use Rattle.std.proofs.Common.{◌∙◌, true, false, Some, option_map, refl, sym, ap, arith}
+use Rattle.std.proofs.Common.{◌∙◌, true, not, false, Some, option_map, refl, sym, ap, arith}
 use Rattle.sw_data.specs.declared.rows.JobPhase.TheVariants as job_phase
-use Rattle.sw_rules.specs.Rows.{first_job}
-use Rattle.sw_queue.specs.Kept.{number}
+use Rattle.sw_rules.specs.Rows.{first_job, is_waiting}
+use Rattle.sw_queue.specs.Kept.{followers_of, number}
 use Rattle.sw_queue.specs.Tables.{Table, with_phase, ready_job}
+use Rattle.sw_queue.proofs.Heads.{first_found, followers_stay, head_set}
 use Rattle.sw_queue.proofs.Running.{first_there, kept_set, not_done, number_at, ready, rows_set, table_set}
 use Rattle.sw_queue.proofs.queues.Queues.start.Goals as goal
 
@@ -60,3 +61,20 @@ returns-clause-ok c =
     let below = (first_there rows are c.args.key.now c.args.scope.now c.in-Some.number first).0 in
     table_set _ _ _ (with_phase job_phase.Fetching) _ c.self.view_is
     (rows_set rows are (with_phase job_phase.Fetching) c.in-Some.number c.index_mut-row.result.now c.index_mut-row.ensures.value below)
+
+pub returns-clause-head : goal.returns-clause-head
+returns-clause-head c =
+    let rows = c.self.inside.rows.items in
+    let key = c.args.key.now in
+    let scope = c.args.scope.now in
+    let old = c.index_mut-row.result.now in
+    let kept = c.self.invariant in
+    let first = ap (λ (t : Table). option_map number (first_job key scope t.rows)) c.self.view_is ∙ (sym c.first.ensures ∙ c.in-Some.is) in
+    let there = first_there rows kept.numbers key scope c.in-Some.number first in
+    head_set rows _ _ (λ row. not (is_waiting row.phase)) c.in-Some.number old _ kept (invariant_of-self-2 c) there.0 refl
+    (first_found rows kept.numbers key scope old (there.1 old ∙ ap Some (sym c.index_mut-row.ensures.value))) refl
+
+pub returns-clause-followers : goal.returns-clause-followers
+returns-clause-followers c other =
+    followers_stay _ _ _ _ _ c.self.invariant (invariant_of-self-2 c) other
+    ∙ ap (λ (t : Table). followers_of other t.rows) c.self.view_is
