@@ -6,5 +6,5 @@ mod Headers
 mod ParseSteps
 pub mod PartChanges
 pub mod PartLemmas
-mod ReadLemmas
+pub mod ReadLemmas
 pub mod WholeParts

@@ -1,11 +1,12 @@
 -- What reading gives, and that it changes nothing.
-use Rattle.std.proofs.Common.{◌≡◌, ℕ, ◌+◌, ◌≤◌, List, ◌++◌, length, take, drop, Option, Some, None, Result, Ok, Err, refl, sym, ◌∙◌, arith, take-append-drop}
+use Rattle.std.proofs.Common.{◌≡◌, ℕ, ◌+◌, ◌-◌, ◌^◌, ◌<◌, ◌≤◌, List, ◌++◌, length, take, drop, Option, Some, None, Result, Ok, Err, refl, sym, ◌∙◌, subst, arith, take-append-drop}
 use Rattle.std.proofs.lemmas.List.{take_at, drop_at, take-take, take-append-le, drop-take, length-take-le}
 use Rattle.std.specs.Prelude.{IfOk}
 use Rattle.sw_disk.specs.declared.disk.Disk.{Ghosts}
 use Rattle.sw_disk.specs.Image.{Image}
-use Rattle.sw_disk.specs.DiskRule.{ForTold, Within, Elapses}
-use Rattle.sw_disk.proofs.Moments.{started, goes_on, both, weaker}
+use Rattle.sw_disk.specs.DiskRule.{ForTold, Only, Within, Elapses}
+use Rattle.sw_disk.proofs.Images.{told_some, told_at}
+use Rattle.sw_disk.proofs.Moments.{started, goes_on, both, weaker, all_since}
 use Rattle.sw_journal.specs.Quiet.{IsQuiet}
 
 module _ {D : Type 0} (disk : Ghosts D) where
@@ -29,6 +30,17 @@ module _ {D : Type 0} (disk : Ghosts D) where
     moments = both disk old mid new (disk.may_leave old) one.moments (weaker disk mid new (disk.may_leave mid) (disk.may_leave old) one.crash two.moments);
     count = omega (arith, one.count, two.count);
   }
+
+  -- since a sync that answered Ok a crash has left nothing but what reads give, as long as nothing is changed
+  pub sure_since : (start synced end : D) → Elapses disk.clock disk.left_since disk.may_leave start synced → ForTold (disk.seen start) (λ image. Only image (disk.may_leave synced)) → IsQuiet disk synced end
+      → ((c : Image) → disk.clock synced < 2 ^ 64 - 1 → disk.left_since synced (disk.clock synced) c → disk.may_leave synced c)
+      → ForTold (disk.seen start) (λ image. disk.clock start + 1 < 2 ^ 64 - 1 → (c : Image) → disk.left_since end (disk.clock start + 1) c → c ≡ image)
+  sure_since start synced end time durable quiet only_now =
+      told_some (disk.seen start) (λ image. disk.clock start + 1 < 2 ^ 64 - 1 → (c : Image) → disk.left_since end (disk.clock start + 1) c → c ≡ image) (λ image is going c left.
+      let ticked : disk.clock start + 1 ≡ disk.clock synced = omega (arith, time.ticks, going) in
+      told_at (disk.seen start) (λ i. Only i (disk.may_leave synced)) image is durable c
+      (all_since disk synced end (disk.may_leave synced) (λ f was. only_now f (omega (arith, ticked, going)) was) (λ f was. was) quiet.moments c
+      (subst (λ t. disk.left_since end t c) ticked left)))
 
 -- one part of a list, and then the next
 pub take_both : (m n : ℕ) (l : List ℕ) → take (m + n) l ≡ take m l ++ take n (drop m l)

@@ -101,6 +101,14 @@ impl Journal {
         self.version.number()
     }
 
+    /// How long the part may grow, in bytes.
+    pub fn limit(&self) -> u64
+        ensures value { result ≡ self.now.limit }
+        ensures most { result ≤ 2 ^ 32 }
+    {
+        self.limit
+    }
+
     /// The next free offset: the one behind the closed gate.
     pub fn next(&self) -> u64
         ensures { result ≡ self.now.gate + 1 }

@@ -101,6 +101,32 @@ impl Journal {
             Ok(()) => {}
             Err(Failed) => return Err(ReopenError::DiskFault),
         }
+        Journal::reopen_synced(alloc, disk, part, limit)
+    }
+
+    /// As `reopen`, where a sync answered `Ok` and nothing was written since.
+    pub fn reopen_synced<D: Disk>(
+        alloc: Global,
+        disk: &mut D,
+        part: Part,
+        limit: u64,
+    ) -> Result<(Journal, Vec<(u64, Bytes)>), ReopenError>
+        requires limit { limit ≤ 2 ^ 32 }
+        requires durable { IsDurable D.Disk disk.old }
+        ensures records { ForTold (D.seen disk.old)
+            (λ image. IfOk result (λ r. content (get part image) ≡ Records r.1.items)) }
+        ensures not_formatted { IsErrOf result ReopenError.NotFormatted
+            → ForTold (D.seen disk.old) (λ image. content (get part image) ≡ parts.NotFormatted) }
+        ensures bad { ForTold (D.seen disk.old) (λ image. IfErr result
+            (λ e. OnBadJournal e (λ offset before. content (get part image)
+            ≡ BadAt offset before))) }
+        ensures place { IfOk result (λ r. (r.0.part ≡ part) × (r.0.limit ≡ limit)) }
+        ensures stands { IfOk result (λ r. StandsFor r.0 D.Disk disk.new) }
+        ensures quiet { IsQuiet D.Disk disk.old disk.new }
+        ensures durable { IsDurable D.Disk disk.new }
+        ensures fault { IsErrOf result ReopenError.DiskFault
+            → Rose (D.faults disk.old) (D.faults disk.new) }
+    {
         let bytes = read_part(alloc, disk, part)?;
         parse_part(alloc, part, limit, &bytes)
     }
