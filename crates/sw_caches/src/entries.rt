@@ -189,6 +189,17 @@ pub(crate) fn copy_pairs(alloc: Global, entries: &[Entry]) -> Result<Items<Pair>
     Ok(items)
 }
 
+/// The pairs of entries, which are taken apart.
+pub(crate) fn into_pairs(alloc: Global, entries: Vec<Entry>) -> Result<Items<Pair>, NoMemory>
+    ensures { IfOk result (λ items. items ≡ pairs entries.items) }
+{
+    let mut items = Items::new(alloc);
+    for entry in entries {
+        items.push(Box::into_inner(entry.pair))?;
+    }
+    Ok(items)
+}
+
 /// A pair of its own that equals this one.
 pub(crate) fn copy_pair(alloc: Global, pair: &Pair) -> Result<Pair, NoMemory>
     ensures { IfOk result (λ copy. copy ≡ pair.now) }

@@ -21,6 +21,7 @@ mod table;
 pub use fault::{BatchFault, CacheFault};
 pub use hits::Found;
 pub use ops::apply_ops;
+pub use rules::has_http_scheme;
 pub use table::{CachePlan, Caches, Hit, NewCache};
 
 #[cfg(test)]

@@ -10,7 +10,7 @@ ghost use Rattle.sw_caches.specs.Entries.{number};
 ghost use Rattle.sw_caches.specs.Plans.{Fits, IsThrown, carried};
 
 use crate::carry::{drop_deleted, drop_replaced};
-use crate::entries::{Entry, Pair, copy_pairs, first_of, places_of};
+use crate::entries::{Entry, Pair, copy_pairs, first_of, into_pairs, places_of};
 use crate::fault::BatchFault;
 use crate::plan::{PairsPlan, add_all, unmark_all, work_out};
 use crate::rules::{QUOTA, size_of};
@@ -87,6 +87,13 @@ impl Pairs {
         ensures { IfOk result (λ items. items ≡ self.now.pairs) }
     {
         copy_pairs(alloc, &self.entries)
+    }
+
+    /// The pairs as a list, none of them copied.
+    pub(crate) fn into_items(self, alloc: Global) -> Result<Items<Pair>, NoMemory>
+        ensures { IfOk result (λ items. items ≡ self.pairs) }
+    {
+        into_pairs(alloc, self.entries)
     }
 
     /// How many pairs.

@@ -18,6 +18,19 @@ pub(crate) struct Row {
     pub(crate) pairs: Pairs,
 }
 
+impl Row {
+    // The cache as it is kept, none of its pairs copied.
+    fn into_cache(self, alloc: Global) -> Result<KeptCache, NoMemory>
+        ensures { IfOk result (λ cache. cache ≡ kept_row self) }
+    {
+        Ok(KeptCache {
+            key: self.key,
+            name: self.name,
+            pairs: self.pairs.into_items(alloc)?,
+        })
+    }
+}
+
 /// The row is the cache of this key and name.
 pub(crate) fn is_cache(row: &Row, key: &Text, name: &Text) -> bool
     ensures { result ≡ is_cache key.now name.now (kept_row row.now) }
@@ -108,6 +121,17 @@ pub(crate) fn kept_of(alloc: Global, rows: &[Row]) -> Result<Vec<KeptCache>, NoM
             name: row.name.copy(alloc)?,
             pairs: row.pairs.to_items(alloc)?,
         })?;
+    }
+    Ok(kept)
+}
+
+/// Rows as they are kept, none of their pairs copied.
+pub(crate) fn into_kept(alloc: Global, rows: Vec<Row>) -> Result<Vec<KeptCache>, NoMemory>
+    ensures { IfOk result (λ kept. kept.items ≡ map kept_row rows.items) }
+{
+    let mut kept = Vec::new(alloc);
+    for row in rows {
+        kept.push(row.into_cache(alloc)?)?;
     }
     Ok(kept)
 }

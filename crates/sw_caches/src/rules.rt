@@ -32,9 +32,9 @@ pub(crate) fn put_fault(request: &Request, response: &Response) -> Option<Cause>
     None
 }
 
-// What stands before the first `:` of an address is http or https.
+/// What stands before the first `:` of an address is http or https. It takes no memory.
 #[tactic(auto, unfolding(sw_data::specs::Addresses::scheme_of))]
-fn has_http_scheme(address: &[u8]) -> bool
+pub fn has_http_scheme(address: &[u8]) -> bool
     ensures { result ≡ (bytes_eq (scheme_of address.now) (codes "https")
         || bytes_eq (scheme_of address.now) (codes "http")) }
 {

@@ -18,7 +18,9 @@ use crate::fault::{BatchFault, CacheFault};
 use crate::hits::{Found, first_found, first_hit};
 use crate::pairs::Pairs;
 use crate::plan::PairsPlan;
-use crate::row::{Row, drop_cache, drop_key, has_key, kept_of, names_of, place_in, rows_of};
+use crate::row::{
+    Row, drop_cache, drop_key, has_key, into_kept, kept_of, names_of, place_in, rows_of,
+};
 use std::alloc::Global;
 use std::marker::Model;
 use sw_data::{KeptCache, NoMemory, Op, Options, Request, Response, Text};
@@ -119,6 +121,13 @@ impl Caches {
         ensures { IfOk result (λ kept. kept.items ≡ self.now.rows) }
     {
         kept_of(alloc, &self.rows)
+    }
+
+    /// The caches as they are kept, none of their pairs copied.
+    pub fn into_kept(self, alloc: Global) -> Result<Vec<KeptCache>, NoMemory>
+        ensures { IfOk result (λ kept. kept.items ≡ self.rows) }
+    {
+        into_kept(alloc, self.rows)
     }
 
     /// Whether a key has a cache of this name; it takes no memory.

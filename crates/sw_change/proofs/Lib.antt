@@ -1,4 +1,5 @@
 pub mod Apart
+pub mod CacheLemmas
 pub mod Entries
 pub mod Keyed
 pub mod LawLemmas

@@ -1,9 +1,7 @@
 -- The table of kept registrations: entries by key and scope, seen as the rows that are kept.
-use Rattle.std.specs.Prelude.{ℕ, Bool, ◌&&◌, List, bytes_eq, filter, map, not, false, Some, None}
-use Rattle.sw_data.specs.declared.storage.Change.{Change}
-use Rattle.sw_data.specs.declared.storage.Change.TheVariants as change
+use Rattle.std.specs.Prelude.{ℕ, Bool, ◌&&◌, List, bytes_eq, map, false, Some, None}
 use Rattle.sw_data.specs.declared.storage.KeptRegistration.{KeptRegistration}
-use Rattle.sw_rules.specs.Storage.{is_registration, marked_activated, promoted, with_registration, with_waiting}
+use Rattle.sw_rules.specs.Storage.{marked_activated, promoted}
 use Rattle.sw_change.specs.declared.registration.Edit.{Edit}
 use Rattle.sw_change.specs.declared.registration.Edit.TheVariants as edit
 use Rattle.sw_change.specs.declared.registration.Registration.{Registration}
@@ -46,18 +44,3 @@ edited edit.Active row = promoted row
 edited edit.Activated row = marked_activated row
 edited (edit.Mode mode) row = record row { mode = mode }
 edited (edit.Preload on text) row = record row { preload = on; preload_value = text }
-
--- own: the registrations after a change
-abbrev pub registrations_after : List KeptRegistration → Change → List KeptRegistration
-registrations_after rows (change.Waiting key scope mode worker) = with_waiting key scope mode worker rows
-registrations_after rows (change.Active key scope) = with_registration key scope promoted rows
-registrations_after rows (change.Activated key scope) = with_registration key scope marked_activated rows
-registrations_after rows (change.Mode key scope mode) = with_registration key scope (λ row. record row { mode = mode }) rows
-registrations_after rows (change.Gone key scope) = filter (λ row. not (is_registration key scope row)) rows
-registrations_after rows (change.CacheNew key name) = rows
-registrations_after rows (change.CacheDrop key name) = rows
-registrations_after rows (change.CacheOps key name ops) = rows
-registrations_after rows (change.Forgot key) = filter (λ row. not (bytes_eq row.key key)) rows
-registrations_after rows change.Restarted = map promoted rows
-registrations_after rows (change.Preload key scope on text) =
-    with_registration key scope (λ row. record row { preload = on; preload_value = text }) rows

@@ -43,6 +43,16 @@ pub(crate) fn copy_worker(alloc: Global, worker: &KeptWorker) -> Result<KeptWork
     })
 }
 
+// A worker of its own that equals this one, where there is one.
+fn copy_option(alloc: Global, worker: &Option<KeptWorker>) -> Result<Option<KeptWorker>, NoMemory>
+    ensures { IfOk result (λ copy. copy ≡ worker.now) }
+{
+    match worker {
+        Some(worker) => Ok(Some(copy_worker(alloc, worker)?)),
+        None => Ok(None),
+    }
+}
+
 impl Registration {
     /// A registration with its first waiting worker.
     pub(crate) fn first(
@@ -78,6 +88,26 @@ impl Registration {
             preload: self.preload,
             preload_value: self.preload_value,
         }
+    }
+
+    /// What is kept of the registration at this place, as data of its own.
+    pub(crate) fn to_row(
+        &self,
+        alloc: Global,
+        place: &(Text, Text),
+    ) -> Result<KeptRegistration, NoMemory>
+        ensures { IfOk result (λ row. row ≡ kept_row (place.now, self.now)) }
+    {
+        Ok(KeptRegistration {
+            key: place.0.copy(alloc)?,
+            scope: place.1.copy(alloc)?,
+            mode: self.mode,
+            waiting: copy_option(alloc, &self.waiting)?,
+            active: copy_option(alloc, &self.active)?,
+            activated: self.activated,
+            preload: self.preload,
+            preload_value: self.preload_value.copy(alloc)?,
+        })
     }
 
     /// The waiting worker, where there is one, becomes the active one, not activated. It takes no memory.

@@ -3,17 +3,17 @@
 ghost use Rattle.std.specs.Prelude.{◌≡◌, ◌++◌, ◌∷◌, [], true, false, not, map, filter, bytes_eq, IfOk, OnOk, OnErr};
 ghost use Rattle.std.specs.List.{list_any};
 ghost use Rattle.sw_rules.specs.Storage.{is_registration, with_registration, with_waiting, promoted};
-ghost use Rattle.sw_change.specs.Table.{Place, edited, kept_row, promoted_registration, registrations_after};
+ghost use Rattle.sw_change.specs.Table.{edited, kept_row, promoted_registration};
 
-use crate::registration::{Edit, Registration, copy_worker};
+use crate::registration::{Edit, Registration};
 use indexmap::IndexMap;
 use std::alloc::Global;
 use std::marker::Model;
-use sw_data::{Change, KeptRegistration, KeptWorker, Mode, NoMemory, Text};
+use sw_data::{KeptRegistration, KeptWorker, Mode, NoMemory, Text};
 
 /// The kept registrations, found by key and scope.
 #[derive(Drop)]
-pub struct Registrations {
+pub(crate) struct Registrations {
     rows: IndexMap<(Text, Text), Registration>,
 }
 
@@ -31,16 +31,9 @@ impl Model for Registrations {
     ghost invariant = { λ table. IsDistinct is_same (keys_of table.rows.entries) };
 }
 
-// A key and a scope of their own.
-fn place_of(alloc: Global, key: &Text, scope: &Text) -> Result<(Text, Text), NoMemory>
-    ensures { IfOk result (λ place. place ≡ (key.now, scope.now)) }
-{
-    Ok((key.copy(alloc)?, scope.copy(alloc)?))
-}
-
 impl Registrations {
     /// No registration; it takes no memory.
-    pub fn new(alloc: Global) -> Registrations
+    pub(crate) fn new(alloc: Global) -> Registrations
         ensures { result ≡ [] }
     {
         Registrations {
@@ -48,49 +41,24 @@ impl Registrations {
         }
     }
 
-    /// Carries out what a change does to the registrations. One that doesn't fit changes nothing.
-    pub fn apply(&mut self, alloc: Global, change: &Change) -> Result<(), NoMemory>
-        ensures ok { OnOk result (self.new ≡ registrations_after self.old change.now) }
-        ensures err { OnErr result (self.new ≡ self.old) }
-    {
-        match change {
-            Change::Waiting {
-                key,
-                scope,
-                mode,
-                worker,
-            } => self.set_waiting(alloc, key, scope, *mode, worker),
-            Change::Active { key, scope } => self.edit_at(alloc, key, scope, Edit::Active),
-            Change::Activated { key, scope } => self.edit_at(alloc, key, scope, Edit::Activated),
-            Change::Mode { key, scope, mode } => {
-                self.edit_at(alloc, key, scope, Edit::Mode { mode: *mode })
-            }
-            Change::Gone { key, scope } => self.remove_at(alloc, key, scope),
-            Change::CacheNew { .. } | Change::CacheDrop { .. } | Change::CacheOps { .. } => Ok(()),
-            Change::Forgot { key } => {
-                self.remove_key(key);
-                Ok(())
-            }
-            Change::Restarted => {
-                self.restarted();
-                Ok(())
-            }
-            Change::Preload {
-                key,
-                scope,
-                on,
-                value,
-            } => self.set_preload(alloc, key, scope, *on, value),
-        }
-    }
-
     /// The registrations as they are kept, in order of making.
-    pub fn into_rows(self, alloc: Global) -> Result<Vec<KeptRegistration>, NoMemory>
+    pub(crate) fn into_rows(self, alloc: Global) -> Result<Vec<KeptRegistration>, NoMemory>
         ensures { IfOk result (λ rows. rows.items ≡ self) }
     {
         let mut rows = Vec::new(alloc);
         for (place, row) in self.rows {
             rows.push(row.into_row(place))?;
+        }
+        Ok(rows)
+    }
+
+    /// The registrations as they are kept, as a list of its own.
+    pub(crate) fn to_rows(&self, alloc: Global) -> Result<Vec<KeptRegistration>, NoMemory>
+        ensures { IfOk result (λ rows. rows.items ≡ self.now) }
+    {
+        let mut rows = Vec::new(alloc);
+        for (place, row) in self.rows.iter() {
+            rows.push(row.to_row(alloc, place)?)?;
         }
         Ok(rows)
     }
@@ -102,8 +70,8 @@ impl Registrations {
         self.rows.contains_key(place)
     }
 
-    // Carries an edit out where the registration is there; it takes no memory.
-    fn edit(&mut self, place: &(Text, Text), edit: Edit)
+    /// Carries an edit out where the registration is there; it takes no memory.
+    pub(crate) fn edit(&mut self, place: &(Text, Text), edit: Edit)
         ensures { self.new ≡ with_registration place.now.0 place.now.1 (edited edit) self.old }
     {
         if let Some(row) = self.rows.get_mut(place) {
@@ -121,21 +89,17 @@ impl Registrations {
         Ok(())
     }
 
-    // Gives a registration this mode and this waiting worker, and adds it where it isn't there.
-    fn set_waiting(
+    /// Gives a registration this mode and this waiting worker, and adds it where it isn't there.
+    pub(crate) fn set_waiting(
         &mut self,
         alloc: Global,
-        key: &Text,
-        scope: &Text,
+        place: (Text, Text),
         mode: Mode,
-        worker: &KeptWorker,
+        worker: KeptWorker,
     ) -> Result<(), NoMemory>
-        ensures ok { OnOk result (self.new
-            ≡ with_waiting key.now scope.now mode worker.now self.old) }
+        ensures ok { OnOk result (self.new ≡ with_waiting place.0 place.1 mode worker self.old) }
         ensures err { OnErr result (self.new ≡ self.old) }
     {
-        let place = place_of(alloc, key, scope)?;
-        let worker = copy_worker(alloc, worker)?;
         if self.has(&place) {
             self.edit(&place, Edit::Waiting { mode, worker });
             return Ok(());
@@ -144,61 +108,16 @@ impl Registrations {
         self.add(place, row)
     }
 
-    // Carries an edit out on the registration of a key and a scope, where it is there.
-    fn edit_at(
-        &mut self,
-        alloc: Global,
-        key: &Text,
-        scope: &Text,
-        edit: Edit,
-    ) -> Result<(), NoMemory>
-        ensures ok { OnOk result (self.new
-            ≡ with_registration key.now scope.now (edited edit) self.old) }
-        ensures err { OnErr result (self.new ≡ self.old) }
-    {
-        let place = place_of(alloc, key, scope)?;
-        self.edit(&place, edit);
-        Ok(())
-    }
-
-    // Sets flag and value of the navigation preload of a registration, where it is there.
-    fn set_preload(
-        &mut self,
-        alloc: Global,
-        key: &Text,
-        scope: &Text,
-        on: bool,
-        value: &Text,
-    ) -> Result<(), NoMemory>
-        ensures ok { OnOk result (self.new ≡ with_registration key.now scope.now
-            (λ row. record row { preload = on; preload_value = value.now }) self.old) }
-        ensures err { OnErr result (self.new ≡ self.old) }
-    {
-        let value = value.copy(alloc)?;
-        self.edit_at(alloc, key, scope, Edit::Preload { on, value })
-    }
-
-    // Removes the registration of a key and a scope.
-    fn remove_at(&mut self, alloc: Global, key: &Text, scope: &Text) -> Result<(), NoMemory>
-        ensures ok { OnOk result (self.new
-            ≡ filter (λ row. not (is_registration key.now scope.now row)) self.old) }
-        ensures err { OnErr result (self.new ≡ self.old) }
-    {
-        let place = place_of(alloc, key, scope)?;
-        self.remove(&place);
-        Ok(())
-    }
-
-    // Removes a registration; it takes no memory.
-    fn remove(&mut self, place: &(Text, Text))
+    /// Removes a registration; it takes no memory.
+    pub(crate) fn remove(&mut self, place: &(Text, Text))
         ensures { self.new
             ≡ filter (λ row. not (is_registration place.now.0 place.now.1 row)) self.old }
     {
         let _ = self.rows.shift_remove(place);
     }
 
-    // Removes the registrations of a key; it takes no memory.
-    fn remove_key(&mut self, key: &Text)
+    /// Removes the registrations of a key; it takes no memory.
+    pub(crate) fn remove_key(&mut self, key: &Text)
         ensures { self.new ≡ filter (λ row. not (bytes_eq row.key key.now)) self.old }
     {
         self.rows.retain(
@@ -210,7 +129,7 @@ impl Registrations {
     }
 
     /// Each waiting worker becomes the active one; it takes no memory.
-    pub fn restarted(&mut self)
+    pub(crate) fn restarted(&mut self)
         ensures { self.new ≡ map promoted self.old }
     {
         self.rows.retain(
