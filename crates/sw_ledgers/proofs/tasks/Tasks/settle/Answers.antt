@@ -1,0 +1,16 @@
+use Rattle.std.proofs.Common.{◌∙◌, Some, ap, is_none}
+use Rattle.sw_rules.specs.Rows.{changed, is_task}
+use Rattle.sw_ledgers.specs.Tasks.{Table, has_task}
+use Rattle.sw_ledgers.proofs.Tasking.{settled_rows, with_value, within}
+use Rattle.sw_ledgers.proofs.tasks.Tasks.settle.Goals as goal
+
+pub returns : goal.returns
+returns c =
+    let tasks = c.self.inside.rows.items in
+    let old = c.index_mut.result.now in
+    let there = ap (λ (table : Table). has_task (λ row. is_none row.settled) c.args.task table.rows) c.self.view_is ∙ c.requires in
+    let below = within (λ row. is_none row.settled) tasks c.args.task c.self.invariant there in
+    let rows = settled_rows c.args.value tasks c.args.task old (with_value c.args.value old) c.self.invariant below (ap (with_value c.args.value) c.index_mut.ensures.value)
+    ∙ ap (λ (table : Table). changed (is_task c.args.task) (λ row. record row { settled = Some c.args.value }) table.rows) c.self.view_is in
+    let spare = ap (λ (table : Table). table.spare) c.self.view_is in
+    λ i. record { rows = rows i; spare = spare i }
