@@ -1,7 +1,12 @@
+pub mod AddingLemmas
 pub mod BatchLemmas
+pub mod Forgotten
 pub mod KeyedLemmas
 pub mod LookupLemmas
 pub mod ParsedLemmas
 pub mod PlaceLemmas
+pub mod Busy
+pub mod Quiet
+pub mod Scans
 pub mod UnparsedLemmas
 pub mod WriteLemmas

@@ -1,4 +1,6 @@
 pub mod Actions
 pub mod Acts
+pub mod Adding
 pub mod Faults
+pub mod Forgetting
 pub mod Places

@@ -1,18 +1,24 @@
 //! The state machine: what each event answers and does, worked out with all its room before it is done.
 //!
-//! So far it has the actions on caches.
+//! So far it has the actions on caches, `addAll` up to its fetches, and whether a key is busy.
 #![tactic(auto)]
 
 mod act;
+mod adding;
 mod caching;
 mod event;
+mod forgetting;
 mod lookups;
 mod place;
 mod writes;
 
 pub use act::{CacheAct, CacheStep};
+pub use adding::{AddAllStep, NewAddAll, add_all, add_all_at, start_all};
 pub use event::{finish_on_caches, is_on_caches, prepare_on_caches};
+pub use forgetting::{forget_one, is_busy, mapped_many};
 pub use place::place_key;
 
+#[cfg(test)]
+mod adding_tests;
 #[cfg(test)]
 mod tests;
