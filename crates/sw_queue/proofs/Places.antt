@@ -1,6 +1,6 @@
 -- Rows whose number is their place: what a look-up, a write and a scan find.
 use Rattle.std.proofs.Common.{◌≡◌, ◌∙◌, ℕ, zero, suc, ◌+◌, ◌<◌, Bool, true, false, List, [], ◌∷◌, ◌++◌, map, filter, length, set, get_or, Option, Some, option_map, slice_get, refl, sym, ap, subst, arith, append_assoc, length-append, if◌then◌else◌}
-use Rattle.std.specs.List.{AllByRecursion, find, last_or}
+use Rattle.std.specs.List.{AllByRecursion, find, last_or, range_with_len}
 use Rattle.std.proofs.lemmas.Bool.Decides.{nat_tests}
 use Rattle.sw_data.specs.declared.rows.JobRow.{JobRow}
 use Rattle.sw_rules.specs.Rows.{changed, is_job}
@@ -44,6 +44,13 @@ find_from first (row ∷ rows) are (suc place) job is =
     let here = are.0 in
     let rest = find_from (suc first) rows are.1 place job (omega (arith, is)) in
     grind (arith, nat_tests)
+
+pub numbered_from : (first : ℕ) (rows : List JobRow) → AreFrom first rows → map (λ row. row.job.number) rows ≡ range_with_len first (length rows)
+numbered_from first [] are = refl
+numbered_from first (row ∷ rows) are =
+    let here = are.0 in
+    let rest = numbered_from (suc first) rows are.1 in
+    grind (arith, here, rest)
 
 pub before_from : (f : JobRow → JobRow) (first : ℕ) (rows : List JobRow) → AreFrom first rows → (job : ℕ) → job < first
     → changed (is_job job) f rows ≡ rows

@@ -1,7 +1,7 @@
 //! The table of jobs, with the queue of each key and scope and the followers of each job.
 
 ghost use Rattle.std.specs.Prelude.{◌≡◌, ◌++◌, ◌∷◌, [], ◌+◌, ◌<◌, ◌≤◌, length, map, filter, true, not, ◌&&◌, find, is_none, is_some, Some, option_map, IfOk, OnOk, OnErr};
-ghost use Rattle.std.specs.List.{All, flat_map};
+ghost use Rattle.std.specs.List.{All, flat_map, range_with_len};
 ghost use Rattle.std.specs.Option.{option_copied};
 ghost use Rattle.std.specs.Result.{result_ok};
 ghost use Rattle.sw_data.specs.declared.answers.Notice.TheVariants as notice;
@@ -153,6 +153,15 @@ impl Queues {
         ensures { result.now ≡ self.now.rows }
     {
         &self.rows
+    }
+
+    /// Each job stands at its number.
+    #[tactic(auto, using(crate::proofs::Places::numbered_from))]
+    pub fn are_numbered(&self)
+        ensures { map (λ row. row.job.number) self.now.rows
+            ≡ range_with_len 0 (length self.now.rows) }
+    {
+        let _ = &self.rows;
     }
 
     /// The row of a job. None exactly where no such job was scheduled. It takes no memory.

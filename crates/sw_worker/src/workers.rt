@@ -89,6 +89,13 @@ impl Workers {
         self.rows.len()
     }
 
+    /// The rows of all workers, by their numbers. It takes no memory.
+    pub fn rows(&self) -> &[WorkerRow]
+        ensures { result.now ≡ self.now.rows }
+    {
+        &self.rows
+    }
+
     /// The row of a worker. It takes no memory.
     #[tactic(auto, using(crate::proofs::Placed::row_here, crate::proofs::Placed::row_gone))]
     pub fn row(&self, worker: u32) -> Option<&WorkerRow>
