@@ -8,6 +8,7 @@ ghost use Rattle.sw_rules.specs.Noticing.{Did};
 ghost use Rattle.sw_rules.specs.Registrations as rules;
 ghost use Rattle.sw_rules.specs.Rows.{is_mapped};
 ghost use Rattle.sw_rules.specs.Told.{quiet};
+ghost use Rattle.sw_tables.specs.Happened.{KeepCounts};
 ghost use Rattle.sw_tables.specs.Lent.{Rest, lent};
 ghost use Rattle.sw_tables.specs.Linked.{Linked};
 
@@ -38,6 +39,7 @@ fn clear_unmapped(
         notices.old notices.new
         (lent map.now workers.new registrations.new clients.now rest) }
     ensures linked { Linked map.now workers.new registrations.new clients.now }
+    ensures counts { KeepCounts workers.old workers.new }
     ensures names { KeepNames workers.old registrations.old clients.now
         workers.new registrations.new clients.now }
     ensures room { notices.old.spare ≤ notices.new.spare + 3 }
@@ -65,6 +67,7 @@ pub fn recheck(
         notices.old notices.new
         (lent map.now workers.new registrations.new clients.new rest) }
     ensures linked { Linked map.now workers.new registrations.new clients.new }
+    ensures counts { KeepCounts workers.old workers.new }
     ensures names { KeepNames workers.old registrations.old clients.old
         workers.new registrations.new clients.new }
     ensures room { notices.old.spare
@@ -91,6 +94,7 @@ pub fn release(
         notices.old notices.new
         (lent map.now workers.new registrations.new clients.new rest) }
     ensures linked { Linked map.now workers.new registrations.new clients.new }
+    ensures counts { KeepCounts workers.old workers.new }
     ensures names { KeepNames workers.old registrations.old clients.old
         workers.new registrations.new clients.new }
     ensures room { notices.old.spare ≤ notices.new.spare + 5 }

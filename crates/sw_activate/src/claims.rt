@@ -7,7 +7,7 @@ ghost use Rattle.sw_activate.specs.Names.{KeepNames, numbers_of};
 ghost use Rattle.sw_rules.specs.Clients as rules;
 ghost use Rattle.sw_rules.specs.Noticing.{Did};
 ghost use Rattle.sw_rules.specs.Rows as rows_of;
-ghost use Rattle.sw_tables.specs.Happened.{Happened};
+ghost use Rattle.sw_tables.specs.Happened.{Happened, KeepCounts};
 ghost use Rattle.sw_tables.specs.Lent.{Rest, lent};
 ghost use Rattle.sw_tables.specs.Linked.{ArePlaces, HasScopes, Linked, registration_of};
 ghost use Rattle.sw_worker.specs.Table as workers_of;
@@ -86,6 +86,7 @@ fn claim_client(
         notices.old notices.new
         (lent map.now workers.new registrations.new clients.new rest) }
     ensures linked { Linked map.now workers.new registrations.new clients.new }
+    ensures counts { KeepCounts workers.old workers.new }
     ensures names { KeepNames workers.old registrations.old clients.old
         workers.new registrations.new clients.new }
     ensures room { notices.old.spare ≤ notices.new.spare + 6 }
@@ -118,6 +119,7 @@ fn claim_at(
         notices.old notices.new
         (lent map.now workers.new registrations.new clients.new rest) }
     ensures linked { Linked map.now workers.new registrations.new clients.new }
+    ensures counts { KeepCounts workers.old workers.new }
     ensures names { KeepNames workers.old registrations.old clients.old
         workers.new registrations.new clients.new }
     ensures room { notices.old.spare ≤ notices.new.spare + 6 }
@@ -159,6 +161,7 @@ fn claim_clients(
         notices.old notices.new
         (lent map.now workers.new registrations.new clients.new rest) }
     ensures linked { Linked map.now workers.new registrations.new clients.new }
+    ensures counts { KeepCounts workers.old workers.new }
 {
     for place in 0..clients.len() {
         claim_at(
@@ -196,6 +199,7 @@ pub fn claim(
         (lent map.old workers.old registrations.old clients.old rest)
         (lent map.new workers.new registrations.new clients.new rest)) }
     ensures linked { Linked map.new workers.new registrations.new clients.new }
+    ensures counts { KeepCounts workers.old workers.new }
     ensures queues { _queues.new ≡ _queues.old }
 {
     match workers.row(worker) {

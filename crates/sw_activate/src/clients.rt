@@ -5,7 +5,7 @@ ghost use Rattle.sw_activate.specs.Answers.{left, ok_answer};
 ghost use Rattle.sw_activate.specs.Names.{KeepNames};
 ghost use Rattle.sw_rules.specs.Noticing.{Did};
 ghost use Rattle.sw_rules.specs.Registrations as rules;
-ghost use Rattle.sw_tables.specs.Happened.{Happened};
+ghost use Rattle.sw_tables.specs.Happened.{Happened, KeepCounts};
 ghost use Rattle.sw_tables.specs.Lent.{Rest, lent};
 ghost use Rattle.sw_tables.specs.Linked.{Linked};
 
@@ -34,6 +34,7 @@ pub(crate) fn unload_client(
         notices.old notices.new
         (lent map.now workers.new registrations.new clients.new rest) }
     ensures linked { Linked map.now workers.new registrations.new clients.new }
+    ensures counts { KeepCounts workers.old workers.new }
     ensures names { KeepNames workers.old registrations.old clients.old
         workers.new registrations.new clients.new }
     ensures room { notices.old.spare ≤ notices.new.spare + 5 }
@@ -66,6 +67,7 @@ pub fn unload(
         (lent map.old workers.old registrations.old clients.old rest)
         (lent map.new workers.new registrations.new clients.new rest) }
     ensures linked { Linked map.new workers.new registrations.new clients.new }
+    ensures counts { KeepCounts workers.old workers.new }
     ensures queues { _queues.new ≡ _queues.old }
 {
     unload_client(client, map, workers, registrations, clients, notices);

@@ -8,7 +8,7 @@ ghost use Rattle.sw_reg.specs.Table.{is_there};
 ghost use Rattle.sw_rules.specs.Clients as rules;
 ghost use Rattle.sw_rules.specs.Noticing.{Did};
 ghost use Rattle.sw_rules.specs.Rows.{worker_row};
-ghost use Rattle.sw_tables.specs.Happened.{Happened};
+ghost use Rattle.sw_tables.specs.Happened.{Happened, KeepCounts};
 ghost use Rattle.sw_tables.specs.Lent.{Rest, lent};
 ghost use Rattle.sw_tables.specs.Linked.{HasSlots, Linked, registration_of};
 ghost use Rattle.sw_tables.specs.Parts.{SlotsBecome, StayLinked};
@@ -42,6 +42,7 @@ fn skip(
         notices.old notices.new
         (lent map.now workers.new registrations.new clients.new rest) }
     ensures linked { Linked map.now workers.new registrations.new clients.new }
+    ensures counts { KeepCounts workers.old workers.new }
 {
     set_skip(worker, workers, registrations);
     try_activate(registration, workers, registrations, clients, notices);
@@ -70,6 +71,7 @@ pub fn skip_waiting(
         (lent map.old workers.old registrations.old clients.old rest)
         (lent map.new workers.new registrations.new clients.new rest)) }
     ensures linked { Linked map.new workers.new registrations.new clients.new }
+    ensures counts { KeepCounts workers.old workers.new }
     ensures queues { _queues.new ≡ _queues.old }
 {
     match workers.row(worker) {
@@ -96,6 +98,7 @@ fn remove_event(event: u32, workers: &mut Workers, registrations: &Registrations
     ensures state { SlotsBecome (λ state. (rules.remove_event state event).state)
         workers.old registrations.now workers.new registrations.now }
     ensures linked { StayLinked workers.old registrations.now workers.new registrations.now }
+    ensures counts { KeepCounts workers.old workers.new }
 {
     let _ = workers.end(event);
 }
@@ -118,6 +121,7 @@ fn end_of(
         notices.old notices.new
         (lent map.now workers.new registrations.new clients.new rest) }
     ensures linked { Linked map.now workers.new registrations.new clients.new }
+    ensures counts { KeepCounts workers.old workers.new }
 {
     remove_event(event, workers, registrations);
     recheck(registration, map, workers, registrations, clients, notices);
@@ -152,6 +156,7 @@ pub fn end_event(
         (lent map.old workers.old registrations.old clients.old rest)
         (lent map.new workers.new registrations.new clients.new rest) }
     ensures linked { Linked map.new workers.new registrations.new clients.new }
+    ensures counts { KeepCounts workers.old workers.new }
     ensures queues { _queues.new ≡ _queues.old }
 {
     match registration_of(event, workers) {

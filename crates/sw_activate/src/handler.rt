@@ -7,7 +7,7 @@ ghost use Rattle.sw_client.specs.Table.{users_of};
 ghost use Rattle.sw_reg.specs.Table.{is_there};
 ghost use Rattle.sw_rules.specs.Activating as rules;
 ghost use Rattle.sw_rules.specs.Noticing.{Did};
-ghost use Rattle.sw_tables.specs.Happened.{CountsTasks, Happened};
+ghost use Rattle.sw_tables.specs.Happened.{CountsTasks, Happened, KeepCounts, unsettled_of};
 ghost use Rattle.sw_tables.specs.Lent.{Rest, lent};
 ghost use Rattle.sw_tables.specs.Linked.{Linked};
 ghost use Rattle.sw_tables.specs.Parts.{is_activating, is_of_in};
@@ -44,6 +44,8 @@ fn finish_activate(
         notices.old notices.new
         (lent map.now workers.new registrations.new clients.new rest) }
     ensures linked { Linked map.now workers.new registrations.new clients.new }
+    ensures counts { unsettled_of worker workers.old.rows ≡ 0
+        → KeepCounts workers.old workers.new }
 {
     end_handler(worker, workers, registrations);
     become_activated(registration, worker, workers, registrations, notices);
@@ -70,6 +72,7 @@ pub fn activated(
         (lent map.old workers.old registrations.old clients.old rest)
         (lent map.new workers.new registrations.new clients.new rest) }
     ensures linked { Linked map.new workers.new registrations.new clients.new }
+    ensures counts { KeepCounts workers.old workers.new }
     ensures queues { _queues.new ≡ _queues.old }
 {
     let Some(row) = workers.row(worker) else {

@@ -7,7 +7,7 @@ ghost use Rattle.sw_client.specs.Table.{users_of};
 ghost use Rattle.sw_reg.specs.Table.{is_there};
 ghost use Rattle.sw_rules.specs.Activating as rules;
 ghost use Rattle.sw_scope.specs.Scopes.{Scopes};
-ghost use Rattle.sw_tables.specs.Happened.{Happened};
+ghost use Rattle.sw_tables.specs.Happened.{Happened, KeepCounts};
 ghost use Rattle.sw_tables.specs.Lent.{Rest, lent};
 ghost use Rattle.sw_tables.specs.Linked.{ArePlaces, Linked};
 ghost use Rattle.sw_worker.specs.Table as workers_of;
@@ -52,6 +52,7 @@ pub fn try_activate(
         (lent map.old workers.old registrations.old clients.old rest)
         (lent map.new workers.new registrations.new clients.new rest) }
     ensures linked { Linked map.new workers.new registrations.new clients.new }
+    ensures counts { KeepCounts workers.old workers.new }
     ensures queues { _queues.new ≡ _queues.old }
 {
     if !is_owed(registration, registrations) {

@@ -11,7 +11,7 @@ ghost use Rattle.sw_reg.specs.Table.{is_there};
 ghost use Rattle.sw_rules.specs.Noticing.{Did};
 ghost use Rattle.sw_rules.specs.Registering as rules;
 ghost use Rattle.sw_rules.specs.Rows.{is_first, is_job, mapped_registration};
-ghost use Rattle.sw_tables.specs.Happened.{Happened, with_jobs};
+ghost use Rattle.sw_tables.specs.Happened.{Happened, KeepCounts, with_jobs};
 ghost use Rattle.sw_tables.specs.Lent.{Rest, lent};
 ghost use Rattle.sw_tables.specs.Linked.{ArePlaces, HasScopes, Linked};
 ghost use Rattle.sw_worker.specs.Table as workers_of;
@@ -50,6 +50,7 @@ fn unregister_mapped(
         notices.old notices.new
         (lent map.new workers.new registrations.new clients.now (with_jobs queues.new.rows rest))) }
     ensures linked { Linked map.new workers.new registrations.new clients.now }
+    ensures counts { KeepCounts workers.old workers.new }
 {
     unmap(registration, map, registrations, notices);
     settle(job, Settlement::Truth(true), queues, notices);
@@ -112,6 +113,7 @@ fn run_allowed(
         notices.old notices.new
         (lent map.new workers.new registrations.new clients.now (with_jobs queues.new.rows rest))) }
     ensures linked { Linked map.new workers.new registrations.new clients.now }
+    ensures counts { KeepCounts workers.old workers.new }
 {
     match refusal {
         Some(why) => resolve_and_finish(job, Settlement::Fault(why), queues, notices),
@@ -152,6 +154,7 @@ pub fn run_unregister(
         (lent map.old workers.old registrations.old clients.old (with_jobs queues.old.rows rest))
         (lent map.new workers.new registrations.new clients.new (with_jobs queues.new.rows rest)) }
     ensures linked { Linked map.new workers.new registrations.new clients.new }
+    ensures counts { KeepCounts workers.old workers.new }
 {
     if !may_run(job, queues) {
         return Err(NotNow);

@@ -12,7 +12,7 @@ ghost use Rattle.sw_rules.specs.Noticing.{Did};
 ghost use Rattle.sw_rules.specs.Registrations as mapping;
 ghost use Rattle.sw_rules.specs.State.{Worker};
 ghost use Rattle.sw_rules.specs.Told.{quiet};
-ghost use Rattle.sw_tables.specs.Happened.{CountsTasks, Happened, with_jobs};
+ghost use Rattle.sw_tables.specs.Happened.{CountsTasks, Happened, KeepCounts, unsettled_of, with_jobs};
 ghost use Rattle.sw_tables.specs.Lent.{Rest, lent};
 ghost use Rattle.sw_tables.specs.Linked.{HasSlots, Linked};
 ghost use Rattle.sw_tables.specs.Parts.{SlotsBecome, StayLinked, is_installing, is_of_in, rests_in};
@@ -39,6 +39,8 @@ fn end_install(registration: u32, worker: u32, workers: &mut Workers, registrati
         workers.old registrations.now workers.new registrations.now }
     ensures slots { HasSlots workers.new registrations.now }
     ensures linked { StayLinked workers.old registrations.now workers.new registrations.now }
+    ensures counts { unsettled_of worker workers.old.rows ≡ 0
+        → KeepCounts workers.old workers.new }
     ensures worker { has_worker (rests_in is_installing registration) worker workers.new.rows
         ≡ true }
 {
@@ -97,6 +99,8 @@ fn fail_install(
         notices.old notices.new
         (lent map.new workers.new registrations.new clients.now (with_jobs queues.new.rows rest)) }
     ensures linked { Linked map.new workers.new registrations.new clients.now }
+    ensures counts { unsettled_of worker workers.old.rows ≡ 0
+        → KeepCounts workers.old workers.new }
 {
     end_install(registration, worker, workers, registrations);
     discard(registration, worker, workers, registrations, notices);
@@ -137,6 +141,8 @@ fn finish_install(
         notices.old notices.new
         (lent map.now workers.new registrations.new clients.now (with_jobs queues.new.rows rest)) }
     ensures linked { Linked map.now workers.new registrations.new clients.now }
+    ensures counts { unsettled_of worker workers.old.rows ≡ 0
+        → KeepCounts workers.old workers.new }
 {
     end_install(registration, worker, workers, registrations);
     become_waiting(registration, worker, workers, registrations, notices);
@@ -171,6 +177,7 @@ pub fn installed(
         (lent map.old workers.old registrations.old clients.old (with_jobs queues.old.rows rest))
         (lent map.new workers.new registrations.new clients.new (with_jobs queues.new.rows rest)) }
     ensures linked { Linked map.new workers.new registrations.new clients.new }
+    ensures counts { KeepCounts workers.old workers.new }
 {
     let Some(row) = job_in(job, JobPhase::Installing, queues) else {
         return Err(NotNow);

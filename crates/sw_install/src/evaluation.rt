@@ -13,7 +13,7 @@ ghost use Rattle.sw_rules.specs.Installing as rules;
 ghost use Rattle.sw_rules.specs.Noticing.{Did};
 ghost use Rattle.sw_rules.specs.Rows.{is_first, is_waiting, newest_worker};
 ghost use Rattle.sw_scope.specs.Scopes.{Scopes};
-ghost use Rattle.sw_tables.specs.Happened.{Happened, with_jobs};
+ghost use Rattle.sw_tables.specs.Happened.{Happened, KeepCounts, with_jobs};
 ghost use Rattle.sw_tables.specs.Lent.{Rest, lent};
 ghost use Rattle.sw_tables.specs.Linked.{ArePlaces, HasSlots, Linked};
 ghost use Rattle.sw_tables.specs.Parts.{StayLinked, is_of_in, is_parsed, rests_in};
@@ -68,6 +68,7 @@ fn throw(
         notices.old notices.new
         (lent map.new workers.new registrations.new clients.now (with_jobs queues.new.rows rest)) }
     ensures linked { Linked map.new workers.new registrations.new clients.now }
+    ensures counts { KeepCounts workers.old workers.new }
 {
     discard(registration, worker, workers, registrations, notices);
     let why = Fault::TypeError {
@@ -110,6 +111,7 @@ fn begin_install(
         notices.old notices.new
         (lent scopes workers.new registrations.new of_clients (with_jobs queues.new.rows rest)) }
     ensures linked { StayLinked workers.old registrations.old workers.new registrations.new }
+    ensures counts { KeepCounts workers.old workers.new }
     ensures queued { has_job (λ row. is_none row.leader) job queues.new.rows
         ≡ has_job (λ row. is_none row.leader) job queues.old.rows }
     ensures followers { FollowersStay queues.old.rows queues.new.rows }
@@ -152,6 +154,7 @@ fn install(
         notices.old notices.new
         (lent map.now workers.new registrations.new clients.now (with_jobs queues.new.rows rest)) }
     ensures linked { Linked map.now workers.new registrations.new clients.now }
+    ensures counts { KeepCounts workers.old workers.new }
 {
     set_mode(registration, mode, registrations);
     begin_install(
@@ -187,6 +190,7 @@ pub fn evaluated(
         (lent map.old workers.old registrations.old clients.old (with_jobs queues.old.rows rest))
         (lent map.new workers.new registrations.new clients.new (with_jobs queues.new.rows rest)) }
     ensures linked { Linked map.new workers.new registrations.new clients.new }
+    ensures counts { KeepCounts workers.old workers.new }
 {
     let Some(row) = job_in(job, JobPhase::Evaluating, queues) else {
         return Err(NotNow);

@@ -17,7 +17,7 @@ ghost use Rattle.sw_rules.specs.Installing as rules;
 ghost use Rattle.sw_rules.specs.Noticing.{Did};
 ghost use Rattle.sw_rules.specs.Rows.{is_first, is_waiting};
 ghost use Rattle.sw_scope.specs.Scopes.{Scopes};
-ghost use Rattle.sw_tables.specs.Happened.{Happened, with_jobs};
+ghost use Rattle.sw_tables.specs.Happened.{Happened, KeepCounts, with_jobs};
 ghost use Rattle.sw_tables.specs.Lent.{Rest, lent, shown_worker};
 ghost use Rattle.sw_tables.specs.Linked.{ArePlaces, Linked};
 ghost use Rattle.sw_tables.specs.Parts.{StayLinked};
@@ -70,6 +70,7 @@ fn add_worker(new: NewWorker, workers: &mut Workers, registrations: &Registratio
     ensures rows { workers.new.rows ≡ workers.old.rows ++ new ∷ [] }
     ensures events { workers.new.events ≡ workers.old.events }
     ensures linked { StayLinked workers.old registrations.now workers.new registrations.now }
+    ensures counts { KeepCounts workers.old workers.new }
     ensures number { result ≡ length workers.old.rows }
 {
     workers.make_put(new)
@@ -99,6 +100,7 @@ fn make_worker(
         notices.old notices.new
         (lent scopes workers.new registrations.now of_clients (with_jobs queues.new.rows rest)) }
     ensures linked { StayLinked workers.old registrations.now workers.new registrations.now }
+    ensures counts { KeepCounts workers.old workers.new }
 {
     let worker = add_worker(new, workers, registrations);
     note_worker(job, worker, queues);
@@ -135,6 +137,7 @@ pub fn fetched(
         (lent map.old workers.old registrations.old clients.old (with_jobs queues.old.rows rest))
         (lent map.new workers.new registrations.new clients.new (with_jobs queues.new.rows rest)) }
     ensures linked { Linked map.new workers.new registrations.new clients.new }
+    ensures counts { KeepCounts workers.old workers.new }
 {
     let Some(row) = job_in(job, JobPhase::Fetching, queues) else {
         return Err(NotNow);

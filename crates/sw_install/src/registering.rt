@@ -16,7 +16,7 @@ ghost use Rattle.sw_rules.specs.Registrations as mapping;
 ghost use Rattle.sw_rules.specs.Rows.{is_job, newest_worker};
 ghost use Rattle.sw_rules.specs.Told.{followed};
 ghost use Rattle.sw_scope.specs.Scopes.{Scopes, maps};
-ghost use Rattle.sw_tables.specs.Happened.{Happened, with_jobs};
+ghost use Rattle.sw_tables.specs.Happened.{Happened, KeepCounts, with_jobs};
 ghost use Rattle.sw_tables.specs.Lent.{Rest, lent};
 ghost use Rattle.sw_tables.specs.Linked.{ArePlaces, HasSlots, Linked};
 
@@ -141,6 +141,7 @@ pub fn run_register(
         (lent map.new workers.new registrations.new clients.new
         (drawn_by result (script_of job queues.old.rows) (with_jobs queues.new.rows rest))) }
     ensures linked { Linked map.new workers.new registrations.new clients.new }
+    ensures counts { KeepCounts workers.old workers.new }
 {
     if !may_run(job, queues) {
         return Err(NotNow);

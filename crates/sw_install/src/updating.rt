@@ -9,7 +9,7 @@ ghost use Rattle.sw_queue.specs.Kept.{followers_of};
 ghost use Rattle.sw_rules.specs.Registering as rules;
 ghost use Rattle.sw_rules.specs.Rows.{newest_worker};
 ghost use Rattle.sw_scope.specs.Scopes.{Scopes};
-ghost use Rattle.sw_tables.specs.Happened.{Happened, with_jobs};
+ghost use Rattle.sw_tables.specs.Happened.{Happened, KeepCounts, with_jobs};
 ghost use Rattle.sw_tables.specs.Lent.{Rest, lent};
 ghost use Rattle.sw_tables.specs.Linked.{ArePlaces, HasSlots, Linked};
 
@@ -67,6 +67,7 @@ pub fn run_update(
         (lent map.new workers.new registrations.new clients.new
         (drawn_by result (script_of job queues.old.rows) (with_jobs queues.new.rows rest))) }
     ensures linked { Linked map.new workers.new registrations.new clients.new }
+    ensures counts { KeepCounts workers.old workers.new }
 {
     if !may_run(job, queues) {
         return Err(NotNow);

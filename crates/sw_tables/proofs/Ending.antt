@@ -1,7 +1,8 @@
 -- A handler that has come to its end by what is kept has so in the state.
-use Rattle.std.proofs.Common.{◌≡◌, ◌∙◌, ◌&&◌, ◌==◌, Bool, true, false, List, [], ◌∷◌, filter, length, Option, Some, None, option_map, option_and_then, refl, sym, ap, subst, arith, if◌then◌else◌}
+use Rattle.std.proofs.Common.{◌≡◌, ◌∙◌, ◌&&◌, ◌==◌, Bool, true, false, List, [], ◌∷◌, filter, length, Option, Some, None, option_map, option_and_then, refl, sym, ap, arith, if◌then◌else◌}
 use Rattle.std.specs.Prelude.{IfSome, nat_le}
 use Rattle.std.specs.List.{list_any}
+use Rattle.std.specs.Option.{option_map_or}
 use Rattle.std.proofs.lemmas.Bool.Decides.{nat_tests}
 use Rattle.sw_client.specs.Table as clients
 use Rattle.sw_data.specs.declared.recordings.Call.{Call}
@@ -55,6 +56,19 @@ runs of row = by row.handler
     by None = tt
     by (Some handler) = each handler (has_ended of row.handlers handler) refl
 
+pub settles : (of : Phase) (row : WorkerRow) → IfSome (found of row) (λ handler. handler.unsettled ≡ 0)
+settles of row = by row.handler
+  where
+    each : (handler : HandlerRow) (ended : Bool) → has_ended of row.handlers handler ≡ ended
+        → IfSome (if ended then Some handler else None) (λ h. h.unsettled ≡ 0)
+    each handler true is = grind (arith, nat_tests, is)
+    each handler false is = tt
+
+    by : (o : Option HandlerRow) → IfSome (option_and_then (λ handler. if has_ended of row.handlers handler then Some handler else None) o)
+        (λ handler. handler.unsettled ≡ 0)
+    by None = tt
+    by (Some handler) = each handler (has_ended of row.handlers handler) refl
+
 module _ (scopes : Scopes) (of_workers : workers.Table) (of_registrations : registrations.Table) (of_clients : clients.Table) (rest : Rest)
     (row : WorkerRow) (here : worker_at row.number of_workers.rows ≡ Some row) (counts : CountsTasks of_workers rest.tasks) where
   abbrev unsettled : Bool
@@ -102,5 +116,6 @@ module _ (scopes : Scopes) (of_workers : workers.Table) (of_registrations : regi
         where
           counted : (h : HandlerRow) → row.handler ≡ Some h → h.unsettled ≡ length (filter (is_unsettled_of row.number) rest.tasks)
           counted h there =
-              subst (λ o. IfSome o (λ handler. handler.unsettled ≡ length (filter (is_unsettled_of row.number) rest.tasks))) there
-              (counts row.number row here)
+              ap (λ o. option_map_or (λ (handler : HandlerRow). handler.unsettled) o 0) (sym there)
+              ∙ (ap (λ o. option_map_or (λ (worker : WorkerRow). option_map_or (λ handler. handler.unsettled) worker.handler 0) o 0) (sym here)
+              ∙ counts row.number)

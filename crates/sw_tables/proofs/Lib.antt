@@ -11,6 +11,7 @@ pub mod Lookups
 pub mod OfClients
 pub mod Mapped
 pub mod Chain
+pub mod Counting
 pub mod Ending
 pub mod TakeOver
 pub mod Trying

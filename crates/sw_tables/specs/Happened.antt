@@ -1,5 +1,6 @@
 -- What an event does to the tables that it is lent.
-use Rattle.std.specs.Prelude.{◌≡◌, ℕ, List, length, filter, Option, Some, None, IfSome}
+use Rattle.std.specs.Prelude.{◌≡◌, ℕ, List, length, filter, Option, Some, None}
+use Rattle.std.specs.Option.{option_map_or}
 use Rattle.sw_data.specs.declared.answers.Answer.{Answer}
 use Rattle.sw_client.specs.Table as clients
 use Rattle.sw_data.specs.declared.rows.JobRow.{JobRow}
@@ -19,11 +20,19 @@ abbrev pub Happened : Option Outcome → Option Answer → NoticeList → Notice
 Happened None reply before after old new = (reply ≡ None) × (after ≡ before) × (new ≡ old)
 Happened (Some outcome) reply before after old new = (reply ≡ Some outcome.answer) × Did outcome.told before after new
 
--- own: each handler that runs counts its addAlls that have not settled
+-- own: how many addAlls of the handler of a worker its row counts as not settled
+abbrev pub unsettled_of : ℕ → List WorkerRow → ℕ
+unsettled_of number rows =
+    option_map_or (λ row. option_map_or (λ handler. handler.unsettled) row.handler 0) (worker_at number rows) 0
+
+-- own: what is counted as not settled stays
+abbrev pub KeepCounts : workers.Table → workers.Table → Type 0
+KeepCounts old new = (number : ℕ) → unsettled_of number new.rows ≡ unsettled_of number old.rows
+
+-- own: each worker's row counts the addAlls of its handler that have not settled
 abbrev pub CountsTasks : workers.Table → List AddAll → Type 0
 CountsTasks of_workers tasks =
-    (number : ℕ) (row : WorkerRow) → worker_at number of_workers.rows ≡ Some row
-    → IfSome row.handler (λ handler. handler.unsettled ≡ length (filter (is_unsettled_of number) tasks))
+    (number : ℕ) → unsettled_of number of_workers.rows ≡ length (filter (is_unsettled_of number) tasks)
 
 -- own: the same with these jobs
 abbrev pub with_jobs : List JobRow → Rest → Rest

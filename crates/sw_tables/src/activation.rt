@@ -16,6 +16,7 @@ ghost use Rattle.sw_rules.specs.Registrations as rules;
 ghost use Rattle.sw_rules.specs.Rows as found;
 ghost use Rattle.sw_rules.specs.Rows.{changed};
 ghost use Rattle.sw_scope.specs.Scopes.{Scopes};
+ghost use Rattle.sw_tables.specs.Happened.{KeepCounts};
 ghost use Rattle.sw_tables.specs.Lent.{Rest, lent};
 ghost use Rattle.sw_tables.specs.Linked.{HasSlots, IsNoted, Linked};
 ghost use Rattle.sw_tables.specs.Shifts.{IsQuiet, cleared_worker, is_free, is_of, is_pending_in, may_replace, picked, promoted_worker, retired, told_redundant};
@@ -155,6 +156,7 @@ pub fn clear(
         workers.old registrations.old workers.new registrations.new }
     ensures slots { HasSlots workers.new registrations.new }
     ensures linked { StayLinked workers.old registrations.old workers.new registrations.new }
+    ensures counts { KeepCounts workers.old workers.new }
     ensures room { notices.old.spare ≤ notices.new.spare + 3 }
 {
     clear_rows(registration, workers, registrations, notices);
@@ -252,6 +254,7 @@ pub fn try_clear(
         notices.old notices.new (lent scopes workers.new registrations.new clients.now rest) }
     ensures slots { HasSlots workers.new registrations.new }
     ensures linked { StayLinked workers.old registrations.old workers.new registrations.new }
+    ensures counts { KeepCounts workers.old workers.new }
     ensures room { notices.old.spare ≤ notices.new.spare + 3 }
 {
     if is_free(registration, workers, registrations, clients) {
@@ -355,6 +358,7 @@ pub fn activate(
         notices.old notices.new (lent scopes workers.new registrations.new clients.new rest) }
     ensures linked { (scopes : Scopes) → Linked scopes workers.old registrations.old clients.old
         → Linked scopes workers.new registrations.new clients.new }
+    ensures counts { KeepCounts workers.old workers.new }
     ensures room { notices.old.spare
         ≤ notices.new.spare + (2 + users_of registration clients.old.rows) }
 {
@@ -382,6 +386,7 @@ pub fn try_activate(
         (lent scopes workers.old registrations.old clients.old rest) registration }
     ensures linked { (scopes : Scopes) → Linked scopes workers.old registrations.old clients.old
         → Linked scopes workers.new registrations.new clients.new }
+    ensures counts { KeepCounts workers.old workers.new }
     ensures room { notices.old.spare
         ≤ notices.new.spare + (2 + users_of registration clients.old.rows) }
 {

@@ -52,7 +52,7 @@ fn ended(phase: Phase, row: &WorkerRow) -> Option<HandlerRow>
 
 /// The handler of a worker that is at its end, in this phase: it has made its calls, and its addAlls have settled. It
 /// takes no memory.
-#[tactic(auto, using(crate::proofs::Ending::runs))]
+#[tactic(auto, using(crate::proofs::Ending::runs, crate::proofs::Ending::settles))]
 pub fn ended_handler(phase: Phase, row: &WorkerRow) -> Option<HandlerRow>
     ensures ended { (scopes : Scopes) (of_workers : workers.Table)
         (of_registrations : registrations.Table) (of_clients : clients.Table) (rest : Rest)
@@ -62,6 +62,7 @@ pub fn ended_handler(phase: Phase, row: &WorkerRow) -> Option<HandlerRow>
         (is_in phase) (shown_worker row.now) }
     ensures runs { IfSome result (λ handler. (row.now.handler ≡ Some handler)
         × (is_in phase handler.phase ≡ true)) }
+    ensures settled { IfSome result (λ handler. handler.unsettled ≡ 0) }
 {
     ended(phase, row)
 }

@@ -1,6 +1,6 @@
 //! Workers that go on, and the slots of their registrations.
 
-ghost use Rattle.std.specs.Prelude.{◌≡◌, ◌<◌, ◌≤◌, ◌+◌, ◌++◌, ◌∷◌, [], ℕ, Bool, true, None, is_some, if◌then◌else◌};
+ghost use Rattle.std.specs.Prelude.{◌≡◌, ◌<◌, ◌≤◌, ◌+◌, ◌++◌, ◌∷◌, ◌==◌, ◌&&◌, [], ℕ, Bool, true, None, is_some, if◌then◌else◌};
 ghost use Rattle.std.specs.Option.{option_map_or};
 ghost use Rattle.sw_data.specs.declared.answers.Notice.TheVariants as notice;
 ghost use Rattle.sw_data.specs.declared.workers.Slot.TheVariants as in_place;
@@ -15,6 +15,7 @@ ghost use Rattle.sw_rules.specs.Installing as rules;
 ghost use Rattle.sw_rules.specs.Rows as definitions;
 ghost use Rattle.sw_rules.specs.Rows.{changed, is_number};
 ghost use Rattle.sw_rules.specs.State.{Worker};
+ghost use Rattle.sw_tables.specs.Happened.{KeepCounts, unsettled_of};
 ghost use Rattle.sw_tables.specs.Linked.{HasSlots};
 ghost use Rattle.sw_tables.specs.Parts as parts;
 ghost use Rattle.sw_tables.specs.Parts.{SlotsBecome, SlotsDid, StayLinked, is_activating, is_of_in, is_parsed, may_be_discarded, replaced_notices, rests_in, waits, without_replaced};
@@ -86,6 +87,8 @@ pub fn end_handler(worker: u32, workers: &mut Workers, registrations: &Registrat
         workers.old registrations.now workers.new registrations.now }
     ensures slots { HasSlots workers.new registrations.now }
     ensures linked { StayLinked workers.old registrations.now workers.new registrations.now }
+    ensures counts { unsettled_of worker workers.old.rows ≡ 0
+        → KeepCounts workers.old workers.new }
     ensures rests { (test : WorkerState → Bool) (registration : ℕ)
         → has_worker (is_of_in test registration) worker workers.old.rows ≡ true
         → has_worker (rests_in test registration) worker workers.new.rows ≡ true }
@@ -101,6 +104,7 @@ pub fn set_skip(worker: u32, workers: &mut Workers, registrations: &Registration
         workers.old registrations.now workers.new registrations.now }
     ensures slots { HasSlots workers.new registrations.now }
     ensures linked { StayLinked workers.old registrations.now workers.new registrations.now }
+    ensures counts { KeepCounts workers.old workers.new }
 {
     workers.set_skip(worker);
 }
@@ -121,6 +125,9 @@ pub fn note_call(
         workers.old registrations.now workers.new registrations.now }
     ensures slots { HasSlots workers.new registrations.now }
     ensures linked { StayLinked workers.old registrations.now workers.new registrations.now }
+    ensures counts { (number : ℕ) → unsettled_of number workers.new.rows
+        ≡ (if task && number == worker then unsettled_of number workers.old.rows + 1
+        else unsettled_of number workers.old.rows) }
 {
     workers.call_made(worker, fault, task);
 }
@@ -141,6 +148,7 @@ pub fn discard(
         workers.old registrations.old workers.new registrations.new }
     ensures slots { HasSlots workers.new registrations.new }
     ensures linked { StayLinked workers.old registrations.old workers.new registrations.new }
+    ensures counts { KeepCounts workers.old workers.new }
     ensures room { notices.new.spare + 1 ≡ notices.old.spare }
 {
     leave_installing(registration, worker, registrations);
@@ -163,6 +171,7 @@ pub fn to_installing(
     }) workers.old registrations.old workers.new registrations.new }
     ensures slots { HasSlots workers.new registrations.new }
     ensures linked { StayLinked workers.old registrations.old workers.new registrations.new }
+    ensures counts { KeepCounts workers.old workers.new }
 {
     advance(worker, WorkerState::Installing, workers);
     workers.start_handler(worker, Phase::Install);
@@ -220,6 +229,7 @@ pub fn become_waiting(
         workers.old registrations.old workers.new registrations.new }
     ensures slots { HasSlots workers.new registrations.new }
     ensures linked { StayLinked workers.old registrations.old workers.new registrations.new }
+    ensures counts { KeepCounts workers.old workers.new }
     ensures room { notices.old.spare ≤ notices.new.spare + 2 }
 {
     let replaced = wait(registration, registrations);
@@ -243,6 +253,7 @@ pub fn become_activated(
         notices.old notices.new workers.old registrations.now workers.new registrations.now }
     ensures slots { HasSlots workers.new registrations.now }
     ensures linked { StayLinked workers.old registrations.now workers.new registrations.now }
+    ensures counts { KeepCounts workers.old workers.new }
     ensures room { notices.new.spare + 1 ≡ notices.old.spare }
 {
     tell_state(worker, WorkerState::Activated, workers, notices);

@@ -20,6 +20,7 @@ loop-place-init c = (
   c.requires.linked,
   keeps_all c.args.workers.now c.args.registrations.now c.args.clients.now,
   omega (arith),
+  λ number. refl,
 )
 
 pub claim_at-requires-clause-owner : goal.claim_at-requires-clause-owner
@@ -48,4 +49,5 @@ loop-place-preserved c =
           c.args.registrations.now c.loop-place.registrations c.claim_at.new.registrations
           c.args.clients.now c.loop-place.clients c.claim_at.new.clients so_far.2 c.claim_at.ensures.names,
       omega (arith, so_far.3, c.claim_at.ensures.room),
+      λ number. c.claim_at.ensures.counts number ∙ so_far.4 number,
     )

@@ -1,6 +1,7 @@
 use Rattle.std.proofs.Common.{◌≤◌, ◌+◌, ◌*◌, take}
 use Rattle.sw_rules.specs.Clients as rules
 use Rattle.sw_rules.specs.Noticing.{Did}
+use Rattle.sw_tables.specs.Happened.{KeepCounts}
 use Rattle.sw_tables.specs.Lent.{Rest, lent}
 use Rattle.sw_tables.specs.Linked.{Linked}
 use Rattle.sw_activate.specs.Names.{KeepNames, numbers_of}
@@ -13,3 +14,4 @@ invariant-loop-place l =
     × Linked l.map l.workers l.registrations l.clients
     × KeepNames l.initial.workers l.initial.registrations l.initial.clients l.workers l.registrations l.clients
     × (l.initial.notices.spare ≤ l.notices.spare + 6 * l.place)
+    × KeepCounts l.initial.workers l.workers

@@ -1,9 +1,11 @@
 use Rattle.std.proofs.Common.{◌≡◌, ◌∙◌, Option, Some, None, option_map, refl, sym, ap, subst, arith}
 use Rattle.sw_data.specs.declared.answers.Answer.TheVariants as answer
 use Rattle.sw_data.specs.declared.rows.WorkerRow.{WorkerRow}
+use Rattle.sw_data.specs.declared.workers.Phase.TheVariants as phase
 use Rattle.sw_rules.specs.Rows.{is_worker}
 use Rattle.sw_rules.specs.State.{State}
 use Rattle.sw_rules.specs.Told.{Outcome}
+use Rattle.sw_tables.proofs.Counting.{settled_counts}
 use Rattle.sw_tables.proofs.Rows.{find_map, found_number}
 use Rattle.sw_tables.specs.Happened.{Happened}
 use Rattle.sw_tables.specs.Lent.{lent, shown_handler, shown_worker}
@@ -48,3 +50,10 @@ returns-clause-did c = λ rest counts.
     (sym ended ∙ ap (option_map shown_handler) c.in-Some-ended_handler.is) in
     subst (λ (o : Option Outcome). Happened o (Some answer.Ok) c.args.notices.now c.finish_activate.new.notices old new) (sym is)
     (refl, c.finish_activate.ensures.did rest)
+
+pub returns-clause-counts : goal.returns-clause-counts
+returns-clause-counts c =
+    let here : worker_at c.args.worker c.args.workers.now.rows ≡ Some c.in-Some.row.now = grind (arith, c.row.ensures, c.in-Some.is) in
+    c.finish_activate.ensures.counts
+    (settled_counts phase.Activate c.args.worker c.args.workers.now.rows c.in-Some.row.now c.ended_handler.result c.in-Some-ended_handler.field-0
+    here c.in-Some-ended_handler.is c.ended_handler.ensures.runs c.ended_handler.ensures.settled)

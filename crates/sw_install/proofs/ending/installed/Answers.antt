@@ -1,11 +1,13 @@
 use Rattle.std.proofs.Common.{◌≡◌, Some, find, option_map, refl, sym, arith, ◌∙◌, ap}
 use Rattle.sw_data.specs.declared.rows.JobRow.{JobRow}
 use Rattle.sw_data.specs.declared.rows.WorkerRow.{WorkerRow}
+use Rattle.sw_data.specs.declared.workers.Phase.TheVariants as phase
 use Rattle.sw_install.proofs.Enabled.{both, happened, not_now, shown_at}
 use Rattle.sw_install.proofs.Ended.{failed, not_ended, succeeded}
 use Rattle.sw_rules.specs.Installing as rules
 use Rattle.sw_rules.specs.Rows.{in_phase, is_installing, is_job}
 use Rattle.sw_rules.specs.State.{State}
+use Rattle.sw_tables.proofs.Counting.{settled_counts}
 use Rattle.sw_tables.proofs.Rows.{found_number}
 use Rattle.sw_tables.specs.Happened.{with_jobs}
 use Rattle.sw_tables.specs.Lent.{lent, shown_handler, shown_worker}
@@ -63,3 +65,17 @@ returns-clause-did c = λ rest counts.
     (succeeded old c.args.job registration worker row (shown_worker made) (shown_handler handler) is.0 is.1 c.in-Some-registration.is c.in-Some-worker.is (shown_at worker rows made found)
     (sym ended ∙ ap (option_map shown_handler) c.in-Some-ended_handler.is) (grind (arith, c.has_failed.ensures, c.if-has_failed.false)))
     refl (c.finish_install.ensures.did rest (shown_worker made) own)
+
+pub returns-then-has_failed-clause-counts : goal.returns-then-has_failed-clause-counts
+returns-then-has_failed-clause-counts c =
+    let found : worker_at c.in-Some-worker.worker c.args.workers.now.rows ≡ Some c.in-Some-row.made.now = grind (arith, c.row.ensures, c.in-Some-row.is) in
+    c.fail_install.ensures.counts
+    (settled_counts phase.Install c.in-Some-worker.worker c.args.workers.now.rows c.in-Some-row.made.now c.ended_handler.result c.in-Some-ended_handler.handler
+    found c.in-Some-ended_handler.is c.ended_handler.ensures.runs c.ended_handler.ensures.settled)
+
+pub returns-clause-counts : goal.returns-clause-counts
+returns-clause-counts c =
+    let found : worker_at c.in-Some-worker.worker c.args.workers.now.rows ≡ Some c.in-Some-row.made.now = grind (arith, c.row.ensures, c.in-Some-row.is) in
+    c.finish_install.ensures.counts
+    (settled_counts phase.Install c.in-Some-worker.worker c.args.workers.now.rows c.in-Some-row.made.now c.ended_handler.result c.in-Some-ended_handler.handler
+    found c.in-Some-ended_handler.is c.ended_handler.ensures.runs c.ended_handler.ensures.settled)

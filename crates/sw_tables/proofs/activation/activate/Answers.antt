@@ -1,4 +1,5 @@
 use Rattle.sw_tables.proofs.TakeOver.{activate_did, activate_linked}
+use Rattle.sw_tables.proofs.Counting.{promoted_keeps}
 use Rattle.sw_tables.proofs.activation.activate.Goals as goal
 
 pub returns-clause-did : goal.returns-clause-did
@@ -12,3 +13,7 @@ returns-clause-linked c =
     activate_linked c.args.workers.now c.promote_rows.new.workers c.args.registrations.now c.promote_rows.new.registrations c.args.clients.now c.take_over.new.self
     c.requires.slots c.requires.noted c.args.registration c.args.worker c.promote_rows.ensures.workers c.promote_rows.ensures.registrations c.take_over.ensures.rows
     c.requires.waiting c.requires.quiet
+
+pub returns-clause-counts : goal.returns-clause-counts
+returns-clause-counts c =
+    promoted_keeps c.args.registration c.args.workers.now c.promote_rows.new.workers c.args.registrations.now c.requires.slots c.promote_rows.ensures.workers

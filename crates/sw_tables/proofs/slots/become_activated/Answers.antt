@@ -6,6 +6,8 @@ use Rattle.sw_tables.proofs.OneMoves.{one_linked, one_moved}
 use Rattle.sw_tables.proofs.Shown.{one_shown}
 use Rattle.sw_tables.specs.Parts.{is_activating}
 use Rattle.sw_worker.specs.Edits.{advanced}
+use Rattle.sw_tables.proofs.Counting.{plainly}
+use Rattle.sw_worker.specs.Table.{is_worker}
 use Rattle.sw_tables.proofs.slots.become_activated.Goals as goal
 
 pub returns-clause-did : goal.returns-clause-did
@@ -30,3 +32,8 @@ returns-clause-linked c =
     one_linked c.args.registration c.args.worker known.0 (advanced worker_state.Activated) _ _ _ _ _
     (activated_move c.args.registration c.args.worker known.0 c.args.workers.now c.tell_state.new.workers c.args.registrations.now
     c.requires.slots known.1 c.tell_state.ensures.rows) c.requires.slots
+
+pub returns-clause-counts : goal.returns-clause-counts
+returns-clause-counts c =
+    plainly (is_worker c.args.worker) (advanced worker_state.Activated) (λ x. refl) c.args.workers.now c.tell_state.new.workers
+    c.tell_state.ensures.rows (λ x. refl)

@@ -6,6 +6,8 @@ use Rattle.sw_tables.proofs.OneMoves.{one_linked, one_moved}
 use Rattle.sw_tables.proofs.Shown.{one_shown}
 use Rattle.sw_tables.specs.Parts.{is_young}
 use Rattle.sw_worker.specs.Edits.{advanced}
+use Rattle.sw_tables.proofs.Counting.{plainly}
+use Rattle.sw_worker.specs.Table.{is_worker}
 use Rattle.sw_tables.proofs.slots.discard.Goals as goal
 
 pub returns-clause-did : goal.returns-clause-did
@@ -31,3 +33,8 @@ returns-clause-linked c =
     let move = discard_move c.args.registration c.args.worker known.0 c.args.workers.now c.tell_state.new.workers c.args.registrations.now
     c.leave_installing.new.registrations c.requires.slots known.1 c.tell_state.ensures.rows c.leave_installing.ensures in
     one_linked c.args.registration c.args.worker known.0 (advanced worker_state.Redundant) move.0 _ _ _ _ move.1 c.requires.slots
+
+pub returns-clause-counts : goal.returns-clause-counts
+returns-clause-counts c =
+    plainly (is_worker c.args.worker) (advanced worker_state.Redundant) (λ x. refl) c.args.workers.now c.tell_state.new.workers
+    c.tell_state.ensures.rows (λ x. refl)

@@ -4,6 +4,7 @@ use Rattle.sw_tables.proofs.OneMoves.{ended_puts, ended_rests, put_linked, put_s
 use Rattle.sw_tables.proofs.Shown.{one_shown}
 use Rattle.sw_worker.specs.Edits.{ended}
 use Rattle.sw_worker.specs.Table.{is_running}
+use Rattle.sw_tables.proofs.Counting.{counts_nothing}
 use Rattle.sw_tables.proofs.slots.end_handler.Goals as goal
 
 pub returns-clause-state : goal.returns-clause-state
@@ -25,3 +26,7 @@ returns-clause-linked c =
 pub returns-clause-rests : goal.returns-clause-rests
 returns-clause-rests c = λ test registration.
     ended_rests test registration c.args.worker c.args.workers.now c.end_handler.new.self c.end_handler.ensures
+
+pub returns-clause-counts : goal.returns-clause-counts
+returns-clause-counts c =
+    counts_nothing c.args.worker ended (λ x. refl) (λ x. refl) c.args.workers.now c.end_handler.new.self c.end_handler.ensures

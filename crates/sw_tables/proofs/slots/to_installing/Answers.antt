@@ -9,6 +9,7 @@ use Rattle.sw_tables.proofs.OneMoves.{one_linked, one_moved}
 use Rattle.sw_tables.proofs.Shown.{one_shown, unseen_changed}
 use Rattle.sw_tables.specs.Lent.{shown_registration}
 use Rattle.sw_tables.specs.Parts.{is_parsed}
+use Rattle.sw_tables.proofs.Counting.{counts_nothing, rest_counts}
 use Rattle.sw_tables.proofs.slots.to_installing.Goals as goal
 
 pub start_handler-requires : goal.start_handler-requires
@@ -50,3 +51,10 @@ returns-clause-linked c =
     c.to_installing.new.self c.requires.slots known.1 c.requires.empty
     (begins c.args.worker c.args.workers.now c.advance.new.workers c.start_handler.new.self c.advance.ensures c.start_handler.ensures)
     c.to_installing.ensures) c.requires.slots
+
+pub returns-clause-counts : goal.returns-clause-counts
+returns-clause-counts c =
+    let known = rests is_parsed c.args.registration c.args.worker c.args.workers.now c.requires.worker in
+    counts_nothing c.args.worker begun (λ x. refl) (λ x. refl) c.args.workers.now c.start_handler.new.self
+    (begins c.args.worker c.args.workers.now c.advance.new.workers c.start_handler.new.self c.advance.ensures c.start_handler.ensures)
+    (rest_counts is_parsed c.args.registration c.args.worker known.0 c.args.workers.now known.1)
