@@ -1,6 +1,6 @@
 -- The rows of the table of addAlls: how they are found, added and changed.
-use Rattle.std.proofs.Common.{◌≡◌, ◌∙◌, ℕ, ◌==◌, ◌+◌, ◌<◌, ◌≤◌, ◌^◌, Bool, true, false, List, [], ◌∷◌, ◌++◌, map, length, Option, Some, None, option_map, refl, sym, ap, arith, slice_set, slice_index_or}
-use Rattle.std.specs.List.{find}
+use Rattle.std.proofs.Common.{◌≡◌, ◌∙◌, ℕ, suc, ◌==◌, ◌+◌, ◌<◌, ◌≤◌, ◌^◌, Bool, true, false, List, [], ◌∷◌, ◌++◌, map, length, Option, Some, None, option_map, refl, sym, ap, arith, slice_set, slice_index_or}
+use Rattle.std.specs.List.{find, range_with_len}
 use Rattle.std.specs.Option.{option_map_or}
 use Rattle.std.proofs.lemmas.List.{length-append, length-map, length-set, map-append}
 use Rattle.sw_data.specs.declared.answers.Settlement.{Settlement}
@@ -37,6 +37,19 @@ within test tasks n kept has = place_within number (λ task. test (row_of task))
     by : (task : Option TaskRow) → option_map_or test (option_map row_of task) false ≡ option_map_or (λ task. test (row_of task)) task false
     by None = refl
     by (Some task) = refl
+
+numbered_from : (base : ℕ) (tasks : List TaskRow) → ((i : ℕ) (d : TaskRow) → i < length tasks → number (slice_index_or tasks i d) ≡ base + i)
+    → map (λ (row : AddAll). row.number) (map row_of tasks) ≡ range_with_len base (length (map row_of tasks))
+numbered_from base [] placed = refl
+numbered_from base (task ∷ tasks) placed =
+    let is = placed 0 task (omega arith) in
+    let here : number task ≡ base = omega (arith, is) in
+    let rest = numbered_from (base + 1) tasks (λ i d below. let later = placed (suc i) d (omega (arith, below)) in omega (arith, later)) in
+    cc (here, rest)
+
+-- the number of an addAll is its place
+pub numbers_are_places : (tasks : List TaskRow) → AreKept tasks → map (λ (row : AddAll). row.number) (map row_of tasks) ≡ range_with_len 0 (length (map row_of tasks))
+numbers_are_places tasks kept = numbered_from 0 tasks (λ i d below. let is = kept.places i d below in omega (arith, is))
 
 -- ---- one more addAll
 

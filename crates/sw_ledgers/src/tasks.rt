@@ -1,6 +1,7 @@
 //! The addAlls, by their numbers.
 
 ghost use Rattle.std.specs.Prelude.{◌≡◌, ◌≤◌, ◌++◌, ◌∷◌, ◌-◌, [], true, find, length, is_none, map, Some, None, option_map, IfOk};
+ghost use Rattle.std.specs.List.{range_with_len};
 ghost use Rattle.std.specs.Option.{option_copied, option_map_or};
 ghost use Rattle.sw_rules.specs.Rows.{changed, is_task};
 ghost use Rattle.sw_ledgers.specs.Tasks.{FitsTask, has_task, row_of};
@@ -174,13 +175,15 @@ impl Tasks {
         number
     }
 
-    /// An addAll that has not settled gets its value. It takes no memory.
+    /// An addAll that has not settled gets its value, and it alone: its number is its place. It takes no memory.
     #[tactic(auto, using(crate::proofs::Tasking::within, crate::proofs::Tasking::settled_rows, crate::proofs::Tasking::kept_settled))]
     pub fn settle(&mut self, task: u32, value: Settlement)
         requires { has_task (λ row. is_none row.settled) task self.old.rows ≡ true }
-        ensures { self.new ≡ record self.old {
+        ensures rows { self.new ≡ record self.old {
           rows = changed (is_task task) (λ row. record row { settled = Some value }) self.old.rows;
         } }
+        ensures places { map (λ row. row.number) self.old.rows
+            ≡ range_with_len 0 (length self.old.rows) }
     {
         self.rows[task as usize].settled = Some(value);
     }

@@ -10,7 +10,8 @@ use Rattle.sw_data.specs.declared.workers.Slot.{Slot}
 use Rattle.sw_client.specs.Table as clients
 use Rattle.sw_reg.specs.Table as registrations
 use Rattle.sw_reg.specs.Table.{has_registration, is_there, registration_at, slot_of}
-use Rattle.sw_rules.specs.Rows.{in_slot, slot_worker}
+use Rattle.sw_rules.specs.Rows.{is_active}
+use Rattle.sw_rules.specs.State.{Worker}
 use Rattle.sw_scope.specs.Scopes.{Scopes}
 use Rattle.sw_tables.proofs.Rows.{find_passes}
 use Rattle.sw_tables.proofs.Standing.{stands}
@@ -30,17 +31,19 @@ nothing = record {
   draws = [];
 }
 
-pub owner_found : (of_workers : workers.Table) (of_registrations : registrations.Table) → HasSlots of_workers of_registrations
-    → (place : Slot) (registration : ℕ) (row : WorkerRow) → slot_of place registration of_registrations.rows ≡ Some row.number
-    → (scopes : Scopes) (of_clients : clients.Table) (rest : Rest)
-    → slot_worker (lent scopes of_workers of_registrations of_clients rest) place registration ≡ Some (shown_worker row)
-    → registration_of of_workers.rows row.number ≡ Some row.registration
-owner_found of_workers of_registrations has place registration row slot scopes of_clients rest found =
-    let stood = stands of_workers of_registrations has place registration row.number slot in
-    let passes = find_passes (λ other. other.registration == registration && in_slot place other.state) (lent scopes of_workers of_registrations of_clients rest).workers (shown_worker row) found in
-    let parts = and_parts (row.registration == registration) (in_slot place row.state) passes in
-    let own : row.registration ≡ registration = grind (arith, nat_tests, parts.0) in
-    ap (option_map (λ other. other.registration)) stood.1.is ∙ ap Some (stood.1.owner ∙ sym own)
+-- what is shown of a worker's row tells its registration
+pub owner_shown : (found : Option WorkerRow) (row : WorkerRow) → option_map shown_worker found ≡ Some (shown_worker row)
+    → option_map (λ other. other.registration) found ≡ Some row.registration
+owner_shown (Some other) row is = let same : shown_worker other ≡ shown_worker row = cc is in ap (λ (w : Worker). Some w.registration) same
+owner_shown None row is = absurd cc
+
+-- and whether it is active
+pub active_shown : (found : Option WorkerRow) (row : WorkerRow) → option_map shown_worker found ≡ Some (shown_worker row) → is_active row.state ≡ true
+    → option_map {U = ℕ × Bool} (λ other. (other.registration, is_active other.state)) found ≡ Some (row.registration, true)
+active_shown (Some other) row is active =
+    let same : shown_worker other ≡ shown_worker row = cc is in
+    ap (λ (w : Worker). Some (w.registration, is_active w.state)) same ∙ ap (λ b. Some (row.registration, b)) active
+active_shown None row is active = absurd cc
 
 -- a registration that is there and passes is there
 pub there_passing : (test : RegistrationRow → Bool) (number : ℕ) (rows : List RegistrationRow) → has_registration test number rows ≡ true → is_there number rows ≡ true

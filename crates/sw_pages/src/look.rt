@@ -96,7 +96,8 @@ pub fn ready(
 ) -> Option<Worked>
     requires slots { HasSlots workers.now registrations.now }
     requires scopes { HasScopes map.now registrations.now }
-    ensures { (who : Who) (rest : Rest) → option_map
+    ensures act { IfSome result (λ worked. worked.act ≡ PageAct.Nothing) }
+    ensures outcome { (who : Who) (rest : Rest) → option_map
         (λ worked. outcome_of who worked
         (lent map.now workers.now registrations.now clients.now rest)) result
         ≡ rules.ready (lent map.now workers.now registrations.now clients.now rest) client }
@@ -130,7 +131,8 @@ fn matched_at(
 ) -> Result<Worked, NoMemory>
     requires scopes { HasScopes map.now registrations.now }
     requires places { ArePlaces (λ row. row.number) registrations.now.rows }
-    ensures { IfOk result (λ worked. (who : Who) (of_workers : workers.Table)
+    ensures act { IfOk result (λ worked. worked.act ≡ PageAct.Nothing) }
+    ensures outcome { IfOk result (λ worked. (who : Who) (of_workers : workers.Table)
         (of_clients : clients.Table) (rest : Rest)
         → rules.registration_at (lent map.now of_workers registrations.now of_clients rest)
         row.now url.now
@@ -156,7 +158,8 @@ pub fn registration_at(
 ) -> Result<Worked, NoMemory>
     requires scopes { HasScopes map.now registrations.now }
     requires places { ArePlaces (λ row. row.number) registrations.now.rows }
-    ensures { IfOk result (λ worked. (who : Who) (of_workers : workers.Table) (rest : Rest)
+    ensures act { IfOk result (λ worked. worked.act ≡ PageAct.Nothing) }
+    ensures outcome { IfOk result (λ worked. (who : Who) (of_workers : workers.Table) (rest : Rest)
         → rules.get_registration (lent map.now of_workers registrations.now clients.now rest)
         client url.now
         ≡ outcome_of who worked (lent map.now of_workers registrations.now clients.now rest)) }
@@ -231,7 +234,8 @@ pub fn registrations_of(
     clients: &Clients,
 ) -> Result<Worked, NoMemory>
     requires { ArePlaces (λ row. row.number) registrations.now.rows }
-    ensures { IfOk result (λ worked. (who : Who) (of_workers : workers.Table) (rest : Rest)
+    ensures act { IfOk result (λ worked. worked.act ≡ PageAct.Nothing) }
+    ensures outcome { IfOk result (λ worked. (who : Who) (of_workers : workers.Table) (rest : Rest)
         → rules.get_registrations (lent map.now of_workers registrations.now clients.now rest)
         client
         ≡ outcome_of who worked (lent map.now of_workers registrations.now clients.now rest)) }
@@ -279,7 +283,8 @@ pub fn await_promise(
     queues: &Queues,
     tasks: &Tasks,
 ) -> Option<Worked>
-    ensures { (at : ℕ) (scopes : Scopes) (of_workers : workers.Table)
+    ensures act { IfSome result (λ worked. worked.act ≡ PageAct.Nothing) }
+    ensures outcome { (at : ℕ) (scopes : Scopes) (of_workers : workers.Table)
         (of_registrations : registrations.Table) (of_clients : clients.Table) (rest : Rest)
         → rest.jobs ≡ queues.now.rows → rest.promises ≡ promises.now.rows
         → rest.tasks ≡ tasks.now.rows

@@ -1,6 +1,6 @@
 //! What clients do with a registration that they name: skipWaiting and claim of a worker of it.
 
-ghost use Rattle.std.specs.Prelude.{◌≡◌, true, Some, IfErr, IfOk, if◌then◌else◌};
+ghost use Rattle.std.specs.Prelude.{◌≡◌, true, Some, IfErr, IfOk, option_map, if◌then◌else◌};
 ghost use Rattle.sw_data.specs.declared.events.Who.{Who};
 ghost use Rattle.sw_pages.specs.Acts.{outcome_of};
 ghost use Rattle.sw_pages.specs.Named.{FindsNone, FindsRow, FitsSlots, Gives, NamesNone, NamesRow};
@@ -9,7 +9,8 @@ ghost use Rattle.sw_rules.specs.Clients as rules;
 ghost use Rattle.sw_rules.specs.Rows.{is_active};
 ghost use Rattle.sw_rules.specs.State.{State};
 ghost use Rattle.sw_tables.specs.Lent.{shown_worker};
-ghost use Rattle.sw_tables.specs.Linked.{ArePlaces, HasScopes, HasSlots, registration_of};
+ghost use Rattle.sw_tables.specs.Linked.{ArePlaces, HasScopes, HasSlots};
+ghost use Rattle.sw_worker.specs.Table.{worker_at};
 
 use crate::jobs::{named_scope, type_error};
 use crate::worked::{PageAct, Worked, answered};
@@ -67,8 +68,9 @@ fn slotted<'a>(
     requires slots { HasSlots workers.now registrations.now }
     ensures found { IfOk result (λ found. IfOk found (λ row.
         FindsRow of.now place row.now map.now workers.now registrations.now clients.now)) }
-    ensures owner { IfOk result (λ found. IfOk found (λ row.
-        registration_of workers.now.rows row.now.number ≡ Some row.now.registration)) }
+    ensures there { IfOk result (λ found. IfOk found (λ row.
+        option_map shown_worker (worker_at row.now.number workers.now.rows)
+        ≡ Some (shown_worker row.now))) }
     ensures none { IfOk result (λ found. IfErr found (λ reply.
         FindsNone of.now place reply map.now workers.now registrations.now clients.now)) }
 {
@@ -101,6 +103,7 @@ pub fn skip_waiting_of(row: &WorkerRow) -> Worked
 
 /// A client sets the skip waiting flag of the worker in a slot (Service Workers, ServiceWorkerGlobalScope,
 /// "skipWaiting()").
+#[tactic(auto, using(crate::proofs::Owned::owner_shown))]
 pub fn skip_waiting(
     alloc: Global,
     of: &ClientScope,
@@ -153,6 +156,7 @@ pub fn claim_of(row: &WorkerRow) -> Worked
 
 /// The worker in a slot claims the clients that match its registration, for a client (Service Workers, Clients,
 /// "claim()").
+#[tactic(auto, using(crate::proofs::Owned::active_shown))]
 pub fn claim(
     alloc: Global,
     of: &ClientScope,

@@ -9,8 +9,8 @@ use Rattle.sw_tables.specs.Lent.{lent}
 use Rattle.sw_pages.proofs.Awaiting.{value_here}
 use Rattle.sw_pages.proofs.look.await_promise.Goals as goal
 
-pub returns-in-None : goal.returns-in-None
-returns-in-None c = λ at scopes of_workers of_registrations of_clients rest jobs promises tasks.
+pub returns-in-None-clause-outcome : goal.returns-in-None-clause-outcome
+returns-in-None-clause-outcome c = λ at scopes of_workers of_registrations of_clients rest jobs promises tasks.
     let state = lent scopes of_workers of_registrations of_clients rest in
     let found =
     c.in_ok-awaited.ensures
