@@ -1,6 +1,8 @@
-pub mod Actions
-pub mod Acts
-pub mod Adding
-pub mod Faults
-pub mod Forgetting
-pub mod Places
+pub mod Called
+pub mod Fetching
+pub mod Free
+pub mod Hosted
+pub mod Keeping
+pub mod Paged
+pub mod Plans
+pub mod Running

@@ -1,24 +1,27 @@
-//! The state machine: what each event answers and does, worked out with all its room before it is done.
-//!
-//! So far it has the actions on caches, `addAll` up to its fetches, and whether a key is busy.
+//! The state machine of a host: its tables, what each event answers and does, worked out with all its room before it is
+//! done, and what may happen next.
 #![tactic(auto)]
 
-mod act;
-mod adding;
-mod caching;
-mod event;
-mod forgetting;
-mod lookups;
-mod place;
-mod writes;
+mod acts;
+mod answers;
+mod apply;
+mod asked;
+mod board;
+mod calls;
+mod core_tables;
+mod fetches;
+mod finish;
+mod hosting;
+mod hosts;
+mod lanes;
+mod pages;
+mod plan;
+mod planning;
+mod prepare;
+mod runs;
+mod task_events;
+mod task_fetches;
+mod tasks;
 
-pub use act::{CacheAct, CacheStep};
-pub use adding::{AddAllStep, NewAddAll, add_all, add_all_at, start_all};
-pub use event::{finish_on_caches, is_on_caches, prepare_on_caches};
-pub use forgetting::{forget_one, is_busy, mapped_many};
-pub use place::place_key;
-
-#[cfg(test)]
-mod adding_tests;
-#[cfg(test)]
-mod tests;
+pub use core_tables::Core;
+pub use plan::{Plan, Reply};
