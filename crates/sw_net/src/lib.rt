@@ -169,7 +169,16 @@ impl Net {
             ≡ option_and_then answered_line
             (drawn_from (λ line. line.fetch) self.now address.now ordinal) }
     {
-        let place = self.place(address.as_bytes(), ordinal);
+        self.fetch_bytes(address.as_bytes(), ordinal)
+    }
+
+    /// The line that `fetch` gives for the address that these bytes are. It takes no memory.
+    pub fn fetch_bytes(&self, address: &[u8], ordinal: u32) -> Option<&FetchLine>
+        ensures { option_copied result
+            ≡ option_and_then answered_line
+            (drawn_from (λ line. line.fetch) self.now address.now ordinal) }
+    {
+        let place = self.place(address, ordinal);
         self.line_at(place)
     }
 

@@ -2,7 +2,7 @@ use Rattle.std.proofs.Common.{◌≡◌, ◌∙◌, sym, ap, slice_get, Option, 
 use Rattle.std.specs.Option.{option_and_then}
 use Rattle.sw_rules.specs.Recordings.{answered_line}
 use Rattle.sw_net.proofs.Drawing.{drawn_at}
-use Rattle.sw_net.proofs.Net.fetch.Goals as goal
+use Rattle.sw_net.proofs.Net.fetch_bytes.Goals as goal
 
 pub returns : goal.returns
 returns c =
