@@ -1,4 +1,6 @@
-pub mod PlayLemmas
+pub mod EndLemmas
+pub mod FetchLemmas
+pub mod ReadyLemmas
 pub mod StandLemmas
-pub mod StepLemmas
 pub mod TextLemmas
+pub mod TurnLemmas

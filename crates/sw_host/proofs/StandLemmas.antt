@@ -13,8 +13,8 @@ use Rattle.sw_host.specs.Stands.{IsRead, Replays, ReportedAs, Stands}
 
 stands_by : (words : List (String Global)) (left : Option (List ℕ)) (before now : ℕ) (bytes : List ℕ) (what : Result Recording RecordingError) (outcome : Status) (text : List ℕ)
     → IsRead words left bytes → recording_of bytes ≡ what → ReportedAs what outcome text → Stands words left before now outcome text
-stands_by words left before now bytes (Ok recording) status.Done text is_read is runs = (bytes, recording, is_read, is, runs.0, runs.1)
-stands_by words left before now bytes (Ok recording) status.NotYet text is_read is runs = (inr (bytes, recording, is_read, is, runs.0), runs.1)
+stands_by words left before now bytes (Ok recording) status.Done text is_read is runs = (bytes, recording, is_read, is, runs)
+stands_by words left before now bytes (Ok recording) status.Stalled text is_read is runs = (bytes, recording, is_read, is, runs)
 stands_by words left before now bytes (Ok recording) _ text is_read is runs = absurd runs
 stands_by words left before now bytes (Err error.NoMemory) outcome text is_read is runs = absurd runs
 stands_by words left before now bytes (Err (error.BadLine line why)) status.BadLine text is_read is runs = (bytes, line, why, is_read, is, runs)

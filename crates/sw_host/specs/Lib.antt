@@ -1,4 +1,3 @@
-pub mod Bare
-pub mod Built
-pub mod Play
+pub mod Machines
+pub mod Playing
 pub mod Stands

@@ -1,5 +1,5 @@
 -- What a run prints, and when each status stands.
-use Rattle.std.specs.Prelude.{◌≡◌, ◌⊎◌, ℕ, ◌≤◌, ◌<◌, Bool, true, false, List, [], ◌∷◌, length, codes, bytes_eq, Option, Result, Ok, Err, String, string_bytes}
+use Rattle.std.specs.Prelude.{◌≡◌, ◌⊎◌, ℕ, ◌≤◌, ◌<◌, Bool, true, false, List, [], ◌∷◌, length, codes, bytes_eq, Option, Some, None, Result, Ok, Err, String, string_bytes}
 use Rattle.std.specs.declared.alloc.Global.{Global}
 use Rattle.sw_data.specs.declared.histories.End.TheVariants as end
 use Rattle.sw_data.specs.declared.histories.Entry.{Entry}
@@ -16,7 +16,7 @@ use Rattle.sw_record.specs.declared.limits.TheConstants.{RECORDING_LIMIT}
 use Rattle.sw_record.specs.Refusals as refusals
 use Rattle.sw_rules.specs.Run.{IsWholeRun}
 use Rattle.sw_rules.specs.Storage.{nothing}
-use Rattle.sw_host.specs.Built.{is_built}
+use Rattle.sw_host.specs.Playing.{IsStalledRun}
 use Rattle.sw_host.specs.declared.statuses.Status.{Status}
 use Rattle.sw_host.specs.declared.statuses.Status.TheVariants as status
 
@@ -47,6 +47,15 @@ abbrev pub IsTranscriptOf : Recording → List ℕ → Type 0
 IsTranscriptOf recording text =
     (history : List Entry) × IsWholeRun recording nothing 0 0 history × (text ≡ transcript history end.Done)
 
+-- the text is the transcript of a run of a recording from nothing that has stalled: one history that is legal, follows
+-- the recording, is controlled, and is the one that the pick order fixes; after it nothing may happen, and the lane that
+-- the text names is the lowest with actions left
+abbrev pub IsStalledTranscriptOf : Recording → List ℕ → Type 0
+IsStalledTranscriptOf recording text =
+    (lane : ℕ) × (history : List Entry)
+    × IsStalledRun recording nothing 0 0 lane history
+    × (text ≡ transcript history (end.Stalled lane))
+
 -- the text that a refusal of its own prints; that of a bad line names the line
 abbrev pub refusal_text : Status → List ℕ
 refusal_text status.ReadFault = codes "error: read\n"
@@ -56,11 +65,16 @@ refusal_text _ = []
 
 -- ---- bytes that were read
 
--- a recording is run with this status and text
-abbrev pub RunsAs : Recording → Status → List ℕ → Type 0
-RunsAs recording status.Done text = (is_built recording ≡ true) × IsTranscriptOf recording text
-RunsAs recording status.NotYet text = (is_built recording ≡ false) × (text ≡ refusal_text status.NotYet)
-RunsAs recording _ text = ⊥
+-- a recording is run to its end with this status and text
+abbrev pub EndsAs : Recording → Status → List ℕ → Type 0
+EndsAs recording status.Done text = IsTranscriptOf recording text
+EndsAs recording status.Stalled text = IsStalledTranscriptOf recording text
+EndsAs recording _ text = ⊥
+
+-- the status of a run: stalled at a lane, or done
+abbrev pub status_of : Option ℕ → Status
+status_of None = status.Done
+status_of (Some lane) = status.Stalled
 
 -- bytes that are no recording are refused with this status and text
 abbrev pub RefusedAs : RecordingError → Status → List ℕ → Type 0
@@ -72,7 +86,7 @@ RefusedAs (error.TooLarge line passed) _ text = ⊥
 
 -- what was read is reported with this status and text
 abbrev pub ReportedAs : Result Recording RecordingError → Status → List ℕ → Type 0
-ReportedAs (Ok recording) outcome text = RunsAs recording outcome text
+ReportedAs (Ok recording) outcome text = EndsAs recording outcome text
 ReportedAs (Err why) outcome text = RefusedAs why outcome text
 
 -- bytes are replayed with this status and text
@@ -81,14 +95,21 @@ Replays bytes outcome text = ReportedAs (recording_of bytes) outcome text
 
 -- ---- statuses
 
--- the source's bytes are a recording that is run so far, and the text is its transcript
+-- the source's bytes are a recording, and the text is the transcript of its whole run
 abbrev pub IsDone : List (String Global) → Option (List ℕ) → List ℕ → Type 0
 IsDone words left text =
     (bytes : List ℕ) × (recording : Recording)
     × IsRead words left bytes
     × (recording_of bytes ≡ Ok recording)
-    × (is_built recording ≡ true)
     × IsTranscriptOf recording text
+
+-- the source's bytes are a recording, and the text is the transcript of its run, which has stalled
+abbrev pub IsStalled : List (String Global) → Option (List ℕ) → List ℕ → Type 0
+IsStalled words left text =
+    (bytes : List ℕ) × (recording : Recording)
+    × IsRead words left bytes
+    × (recording_of bytes ≡ Ok recording)
+    × IsStalledTranscriptOf recording text
 
 -- a line of the source is no part of a recording; the text says which line, and why
 abbrev pub IsBadLine : List (String Global) → Option (List ℕ) → List ℕ → Type 0
@@ -111,21 +132,13 @@ abbrev pub IsTooLarge : List (String Global) → Option (List ℕ) → List ℕ 
 IsTooLarge words left text =
     (IsPastLimit words left × (text ≡ refusal_text status.TooLarge)) ⊎ IsLargeLine words left text
 
--- this work isn't built yet: other words, or a recording that isn't run so far
-abbrev pub IsNotYet : List (String Global) → Option (List ℕ) → Type 0
-IsNotYet words left =
-    (is_replay words ≡ false)
-    ⊎ ((bytes : List ℕ) × (recording : Recording)
-    × IsRead words left bytes
-    × (recording_of bytes ≡ Ok recording)
-    × (is_built recording ≡ false))
-
 -- before writing, this status stands with this text: the source had these bytes left, and its count of faults went from before to now
 abbrev pub Stands : List (String Global) → Option (List ℕ) → ℕ → ℕ → Status → List ℕ → Type 0
 Stands words left before now status.Done text = IsDone words left text
+Stands words left before now status.Stalled text = IsStalled words left text
 Stands words left before now status.BadLine text = IsBadLine words left text
 Stands words left before now status.ReadFault text =
     (is_replay words ≡ true) × Rose before now × (text ≡ refusal_text status.ReadFault)
 Stands words left before now status.TooLarge text = IsTooLarge words left text
-Stands words left before now status.NotYet text = IsNotYet words left × (text ≡ refusal_text status.NotYet)
+Stands words left before now status.NotYet text = (is_replay words ≡ false) × (text ≡ refusal_text status.NotYet)
 Stands words left before now _ text = ⊥

@@ -2,12 +2,16 @@
 #![tactic(auto)]
 
 mod acting;
-mod built;
-mod host;
-mod play;
+mod ending;
+mod fetching;
+mod hosted;
+mod machine;
+mod opening;
+mod playing;
 mod report;
 mod statuses;
 mod top;
+mod turns;
 
 pub use statuses::Status;
 pub use top::run;

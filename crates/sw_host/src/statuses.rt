@@ -16,9 +16,11 @@ pub enum Status {
     ReadFault,
     /// A write to the sink failed.
     WriteFault,
+    /// Nothing may happen, and a lane has actions left.
+    Stalled,
     /// The source has more bytes than a recording may have, or a line of it passes a limit.
     TooLarge,
-    /// The words aren't built yet, or the recording isn't run so far.
+    /// The words aren't built yet.
     NotYet,
 }
 
@@ -30,6 +32,7 @@ impl Status {
         ensures bad_line { self ≡ Status.BadLine → result ≡ 3 }
         ensures read_fault { self ≡ Status.ReadFault → result ≡ 4 }
         ensures write_fault { self ≡ Status.WriteFault → result ≡ 5 }
+        ensures stalled { self ≡ Status.Stalled → result ≡ 9 }
         ensures too_large { self ≡ Status.TooLarge → result ≡ 10 }
         ensures not_yet { self ≡ Status.NotYet → result ≡ 14 }
     {
@@ -39,13 +42,14 @@ impl Status {
             Status::BadLine => 3,
             Status::ReadFault => 4,
             Status::WriteFault => 5,
+            Status::Stalled => 9,
             Status::TooLarge => 10,
             Status::NotYet => 14,
         }
     }
 
-    // The text that a refusal of its own prints. Done prints a transcript and a bad line its number and cause; want of
-    // memory and a write fault print nothing.
+    // The text that a refusal of its own prints. Done and Stalled print a transcript, and a bad line its number and
+    // cause; want of memory and a write fault print nothing.
     pub(crate) fn refusal(self) -> &'static str
         ensures { result.now ≡ refusal_text self }
     {
@@ -53,7 +57,11 @@ impl Status {
             Status::ReadFault => "error: read\n",
             Status::TooLarge => "error: too large: recording\n",
             Status::NotYet => "error: not yet\n",
-            Status::Done | Status::NoMemory | Status::BadLine | Status::WriteFault => "",
+            Status::Done
+            | Status::NoMemory
+            | Status::BadLine
+            | Status::WriteFault
+            | Status::Stalled => "",
         }
     }
 }

@@ -21,6 +21,9 @@ const SECOND_LANE: &str =
 const TOO_HIGH: &str =
     "{\"lane\":64,\"do\":\"cacheOpen\",\"at\":\"https://a.test/\",\"name\":\"v\"}\n";
 
+const WAITS: &str =
+    "{\"lane\":0,\"do\":\"open\",\"client\":1,\"url\":\"https://a.test/\"}\n{\"lane\":0,\"do\":\"ready\",\"client\":1}\n";
+
 const FETCH: &str = "{\"fetch\":\"https://a.test/x\",\"error\":true}\n";
 
 const ELSEWHERE: &str =
@@ -100,8 +103,18 @@ fn recordings_are_replayed(rt: HostRuntime) -> Result<(), Fail> {
             format!(in alloc; "{OPEN}{SECOND_LANE}")?,
             None,
             None,
-            14,
-            format!(in alloc; "error: not yet\n")?,
+            0,
+            format!(in alloc;
+                "{first}L0.0 cacheOpen -> made\nL1.0 cacheOpen -> found\nend done\n"
+            )?,
+        ),
+        (
+            "replay",
+            format!(in alloc; "{WAITS}")?,
+            None,
+            None,
+            9,
+            format!(in alloc; "{first}L0.0 open -> none\nend stalled 0\n")?,
         ),
         (
             "replay",

@@ -4,23 +4,22 @@ ghost use Rattle.std.specs.Prelude.{◌≡◌, ◌+◌, ◌≤◌, ℕ, List, tr
 ghost use Rattle.std.specs.Io.KnownBytes.{Appends, IsAtEnd, Keeps};
 ghost use Rattle.sw_data.specs.Faults.{Rose};
 ghost use Rattle.sw_data.specs.Streams.{AppendsPrefix, ConsumesSome};
-ghost use Rattle.sw_host.specs.Stands.{IsBadLine, IsDone, IsNotYet, IsTooLarge, Replays, RunsAs, Stands, is_replay, refusal_text};
+ghost use Rattle.sw_host.specs.Stands.{IsBadLine, IsDone, IsStalled, IsTooLarge, Replays, Stands, is_replay, refusal_text};
 
-use crate::built::is_built;
-use crate::play::play;
+use crate::ending::run_to_end;
 use crate::report::{Report, refusal_of, refused};
 use crate::statuses::Status;
 use std::alloc::Global;
-use sw_data::{End, NoMemory, Recording};
+use sw_core::Core;
+use sw_data::NoMemory;
 use sw_io::{ReadAllError, Sink, Source, read_all, write_all};
-use sw_print::print_history;
 use sw_record::{RECORDING_LIMIT, read_recording};
 
 /// Does what the words say: `replay` reads a recording from the source to its end, runs it from nothing, and writes
 /// the transcript to the sink.
 ///
-/// Refusals are tested in this order: words, reading, the source's size, lines, whether the recording is run so far; a
-/// write fault replaces the status that stood. Want of memory may come at any point before writing.
+/// Refusals are tested in this order: words, reading, the source's size, lines; a write fault replaces the status that
+/// stood. Want of memory may come at any point before writing.
 pub fn run<S: Source, K: Sink>(
     alloc: Global,
     words: &[String],
@@ -32,6 +31,11 @@ pub fn run<S: Source, K: Sink>(
         × IsDone words.now (S.left source.old) text
         × Appends (K.held sink.old) (K.held sink.new) text }
 
+    // The same of a run after which nothing may happen, and a lane has actions left.
+    ensures stalled { result ≡ Status.Stalled → (text : List ℕ)
+        × IsStalled words.now (S.left source.old) text
+        × Appends (K.held sink.old) (K.held sink.new) text }
+
     // Each refusal has its cause, and its text was written.
     ensures bad_line { result ≡ Status.BadLine → (text : List ℕ)
         × IsBadLine words.now (S.left source.old) text
@@ -39,7 +43,7 @@ pub fn run<S: Source, K: Sink>(
     ensures too_large { result ≡ Status.TooLarge → (text : List ℕ)
         × IsTooLarge words.now (S.left source.old) text
         × Appends (K.held sink.old) (K.held sink.new) text }
-    ensures not_yet { result ≡ Status.NotYet → IsNotYet words.now (S.left source.old)
+    ensures not_yet { result ≡ Status.NotYet → (is_replay words.now ≡ false)
         × Appends (K.held sink.old) (K.held sink.new) (refusal_text Status.NotYet) }
     ensures read_fault { result ≡ Status.ReadFault → (is_replay words.now ≡ true)
         × Rose (S.faults source.old) (S.faults source.new)
@@ -60,6 +64,7 @@ pub fn run<S: Source, K: Sink>(
     ensures consumed { is_replay words.now ≡ true
         → ConsumesSome (S.left source.old) (S.left source.new) }
     ensures end { result ≡ Status.Done → IsAtEnd (S.left source.new) }
+    ensures end_stalled { result ≡ Status.Stalled → IsAtEnd (S.left source.new) }
 {
     let Ok(report) = report_of(alloc, words, source) else {
         return Status::NoMemory;
@@ -81,6 +86,8 @@ fn report_of<S: Source>(alloc: Global, words: &[String], source: &mut S) -> Resu
         → ConsumesSome (S.left source.old) (S.left source.new) }
     ensures end { IfOk result (λ report.
         report.status ≡ Status.Done → IsAtEnd (S.left source.new)) }
+    ensures end_stalled { IfOk result (λ report.
+        report.status ≡ Status.Stalled → IsAtEnd (S.left source.new)) }
 {
     if !is_replay(words) {
         return refused(alloc, Status::NotYet);
@@ -108,22 +115,7 @@ fn replay(alloc: Global, bytes: &[u8]) -> Result<Report, NoMemory>
     ensures { IfOk result (λ report. Replays bytes.now report.status report.text) }
 {
     match read_recording(alloc, bytes) {
-        Ok(recording) => run_recording(alloc, recording),
+        Ok(recording) => run_to_end(alloc, &mut Core::new(alloc), recording),
         Err(error) => refusal_of(alloc, error),
     }
-}
-
-// The report of a recording that was read.
-fn run_recording(alloc: Global, recording: Recording) -> Result<Report, NoMemory>
-    ensures { IfOk result (λ report. RunsAs recording report.status report.text) }
-{
-    if !is_built(&recording) {
-        return refused(alloc, Status::NotYet);
-    }
-    let history = play(alloc, recording)?;
-    let text = print_history(alloc, &history, &End::Done)?;
-    Ok(Report {
-        status: Status::Done,
-        text,
-    })
 }

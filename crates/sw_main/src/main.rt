@@ -7,7 +7,7 @@ ghost use Rattle.std.specs.Process.{exit_status};
 ghost use Rattle.sw_data.specs.Faults.{Rose};
 ghost use Rattle.sw_data.specs.Streams.{AppendsPrefix, ConsumesSome};
 ghost use Rattle.sw_record.specs.declared.limits.TheConstants.{RECORDING_LIMIT};
-ghost use Rattle.sw_host.specs.Stands.{IsBadLine, IsDone, IsNotYet, IsTooLarge, Stands, is_replay, refusal_text};
+ghost use Rattle.sw_host.specs.Stands.{IsBadLine, IsDone, IsStalled, IsTooLarge, Stands, is_replay, refusal_text};
 ghost use Rattle.sw_host.specs.declared.statuses.Status.{Status};
 
 use std::alloc::Global;
@@ -26,13 +26,16 @@ fn ended<S: Source, K: Sink>(
     ensures done { exit_status result ≡ 0 → (text : List ℕ)
         × IsDone words.now (S.left source.old) text
         × Appends (K.held sink.old) (K.held sink.new) text }
+    ensures stalled { exit_status result ≡ 9 → (text : List ℕ)
+        × IsStalled words.now (S.left source.old) text
+        × Appends (K.held sink.old) (K.held sink.new) text }
     ensures bad_line { exit_status result ≡ 3 → (text : List ℕ)
         × IsBadLine words.now (S.left source.old) text
         × Appends (K.held sink.old) (K.held sink.new) text }
     ensures too_large { exit_status result ≡ 10 → (text : List ℕ)
         × IsTooLarge words.now (S.left source.old) text
         × Appends (K.held sink.old) (K.held sink.new) text }
-    ensures not_yet { exit_status result ≡ 14 → IsNotYet words.now (S.left source.old)
+    ensures not_yet { exit_status result ≡ 14 → (is_replay words.now ≡ false)
         × Appends (K.held sink.old) (K.held sink.new) (refusal_text Status.NotYet) }
     ensures read_fault { exit_status result ≡ 4 → (is_replay words.now ≡ true)
         × Rose (S.faults source.old) (S.faults source.new)
@@ -45,7 +48,7 @@ fn ended<S: Source, K: Sink>(
     ensures no_memory { exit_status result ≡ 1 → Keeps (K.held sink.old) (K.held sink.new) }
 
     // The exit status is one of these.
-    ensures known { Contains (0 ∷ 1 ∷ 3 ∷ 4 ∷ 5 ∷ 10 ∷ 14 ∷ []) (exit_status result) }
+    ensures known { Contains (0 ∷ 1 ∷ 3 ∷ 4 ∷ 5 ∷ 9 ∷ 10 ∷ 14 ∷ []) (exit_status result) }
 
     // What it reads.
     ensures untouched { is_replay words.now ≡ false → source.new ≡ source.old }
@@ -53,6 +56,7 @@ fn ended<S: Source, K: Sink>(
     ensures consumed { is_replay words.now ≡ true
         → ConsumesSome (S.left source.old) (S.left source.new) }
     ensures end { exit_status result ≡ 0 → IsAtEnd (S.left source.new) }
+    ensures end_stalled { exit_status result ≡ 9 → IsAtEnd (S.left source.new) }
 {
     ExitCode::from(run(alloc, words, source, sink).code())
 }

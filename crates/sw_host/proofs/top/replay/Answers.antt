@@ -5,7 +5,7 @@ use Rattle.sw_host.proofs.top.replay.Goals as goal
 
 pub returns-in-Ok : goal.returns-in-Ok
 returns-in-Ok c =
-    replays_of c.args.bytes.now (Ok c.in-Ok.recording) c.run_recording.result c.in-Ok.ensures c.run_recording.ensures
+    replays_of c.args.bytes.now (Ok c.in-Ok.recording) c.run_to_end.result c.in-Ok.ensures c.run_to_end.ensures
 
 pub returns-in-Err : goal.returns-in-Err
 returns-in-Err c =
