@@ -1,4 +1,4 @@
-use crate::{AddedStep, add_all_at, added, finish_on_caches, settle_added, start_all};
+use crate::{AddAllStep, AddedStep, add_all_at, added, finish_on_caches, settle_added, start_all};
 use std::alloc::Global;
 use std::test::Fail;
 use sw_caches::Caches;
@@ -62,9 +62,9 @@ fn started(alloc: Global, caches: &Caches, tasks: &mut Tasks) -> Result<(), NoMe
         tasks,
         &mut draws,
     )?;
-    match step.start {
-        Some(new) => start_all(new, tasks, &mut draws),
-        None => (),
+    let AddAllStep { start, .. } = step;
+    if let Some(new) = start {
+        start_all(new, tasks, &mut draws);
     }
     Ok(())
 }
