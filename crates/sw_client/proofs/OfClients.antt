@@ -1,9 +1,9 @@
 -- The entries of the table of clients, its rows and its counts: what each call does to them.
-use Rattle.std.proofs.Common.{◌≡◌, ◌∙◌, ◌<◌, ◌≤◌, ◌+◌, ◌-◌, ◌^◌, ℕ, false, not, nat_eq, List, [], ◌∷◌, ◌++◌, map, length, slice_get, slice_index_or, length-append, Option, Some, None, option_map, IfSome, Result, Ok, Err, refl, sym, ap, subst, arith, if◌then◌else◌}
+use Rattle.std.proofs.Common.{◌≡◌, ◌∙◌, ◌<◌, ◌≤◌, ◌+◌, ◌-◌, ◌^◌, ℕ, Bool, true, false, not, nat_eq, List, [], ◌∷◌, ◌++◌, map, length, slice_get, slice_index_or, length-append, Option, Some, None, option_map, IfSome, Result, Ok, Err, refl, sym, ap, subst, arith, if◌then◌else◌}
 use Rattle.std.proofs.lemmas.List.{length-map}
 use Rattle.std.proofs.lemmas.Bool.Decides.{nat_tests}
 use Rattle.std.specs.List.{find, list_any, IsDistinct}
-use Rattle.std.specs.Option.{is_some}
+use Rattle.std.specs.Option.{is_some, option_map_or}
 use Rattle.std.specs.Result.{OnOk, IsOk}
 use Rattle.std.specs.Map.{lookup, set_value, remove_entry, keys_of, values_of}
 use Rattle.indexmap.specs.IndexMap.{insert_entry}
@@ -61,6 +61,13 @@ present n es x is there = found_client n (values_of es) ∙ ap (option_map clien
 
 apart_now : (es : Entries) → IsKeyed number es → IsDistinct nat_eq (keys_of (keyed number (values_of es)))
 apart_now es is = subst (λ (xs : Entries). IsDistinct nat_eq (keys_of xs)) is.rows is.apart
+
+keys_are : (rows : List OpenClient) → keys_of (keyed number rows) ≡ map (λ row. row.number) (map client rows)
+keys_are [] = refl
+keys_are (x ∷ xs) = ap (λ (ns : List ℕ). number x ∷ ns) (keys_are xs)
+
+pub numbers_apart : (es : Entries) → IsKeyed number es → IsDistinct nat_eq (map (λ row. row.number) (map client (values_of es)))
+numbers_apart es is = subst (IsDistinct nat_eq) (keys_are (values_of es)) (apart_now es is)
 
 none_numbered : (n : ℕ) (rows : List OpenClient) → list_any (is_client n) (map client rows) ≡ false → list_any (is_open n) rows ≡ false
 none_numbered n rows none = sym (any_client n rows) ∙ none
@@ -161,6 +168,34 @@ released_users n r (x ∷ xs) = grind (arith, nat_tests, released_users n r xs)
 pub unchanged : (n : ℕ) (f : OpenClient → OpenClient) (rows : List OpenClient) → find (is_open n) rows ≡ None → changed (is_open n) f rows ≡ rows
 unchanged n f [] none = refl
 unchanged n f (x ∷ xs) none = grind (arith, nat_tests, unchanged n f xs)
+
+-- how many clients use a registration, without one
+module _ (n r : ℕ) (es : Entries) (rows : List OpenClient) (found : Option OpenClient) (keys : IsKeyed number es) (are : values_of es ≡ rows) (is : found ≡ lookup (nat_eq n) es) where
+  abbrev count : List OpenClient → Bool → Type 0
+  count of passes = users_of r (changed (is_open n) uncontrolled of) + (if passes then 1 else 0) ≡ users_of r of
+
+  others_in : count rows (option_map_or (uses r) found false)
+  others_in =
+      subst (λ (of : List OpenClient). count of (option_map_or (uses r) found false)) are
+      (by found (sym (found_by n es keys) ∙ sym is))
+    where
+      by : (o : Option OpenClient) → find (is_open n) (values_of es) ≡ o → count (values_of es) (option_map_or (uses r) o false)
+      by None none =
+          let same = ap (users_of r) (unchanged n uncontrolled (values_of es) none) in
+          omega (arith, same)
+      by (Some x) there =
+          let less = count_changed number (uses r) uncontrolled n (values_of es) x (apart_now es keys) there in
+          omega (arith, less)
+
+  -- one client more uses it, where this one does
+  pub others_with : {b : Bool} → b ≡ option_map_or (uses r) found false → b ≡ true → users_of r (changed (is_open n) uncontrolled rows) + 1 ≡ users_of r rows
+  others_with same does = subst (count rows) (sym same ∙ does) others_in
+
+  -- and none where it doesn't
+  pub others_without : {b : Bool} → b ≡ option_map_or (uses r) found false → b ≡ false → users_of r (changed (is_open n) uncontrolled rows) ≡ users_of r rows
+  others_without same not_so =
+      let all = subst (count rows) (sym same ∙ not_so) others_in in
+      omega (arith, all)
 
 -- ---- clients
 

@@ -2,8 +2,8 @@
 #![tactic(auto)]
 
 ghost use Rattle.std.specs.Prelude.{◌≡◌, ◌↔◌, ◌+◌, ◌-◌, ◌<◌, ◌≤◌, ◌^◌, ℕ, [], ◌++◌, ◌∷◌, true, false, max, nat_eq, length, filter, find, map, slice_get, IfSome, IfOk, IsErr, OnOk, OnErr, Some, None};
-ghost use Rattle.std.specs.List.{list_any};
-ghost use Rattle.std.specs.Option.{option_and_then, option_copied, option_map};
+ghost use Rattle.std.specs.List.{IsDistinct, list_any};
+ghost use Rattle.std.specs.Option.{option_and_then, option_copied, option_map, option_map_or};
 ghost use Rattle.indexmap.specs.IndexMap.{IsUnique, shift_remove_entry, spare};
 ghost use Rattle.sw_data.specs.declared.answers.Notice.TheVariants as notice;
 ghost use Rattle.sw_rules.specs.Rows.{changed, is_client, without};
@@ -110,6 +110,16 @@ fn is_user(row: &OpenClient, registration: u32) -> bool
     }
 }
 
+// Whether there is a client, and it uses a registration.
+fn is_one_user(row: Option<&OpenClient>, registration: u32) -> bool
+    ensures { result ≡ option_map_or (uses registration) (option_copied row.entry) false }
+{
+    match row {
+        Some(row) => is_user(row, registration),
+        None => false,
+    }
+}
+
 // Tells the clients that use a registration of their new controller.
 #[tactic(auto, using(crate::proofs::TakeOver::room_left))]
 fn tell(rows: &[OpenClient], registration: u32, notices: &mut Notices)
@@ -202,6 +212,18 @@ impl Clients {
         self.found(number)?.registration
     }
 
+    /// How many clients use a registration, this one left out. It takes no memory.
+    pub fn other_users(&self, number: u32, registration: u32) -> u32
+        ensures { result
+            ≡ users_of registration (changed (is_open number) uncontrolled self.now.rows) }
+    {
+        if is_one_user(self.rows.get(&number), registration) {
+            self.users(registration) - 1
+        } else {
+            self.users(registration)
+        }
+    }
+
     /// The client at a place in the order of opening. It takes no memory.
     #[tactic(auto, using(crate::proofs::OfClients::client_at))]
     pub fn at(&self, place: u32) -> Option<&ClientRow>
@@ -209,6 +231,13 @@ impl Clients {
     {
         let (_, row) = self.rows.get_index(place as usize)?;
         Some(&row.client)
+    }
+
+    /// No two clients have one number. A call does nothing; its clause is the law.
+    pub fn are_apart(&self)
+        ensures { IsDistinct nat_eq (map (λ row. row.number) (clients_of self.now)) }
+    {
+        let _ = &self.rows;
     }
 
     /// How many clients there are. It takes no memory.

@@ -113,6 +113,9 @@ fn finds_the_registration_of_a_client(rt: HostRuntime) -> Result<(), Fail> {
 #[test]
 fn a_client_without_its_controller_uses_nothing(rt: HostRuntime) -> Result<(), Fail> {
     let mut clients = five(rt.alloc())?;
+    assert_eq!(rt; clients.other_users(3, 1), 1);
+    assert_eq!(rt; clients.other_users(3, 0), 2);
+    assert_eq!(rt; clients.other_users(9, 1), 2);
     clients.unset_controller(3);
     clients.unset_controller(9);
     clients.unset_controller(5);

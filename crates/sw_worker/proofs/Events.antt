@@ -1,5 +1,5 @@
 -- The pending fetch events as entries by number: how they are found, added, removed and counted.
-use Rattle.std.proofs.Common.{◌≡◌, ◌∙◌, ℕ, zero, suc, ◌+◌, ◌<◌, ◌≤◌, Bool, true, false, not, ◌==◌, nat_eq, List, [], ◌∷◌, ◌++◌, length, set, get_or, Some, None, refl, sym, ap, subst, arith, if◌then◌else◌, is_some, slice_index_or, slice_set, nat_lt, ◌-◌}
+use Rattle.std.proofs.Common.{◌≡◌, ◌∙◌, ℕ, zero, suc, ◌+◌, ◌<◌, ◌≤◌, Bool, true, false, not, ◌==◌, nat_eq, List, [], ◌∷◌, ◌++◌, length, set, get_or, Option, Some, None, refl, sym, ap, subst, arith, if◌then◌else◌, is_some, slice_index_or, slice_set, nat_lt, ◌-◌}
 use Rattle.std.specs.List.{list_any, IsDistinct, AllByRecursion}
 use Rattle.std.specs.Option.{option_map}
 use Rattle.std.specs.Map.{lookup, remove_entry, keys_of}
@@ -7,7 +7,7 @@ use Rattle.std.proofs.lemmas.Bool.Decides.{nat_tests}
 use Rattle.std.proofs.lemmas.List.{get_or_default, get_or_past, length-set}
 use Rattle.indexmap.specs.IndexMap.{insert_entry}
 use Rattle.sw_data.specs.declared.rows.WorkerRow.{WorkerRow}
-use Rattle.sw_rules.specs.Rows.{without}
+use Rattle.sw_rules.specs.Rows.{is_number, without}
 use Rattle.sw_rules.specs.State.{FetchEvent}
 use Rattle.sw_worker.specs.Kept.{Counted, IsKept, events_of}
 use Rattle.sw_worker.specs.Table.{event_at, events_on, is_event, is_on, is_pending}
@@ -96,6 +96,39 @@ less_on : (n w k : ℕ) (entries : Entries) → lookup (nat_eq n) entries ≡ So
     → many_on k (remove_entry (nat_eq n) entries) + (if w == k then 1 else 0) ≡ many_on k entries
 less_on n w k [] found = absurd cc
 less_on n w k (e ∷ es) found = grind (arith, nat_tests, less_on n w k es)
+
+-- how many events are on a worker, without one
+others_on : (n w : ℕ) (entries : Entries) → IsDistinct nat_eq (keys_of entries)
+    → length (events_on w (without (is_event n) (events_of entries))) + (if is_number (lookup (nat_eq n) entries) w then 1 else 0) ≡ length (events_on w (events_of entries))
+others_on n w entries apart = by (lookup (nat_eq n) entries) refl
+  where
+    by : (o : Option ℕ) → lookup (nat_eq n) entries ≡ o
+        → length (events_on w (without (is_event n) (events_of entries))) + (if is_number o w then 1 else 0) ≡ length (events_on w (events_of entries))
+    by None none =
+        let same = none_ended n entries none in
+        grind (arith, same)
+    by (Some v) is =
+        let same = ended n entries apart in
+        let less = less_on n v w entries is in
+        grind (arith, same, less)
+
+module _ (n w : ℕ) (entries : Entries) (events : List FetchEvent) (found : Option ℕ) (apart : IsDistinct nat_eq (keys_of entries))
+    (are : events_of entries ≡ events) (is : found ≡ lookup (nat_eq n) entries) where
+  others_in : length (events_on w (without (is_event n) events)) + (if is_number found w then 1 else 0) ≡ length (events_on w events)
+  others_in =
+      subst (λ (rows : List FetchEvent). length (events_on w (without (is_event n) rows)) + (if is_number found w then 1 else 0) ≡ length (events_on w rows)) are
+      (ap (λ (o : Option ℕ). length (events_on w (without (is_event n) (events_of entries))) + (if is_number o w then 1 else 0)) is ∙ others_on n w entries apart)
+
+  -- there is one event more where it is on the worker
+  pub others_with : {b : Bool} → b ≡ is_number found w → b ≡ true → length (events_on w (without (is_event n) events)) + 1 ≡ length (events_on w events)
+  others_with same on =
+      subst (λ (c : Bool). length (events_on w (without (is_event n) events)) + (if c then 1 else 0) ≡ length (events_on w events)) (sym same ∙ on) others_in
+
+  -- and none where it isn't
+  pub others_without : {b : Bool} → b ≡ is_number found w → b ≡ false → length (events_on w (without (is_event n) events)) ≡ length (events_on w events)
+  others_without same off =
+      let all = subst (λ (c : Bool). length (events_on w (without (is_event n) events)) + (if c then 1 else 0) ≡ length (events_on w events)) (sym same ∙ off) others_in in
+      omega (arith, all)
 
 -- ---- the counts
 

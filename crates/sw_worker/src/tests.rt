@@ -248,6 +248,9 @@ fn pending_events_are_counted(rt: HostRuntime) -> Result<(), Fail> {
         begin(&mut workers, worker, event)?;
     }
     assert!(rt; workers.worker_of(3) == Some(3));
+    assert!(rt; workers.has_no_other_pending(3, 3));
+    assert!(rt; !workers.has_no_other_pending(5, 0));
+    assert!(rt; !workers.has_no_other_pending(5, 3));
     assert!(rt; workers.end(3) == Ok(3));
     assert!(rt; workers.end(3) == Err(NoEvent));
     assert!(rt; workers.worker_of(3).is_none());

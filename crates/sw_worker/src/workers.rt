@@ -2,7 +2,7 @@
 
 ghost use Rattle.std.specs.Prelude.{◌≡◌, ◌++◌, ◌∷◌, [], ◌+◌, ◌-◌, ◌<◌, ◌≤◌, ◌^◌, ◌↔◌, true, false, not, length, option_map, IfOk, OnOk, OnErr, IsErr, IsErrOf, IsTrue, Some};
 ghost use Rattle.std.specs.Option.{option_copied};
-ghost use Rattle.sw_rules.specs.Rows.{changed, without};
+ghost use Rattle.sw_rules.specs.Rows.{changed, is_number, without};
 ghost use Rattle.sw_worker.specs.Edits.{advanced, allows, call_counted, edited, ended, new_worker, skipping, started, task_counted, with_handler};
 ghost use Rattle.sw_worker.specs.Fits.{FitsEvent, FitsWorker};
 ghost use Rattle.sw_worker.specs.Table.{event_at, events_on, has_calls_left, has_pending, has_unsettled, has_worker, is_activated, is_event, is_idle, is_pending, is_running, is_there, is_worker, may_advance, may_follow, worker_at};
@@ -57,6 +57,16 @@ fn may_follow(from: WorkerState, to: WorkerState) -> bool
         (WorkerState::Installed, WorkerState::Activating) => true,
         (WorkerState::Activating, WorkerState::Activated) => true,
         _ => false,
+    }
+}
+
+// Whether a number is there, and is this one.
+fn is_number(number: Option<u32>, other: u32) -> bool
+    ensures { result ≡ is_number number other }
+{
+    match number {
+        Some(number) => number == other,
+        None => false,
     }
 }
 
@@ -145,6 +155,30 @@ impl Workers {
         match self.row(worker) {
             Some(row) => row.handler.is_none() && self.pending(worker) == 0,
             None => self.pending(worker) == 0,
+        }
+    }
+
+    // How many fetch events are pending on a worker, without this one. It takes no memory.
+    fn other_pending(&self, event: u32, worker: u32) -> u64
+        ensures { result ≡ length (events_on worker (without (is_event event) self.now.events)) }
+    {
+        if is_number(self.events.get(&event).copied(), worker) {
+            self.pending(worker) - 1
+        } else {
+            self.pending(worker)
+        }
+    }
+
+    /// No handler of a worker runs, and no fetch event is pending on it, this one left out. It takes no memory.
+    #[tactic(auto, using(crate::proofs::Events::none_on))]
+    pub fn has_no_other_pending(&self, event: u32, worker: u32) -> bool
+        ensures { result ≡ not (has_pending worker (record self.now {
+          events = without (is_event event) self.now.events;
+        })) }
+    {
+        match self.row(worker) {
+            Some(row) => row.handler.is_none() && self.other_pending(event, worker) == 0,
+            None => self.other_pending(event, worker) == 0,
         }
     }
 
