@@ -41,8 +41,8 @@ fn claims_row(worker: u32, registration: u32, row: &ClientRow, matched: Option<u
     row.secure && is_number(matched, registration) && !is_number(row.controller, worker)
 }
 
-// Whether a worker of a registration claims a client.
-fn claims(
+/// Whether a worker of a registration claims a client. It takes no memory.
+pub fn claims_client(
     worker: u32,
     registration: u32,
     client: u32,
@@ -91,7 +91,7 @@ fn claim_client(
         workers.new registrations.new clients.new }
     ensures room { notices.old.spare ≤ notices.new.spare + 6 }
 {
-    if !claims(worker, registration, client, map, registrations, clients) {
+    if !claims_client(worker, registration, client, map, registrations, clients) {
         return;
     }
     unload_client(client, map, workers, registrations, clients, notices);

@@ -9,7 +9,7 @@ mod handler;
 mod owed;
 mod unregister;
 
-pub use claims::claim;
+pub use claims::{claim, claims_client};
 pub use clients::unload;
 pub use events::{end_event, skip_waiting};
 pub use handler::activated;

@@ -171,8 +171,8 @@ fn parsed_op(alloc: Global, base: &Text, op: &Op) -> Result<Option<Op>, NoMemory
     }
 }
 
-// The operations before the first whose address doesn't parse, and whether all parse.
-fn parsed_ops(alloc: Global, base: &Text, ops: &[Op]) -> Result<(Vec<Op>, bool), NoMemory>
+/// The operations before the first whose address doesn't parse, and whether all parse.
+pub fn parsed_ops(alloc: Global, base: &Text, ops: &[Op]) -> Result<(Vec<Op>, bool), NoMemory>
     ensures { IfOk result (λ parsed.
         (parsed.0.items, parsed.1) ≡ rules.parsed_ops base.now ops.now) }
 {

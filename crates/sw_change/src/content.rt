@@ -12,7 +12,7 @@ use crate::registrations::Registrations;
 use std::alloc::Global;
 use std::marker::Model;
 use sw_caches::Caches;
-use sw_data::{Change, Items, Kept, NoMemory};
+use sw_data::{Change, Items, Kept, KeptRegistration, NoMemory};
 
 /// The kept content. A registration is found by an index, and so is a pair of a cache.
 #[derive(Drop)]
@@ -114,6 +114,15 @@ impl Content {
             registrations: Items::from_vec(self.registrations.into_rows(alloc)?),
             caches: Items::from_vec(self.caches.into_kept(alloc)?),
         })
+    }
+
+    /// The registrations as they are kept, in order of making, and the caches, which are moved.
+    pub fn into_parts(self, alloc: Global) -> Result<(Vec<KeptRegistration>, Caches), NoMemory>
+        ensures registrations { IfOk result (λ parts. parts.0.items ≡ self.registrations) }
+        ensures caches { IfOk result (λ parts. parts.1.rows ≡ self.caches) }
+    {
+        let rows = self.registrations.into_rows(alloc)?;
+        Ok((rows, self.caches))
     }
 
     /// The changes of a checkpoint: they make this content of nothing.

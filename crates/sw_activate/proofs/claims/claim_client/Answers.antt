@@ -5,10 +5,10 @@ use Rattle.sw_activate.proofs.Names.{empty_rest, kept, still_owned, then_keeps}
 use Rattle.sw_activate.proofs.Unloading.{claimed, not_claimed}
 use Rattle.sw_activate.proofs.claims.claim_client.Goals as goal
 
-pub returns-then-not-claims-clause-did : goal.returns-then-not-claims-clause-did
-returns-then-not-claims-clause-did c = λ rest.
+pub returns-then-not-claims_client-clause-did : goal.returns-then-not-claims_client-clause-did
+returns-then-not-claims_client-clause-did c = λ rest.
     not_claimed (lent c.args.map.now c.args.workers.now c.args.registrations.now c.args.clients.now rest) c.args.worker c.args.registration c.args.client c.args.notices.now
-    (sym (c.claims.ensures c.args.workers.now rest) ∙ c.if-not-claims.true)
+    (sym (c.claims_client.ensures c.args.workers.now rest) ∙ c.if-not-claims_client.true)
 
 pub take_control-requires-clause-known : goal.take_control-requires-clause-known
 take_control-requires-clause-known c =
@@ -22,7 +22,7 @@ returns-clause-did c = λ rest.
     c.args.notices.now c.unload_client.new.notices c.take_control.new.notices
     (lent c.args.map.now c.unload_client.new.workers c.unload_client.new.registrations c.unload_client.new.clients rest)
     (lent c.args.map.now c.unload_client.new.workers c.unload_client.new.registrations c.take_control.new.clients rest)
-    (sym (c.claims.ensures c.args.workers.now rest) ∙ c.if-not-claims.false)
+    (sym (c.claims_client.ensures c.args.workers.now rest) ∙ c.if-not-claims_client.false)
     (c.unload_client.ensures.did rest)
     (c.take_control.ensures.did c.args.map.now c.unload_client.new.workers c.unload_client.new.registrations rest)
 

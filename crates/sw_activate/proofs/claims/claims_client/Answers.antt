@@ -7,7 +7,7 @@ use Rattle.sw_rules.specs.Clients as rules
 use Rattle.sw_rules.specs.Rows as rows_of
 use Rattle.sw_rules.specs.State.{State}
 use Rattle.sw_tables.specs.Lent.{lent}
-use Rattle.sw_activate.proofs.claims.claims.Goals as goal
+use Rattle.sw_activate.proofs.claims.claims_client.Goals as goal
 
 pub returns-in-Some : goal.returns-in-Some
 returns-in-Some c = λ of_workers rest.
