@@ -10,7 +10,7 @@ use Rattle.sw_rules.specs.Told.{Outcome}
 use Rattle.sw_core.proofs.Doing.{if_some_map}
 use Rattle.sw_core.proofs.Same.{same_state}
 use Rattle.sw_core.specs.Hosted.{Hosted, SameRows, state_of}
-use Rattle.sw_core.specs.Plans.{Agree, Fits, Means, Works, outcome_of, started_outcome}
+use Rattle.sw_core.specs.Plans.{Fits, IsAsked, IsStarted, Means, Works}
 use Rattle.sw_core.specs.declared.plan.Plan.{Plan}
 use Rattle.sw_core.specs.declared.plan.Work.{Work}
 use Rattle.sw_core.specs.declared.plan.Work.TheVariants as work
@@ -44,8 +44,8 @@ stepped old event None done host reply notices new is some means answers tells l
 
 -- what a work means in a host with the same state
 means_later : (old new : Hosted) → state_of new ≡ state_of old → (done : Work) (outcome : Outcome) → Means done old outcome → Means done new outcome
-means_later old new is (work.Asked asked) outcome means = subst (λ (s : State). Agree outcome (outcome_of asked s)) (sym is) means
-means_later old new is (work.Start reply added next) outcome means = subst (λ (s : State). Agree outcome (started_outcome reply added next s)) (sym is) means
+means_later old new is (work.Asked asked) outcome means = subst (λ (s : State). IsAsked outcome asked s) (sym is) means
+means_later old new is (work.Start reply added next) outcome means = subst (λ (s : State). IsStarted outcome reply added next s) (sym is) means
 means_later old new is (work.Register job refusal fetch preload rows) outcome means = subst (λ (s : State). registering.run s job ≡ Some outcome) (sym is) means
 means_later old new is (work.Update job fetch) outcome means = subst (λ (s : State). registering.run s job ≡ Some outcome) (sym is) means
 means_later old new is (work.Unregister job refusal) outcome means = subst (λ (s : State). registering.run s job ≡ Some outcome) (sym is) means

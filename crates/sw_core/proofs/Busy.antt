@@ -1,7 +1,7 @@
 -- A key is forgotten or busy as the definition says.
 use Rattle.std.proofs.Common.{◌≡◌, ◌∙◌, ℕ, Bool, true, false, List, refl, sym, ap, subst, if◌then◌else◌}
 use Rattle.std.specs.Prelude.{Result, Ok, Err}
-use Rattle.sw_core.specs.Plans.{Agree, outcome_of}
+use Rattle.sw_core.specs.Plans.{IsAsked}
 use Rattle.sw_core.specs.declared.plan.Act.TheVariants as act
 use Rattle.sw_core.specs.declared.plan.Asked.{Asked}
 use Rattle.sw_core.specs.declared.plan.Then.TheVariants as then
@@ -22,13 +22,14 @@ module _ (state : State) (place : Place) (key : List ℕ) (asked : Asked) where
   by_busy busy = if busy then answered state answer.Busy else record { answer = answer.Ok; told = forget_key state key }
 
   pub busy_agrees : place_key place ≡ Ok key → is_busy state key ≡ true
-      → asked ≡ record { answer = answer.Busy; act = act.Page page.Nothing; then = then.Nothing } → Agree (with_key state place (forget state)) (outcome_of asked state)
+      → asked ≡ record { answer = answer.Busy; act = act.Page page.Nothing; then = then.Nothing } → IsAsked (with_key state place (forget state)) asked state
   busy_agrees here busy is =
-      subst (λ (o : Outcome). Agree o (outcome_of asked state)) (sym (ap at_key here ∙ ap by_busy busy))
-      (subst (λ (a : Asked). Agree (answered state answer.Busy) (outcome_of a state)) (sym is) (record { answer = refl; state = refl; notices = refl }))
+      subst (λ (o : Outcome). IsAsked o asked state) (sym (ap at_key here ∙ ap by_busy busy))
+      (subst (λ (a : Asked). IsAsked (answered state answer.Busy) a state) (sym is)
+      (record { same = record { answer = refl; state = refl; notices = refl }; changes = refl }))
 
   pub quiet_agrees : place_key place ≡ Ok key → is_busy state key ≡ false
-      → Agree (with_key state place (forget state)) (outcome_of (record { answer = answer.Ok; act = act.Forget key; then = then.Nothing }) state)
+      → IsAsked (with_key state place (forget state)) (record { answer = answer.Ok; act = act.Forget key; then = then.Nothing }) state
   quiet_agrees here busy =
-      subst (λ (o : Outcome). Agree o (outcome_of (record { answer = answer.Ok; act = act.Forget key; then = then.Nothing }) state)) (sym (ap at_key here ∙ ap by_busy busy))
-      (record { answer = refl; state = refl; notices = refl })
+      subst (λ (o : Outcome). IsAsked o (record { answer = answer.Ok; act = act.Forget key; then = then.Nothing }) state) (sym (ap at_key here ∙ ap by_busy busy))
+      (record { same = record { answer = refl; state = refl; notices = refl }; changes = refl })

@@ -14,7 +14,7 @@ use Rattle.sw_cachestorage.specs.declared.adding.NewAddAll.{NewAddAll}
 use Rattle.sw_core.specs.Called.{FitsCall, HasRow, noted_call}
 use Rattle.sw_core.specs.Hosted.{Hosted, rest_of, state_of}
 use Rattle.sw_core.specs.Keeping.{KeepsHandler, handling}
-use Rattle.sw_core.specs.Plans.{Agree, FitsWork, Means, Works, has_calls_left, outcome_of, told_then, with_caches_acted}
+use Rattle.sw_core.specs.Plans.{Agree, FitsWork, IsAsked, IsStarted, Means, Works, has_calls_left, told_then, with_caches_acted}
 use Rattle.sw_core.specs.declared.plan.Act.TheVariants as act
 use Rattle.sw_core.specs.declared.plan.Then.{Then}
 use Rattle.sw_core.specs.declared.plan.Then.TheVariants as then
@@ -29,6 +29,7 @@ use Rattle.sw_data.specs.declared.recordings.Handlers.{Handlers}
 use Rattle.sw_data.specs.declared.rows.HandlerRow.{HandlerRow}
 use Rattle.sw_data.specs.declared.rows.RegistrationRow.{RegistrationRow}
 use Rattle.sw_data.specs.declared.rows.WorkerRow.{WorkerRow}
+use Rattle.sw_data.specs.declared.storage.Change.{Change}
 use Rattle.sw_data.specs.declared.workers.Phase.{Phase}
 use Rattle.sw_data.specs.declared.workers.Phase.TheVariants as phase
 use Rattle.sw_data.specs.Events.{is_handler}
@@ -45,6 +46,7 @@ use Rattle.sw_pages.specs.declared.worked.Worked.{Worked}
 use Rattle.sw_client.specs.Table as clients
 use Rattle.sw_reg.specs.Table as registrations
 use Rattle.sw_reg.specs.Table.{registration_at}
+use Rattle.sw_rules.specs.Caching.{add_task}
 use Rattle.sw_rules.specs.Calls.{call_by, called, is_at, is_fault, is_next_call, make_call, note_call, noted, own_registration}
 use Rattle.sw_rules.specs.Clients.{add_client, add_event, skip_waiting}
 use Rattle.sw_rules.specs.Installing as rules
@@ -81,10 +83,10 @@ noted_agree outcome reply told worker is left notices = record {
 
 -- a call on caches
 pub cache_noted : (state : State) (step : CacheStep) (outcome : Outcome) (worker : ℕ) (next : Then) → next ≡ then.Called worker (is_fault step.answer) → IsOutcome outcome state state.caches step
-    → Agree (noted outcome worker) (outcome_of (record { answer = step.answer; act = act.Caches step.act; then = next }) state)
+    → IsAsked (noted outcome worker) (record { answer = step.answer; act = act.Caches step.act; then = next }) state
 cache_noted state step outcome worker next follows is =
-    subst (λ (n : Then). Agree (noted outcome worker) (outcome_of (record { answer = step.answer; act = act.Caches step.act; then = n }) state)) (sym follows)
-    (noted_agree outcome step.answer (quiet (with_caches_acted step.act state)) worker is.answer is.state_is is.notices)
+    subst (λ (n : Then). IsAsked (noted outcome worker) (record { answer = step.answer; act = act.Caches step.act; then = n }) state) (sym follows)
+    (record { same = noted_agree outcome step.answer (quiet (with_caches_acted step.act state)) worker is.answer is.state_is is.notices; changes = tt })
 
 -- the promise of a handler's call has no effect
 no_promise : (by : Who) (state : State) (awaited : state_of_rules.Awaited) → is_handler by ≡ true → promise state by awaited ≡ quiet state
@@ -104,6 +106,19 @@ promised_notices by None told is = refl
 promised_notices by (Some awaited) told is =
     ap (λ (t : Told). told.notices ++ t.notices) (no_promise by told.state (meaning awaited) is) ∙ append-nil told.notices
 
+no_durable : (by : Who) (state : State) (awaited : state_of_rules.Awaited) → (promise state by awaited).changes ≡ []
+unfolding promise
+no_durable who.Host state awaited = refl
+no_durable (who.Lane lane at) state awaited = refl
+no_durable (who.Handler worker in_phase number) state awaited = refl
+
+-- no promise is durable
+pub promised_changes : (by : Who) (awaited : Option Awaited) (told : Told) → (pages.promised by awaited told).changes ≡ told.changes
+unfolding followed
+promised_changes by None told = refl
+promised_changes by (Some awaited) told =
+    ap (λ (all : List Change). told.changes ++ all) (no_durable by told.state (meaning awaited)) ∙ append-nil told.changes
+
 -- a handler made what a worker made
 pub made_by_handler : (by : Who) (worker : ℕ) → maker_worker by ≡ Some worker → is_handler by ≡ true
 made_by_handler who.Host worker is = absurd cc
@@ -112,25 +127,56 @@ made_by_handler (who.Handler own in_phase number) worker is = refl
 
 -- a call that was worked out as an action of a page
 pub page_noted : (state : State) (by : Who) (worked : Worked) (worker : ℕ) (next : Then) → next ≡ then.Called worker (is_fault worked.answer) → is_handler by ≡ true
-    → Agree (noted (pages.outcome_of by worked state) worker) (outcome_of (record { answer = worked.answer; act = act.Page worked.act; then = next }) state)
+    → IsAsked (noted (pages.outcome_of by worked state) worker) (record { answer = worked.answer; act = act.Page worked.act; then = next }) state
+unfolding followed note_call
 page_noted state by worked worker next follows is =
-    subst (λ (n : Then). Agree (noted (pages.outcome_of by worked state) worker) (outcome_of (record { answer = worked.answer; act = act.Page worked.act; then = n }) state)) (sym follows)
-    (noted_agree (pages.outcome_of by worked state) worked.answer (told_by worked.act state) worker refl
-    (sym (promised_state by worked.awaited (told_by worked.act state) is))
-    (promised_notices by worked.awaited (told_by worked.act state) is))
+    subst (λ (n : Then). IsAsked (noted (pages.outcome_of by worked state) worker) (record { answer = worked.answer; act = act.Page worked.act; then = n }) state) (sym follows)
+    (record {
+      same =
+          noted_agree (pages.outcome_of by worked state) worked.answer (told_by worked.act state) worker refl
+          (sym (promised_state by worked.awaited (told_by worked.act state) is))
+          (promised_notices by worked.awaited (told_by worked.act state) is);
+      changes = ap (λ (all : List Change). all ++ []) (promised_changes by worked.awaited (told_by worked.act state));
+    })
 
 -- an addAll that goes on to its fetches or not
 abbrev begun_told : Option NewAddAll → Then → State → Told
 begun_told start next state = told_then next (started_by start state)
 
-pub begun_noted : (state : State) (by : Who) (step : AddAllStep) (worker : ℕ) (start : Option NewAddAll) (next : Then) → step.start ≡ start → next ≡ then.Called worker (is_fault step.answer)
+-- no change is durable before the fetches of an addAll
+started_changes : (start : Option NewAddAll) (state : State) → (started_by start state).changes ≡ []
+unfolding add_task
+started_changes None state = refl
+started_changes (Some new) state = refl
+
+begun_changes : (state : State) (by : Who) (step : AddAllStep) (worker : ℕ) → (noted (begun by step state) worker).told.changes ≡ []
+unfolding followed note_call
+begun_changes state by step worker =
+    ap (λ (all : List Change). all ++ []) (promised_changes by (Some step.awaited) (started_by step.start state) ∙ started_changes step.start state)
+
+begun_agree : (state : State) (by : Who) (step : AddAllStep) (worker : ℕ) (start : Option NewAddAll) (next : Then) → step.start ≡ start → next ≡ then.Called worker (is_fault step.answer)
     → is_handler by ≡ true → Agree (noted (begun by step state) worker) (record { answer = step.answer; told = begun_told start next state })
-begun_noted state by step worker start next starts follows is =
+begun_agree state by step worker start next starts follows is =
     subst (λ (n : Then). Agree (noted (begun by step state) worker) (record { answer = step.answer; told = begun_told start n state })) (sym follows)
     (subst (λ (o : Option NewAddAll). Agree (noted (begun by step state) worker) (record { answer = step.answer; told = begun_told o (then.Called worker (is_fault step.answer)) state })) starts
     (noted_agree (begun by step state) step.answer (started_by step.start state) worker refl
     (sym (promised_state by (Some step.awaited) (started_by step.start state) is))
     (promised_notices by (Some step.awaited) (started_by step.start state) is)))
+
+pub start_noted : (state : State) (by : Who) (step : AddAllStep) (worker : ℕ) (new : NewAddAll) (next : Then) → step.start ≡ Some new → next ≡ then.Called worker (is_fault step.answer)
+    → is_handler by ≡ true → IsStarted (noted (begun by step state) worker) step.answer new next state
+start_noted state by step worker new next starts follows is = record {
+  same = begun_agree state by step worker (Some new) next starts follows is;
+  changes = begun_changes state by step worker;
+}
+
+pub unstarted_noted : (state : State) (by : Who) (step : AddAllStep) (worker : ℕ) (next : Then) → step.start ≡ None → next ≡ then.Called worker (is_fault step.answer)
+    → is_handler by ≡ true → IsAsked (noted (begun by step state) worker) (record { answer = step.answer; act = act.Page page.Nothing; then = next }) state
+unfolding followed note_call
+unstarted_noted state by step worker next starts follows is = record {
+  same = begun_agree state by step worker None next starts follows is;
+  changes = begun_changes state by step worker ∙ ap (λ (n : Then). (told_then n (quiet state)).changes) (sym follows);
+}
 
 -- ---- the calls that are left
 
@@ -265,6 +311,31 @@ module _ (scopes : Scopes) (of_workers : workers.Table) (of_registrations : regi
 
 -- ---- the next call of a handler
 
+module _ (host : Hosted) (worker : ℕ) (in_phase : Phase) (number : ℕ) (asked : Call) (P : Outcome → Type 0) where
+  abbrev next_of : Worker → Option Outcome
+  next_of row =
+      if is_next_call (state_of host) row in_phase number asked
+      then call_by (state_of host) (who.Handler worker in_phase number) row in_phase asked
+      else None
+
+  abbrev noted_for : WorkerRow → Option Registration → Option Outcome
+  noted_for row found =
+      option_map
+      (λ r. noted (called (state_of host) (who.Handler worker in_phase number) (shown_worker row) in_phase r.key asked) row.number)
+      found
+
+  -- what holds of the next call of a worker holds of what its event comes to
+  pub next_holds : (row : WorkerRow) (of : RegistrationRow) → worker_at worker host.workers.rows ≡ Some row → registration_at row.registration host.registrations.rows ≡ Some of
+      → P (noted_call (who.Handler worker in_phase number) in_phase row of.key asked (state_of host))
+      → IfSome (make_call (state_of host) (who.Handler worker in_phase number) asked) P
+  next_holds row of there held holds =
+      subst (λ (o : Option Worker). IfSome (option_and_then next_of o) P) (sym (row_shown host worker row there))
+      (by (is_next_call (state_of host) (shown_worker row) in_phase number asked))
+    where
+      by : (is_next : Bool) → IfSome (if is_next then call_by (state_of host) (who.Handler worker in_phase number) (shown_worker row) in_phase asked else None) P
+      by true = subst (λ (o : Option Registration). IfSome (noted_for row o) P) (sym (of_shown host.scopes host.workers host.registrations host.clients (rest_of host) row of held)) holds
+      by false = tt
+
 module _ (host : Hosted) (worker : ℕ) (in_phase : Phase) (number : ℕ) (asked : Call) (work : Work) where
   -- what the next call comes to is the meaning of a work
   abbrev IsMeant : Option Outcome → Type 0
@@ -313,11 +384,7 @@ module _ (host : Hosted) (worker : ℕ) (in_phase : Phase) (number : ℕ) (asked
 
     pub next_means : (of : RegistrationRow) → registration_at row.registration host.registrations.rows ≡ Some of
         → Means work host (noted_call (who.Handler worker in_phase number) in_phase row of.key asked (state_of host)) → IsMeant comes
-    next_means of held means = by_row (by (is_next_call (state_of host) (shown_worker row) in_phase number asked))
-      where
-        by : (is_next : Bool) → IsMeant (if is_next then call_by (state_of host) (who.Handler worker in_phase number) (shown_worker row) in_phase asked else None)
-        by true = subst (λ (o : Option Registration). IsMeant (by_registration o)) (sym (of_shown host.scopes host.workers host.registrations host.clients (rest_of host) row of held)) means
-        by false = tt
+    next_means of held means = next_holds host worker in_phase number asked (Means work host) row of there held means
 
     pub works_next : (new : Hosted) (of : RegistrationRow) (called_for : Call) → registration_at row.registration host.registrations.rows ≡ Some of → asked ≡ called_for
         → Means work host (noted_call (who.Handler worker in_phase number) in_phase row of.key called_for (state_of host)) → FitsWork work new → Works host new comes work

@@ -1,7 +1,8 @@
 -- What was worked out on the tables of a host was worked out on the host.
 use Rattle.std.proofs.Common.{◌≡◌, ◌∙◌, ℕ, Option, Some, None, IfSome, option_map, refl, sym, ap, subst}
 use Rattle.sw_core.specs.Hosted.{Hosted, SameRows}
-use Rattle.sw_core.specs.Plans.{Agree}
+use Rattle.sw_core.specs.Plans.{IsAsked}
+use Rattle.sw_core.specs.declared.plan.Asked.{Asked}
 use Rattle.sw_core.specs.declared.core_tables.Core.TheInside.{Inside}
 use Rattle.sw_core.proofs.Same.{same_refl}
 use Rattle.sw_data.specs.declared.events.Event.{Event}
@@ -69,10 +70,11 @@ module _ (who : Who) (state : State) (asked : Option Outcome) (found : Option Wo
       → IfSome asked (λ outcome. outcome ≡ outcome_of who worked state)
   nothing_given worked is same = none_given (outcome_of who worked state) asked (sym (ap (option_map (λ (w : Worked). outcome_of who w state)) is) ∙ same)
 
--- an outcome that is another one agrees as that does
-pub agrees_too : (mine theirs : Outcome) (asked : Option Outcome) → Agree mine theirs → IfSome asked (λ outcome. outcome ≡ mine) → IfSome asked (λ outcome. Agree outcome theirs)
-agrees_too mine theirs None agrees is = tt
-agrees_too mine theirs (Some outcome) agrees is = subst (λ (o : Outcome). Agree o theirs) (sym is) agrees
+-- an outcome that is another one is that of what was asked, as that is
+pub agrees_too : (mine : Outcome) (asked : Asked) (state : State) (comes : Option Outcome) → IsAsked mine asked state → IfSome comes (λ outcome. outcome ≡ mine)
+    → IfSome comes (λ outcome. IsAsked outcome asked state)
+agrees_too mine asked state None agrees is = tt
+agrees_too mine asked state (Some outcome) agrees is = subst (λ (o : Outcome). IsAsked o asked state) (sym is) agrees
 
 -- ---- steps that may not be enabled
 

@@ -1,9 +1,11 @@
 pub mod Applying
+pub mod Asking
 pub mod Beginning
 pub mod Begun
 pub mod Boards
 pub mod Busy
 pub mod Calling
+pub mod Changing
 pub mod Coherence
 pub mod Doing
 pub mod FetchLists

@@ -3,7 +3,7 @@ use Rattle.std.proofs.Common.{◌≡◌, true, Option, Some, None, IfSome, is_so
 use Rattle.sw_cachestorage.specs.Actions.{CacheAction, cache_action}
 use Rattle.sw_cachestorage.specs.Acts.{IsStep}
 use Rattle.sw_cachestorage.specs.declared.act.CacheStep.{CacheStep}
-use Rattle.sw_core.specs.Plans.{Agree, outcome_of}
+use Rattle.sw_core.specs.Plans.{IsAsked}
 use Rattle.sw_core.specs.declared.plan.Act.TheVariants as act
 use Rattle.sw_core.specs.declared.plan.Asked.{Asked}
 use Rattle.sw_core.specs.declared.plan.Then.TheVariants as then
@@ -22,10 +22,11 @@ asked_of worked = record { answer = worked.answer; act = act.Caches worked.act; 
 
 pub agrees : (state : State) (found : Option CacheAction) (worked : CacheStep)
     → IfSome found (λ action. IsStep state.caches (λ s. with_key s action.place (action.act s)) worked)
-    → IfSome found (λ action. Agree (with_key state action.place (action.act state)) (outcome_of (asked_of worked) state))
+    → IfSome found (λ action. IsAsked (with_key state action.place (action.act state)) (asked_of worked) state)
 agrees state None worked comes = tt
 agrees state (Some action) worked comes =
-    let is = comes state in record { answer = is.answer; state = is.state_is; notices = is.notices }
+    let is = comes state in
+    record { same = record { answer = is.answer; state = is.state_is; notices = is.notices }; changes = tt }
 
 -- what an action does, where it is one
 abbrev done_by : State → Option CacheAction → Option Outcome
@@ -49,12 +50,12 @@ step_of_action state _ is by = absurd cc
 
 -- what an action on caches of a lane comes to is its step
 pub steps : (state : State) (happened : Event) (asked : Asked) → is_some (cache_action happened) ≡ true → is_lane (who_of happened) ≡ true
-    → IfSome (cache_action happened) (λ action. Agree (with_key state action.place (action.act state)) (outcome_of asked state))
-    → IfSome (step state happened) (λ outcome. Agree outcome (outcome_of asked state))
+    → IfSome (cache_action happened) (λ action. IsAsked (with_key state action.place (action.act state)) asked state)
+    → IfSome (step state happened) (λ outcome. IsAsked outcome asked state)
 steps state happened asked is made comes =
-    subst (λ (o : Option Outcome). IfSome o (λ outcome. Agree outcome (outcome_of asked state))) (sym (step_of_action state happened is made)) (by (cache_action happened) comes)
+    subst (λ (o : Option Outcome). IfSome o (λ outcome. IsAsked outcome asked state)) (sym (step_of_action state happened is made)) (by (cache_action happened) comes)
   where
-    by : (found : Option CacheAction) → IfSome found (λ action. Agree (with_key state action.place (action.act state)) (outcome_of asked state))
-        → IfSome (done_by state found) (λ outcome. Agree outcome (outcome_of asked state))
+    by : (found : Option CacheAction) → IfSome found (λ action. IsAsked (with_key state action.place (action.act state)) asked state)
+        → IfSome (done_by state found) (λ outcome. IsAsked outcome asked state)
     by None comes = tt
     by (Some action) comes = comes

@@ -1,10 +1,9 @@
 -- What a call of a worker's handler comes to, and what its act needs of a host.
-use Rattle.std.specs.Prelude.{◌≡◌, ℕ, Bool, true, false, List, Some}
+use Rattle.std.specs.Prelude.{◌≡◌, ℕ, true, List, Some}
 use Rattle.sw_core.specs.Hosted.{Hosted, state_of}
 use Rattle.sw_core.specs.Plans.{FitsPageAct, has_calls_left}
 use Rattle.sw_data.specs.declared.events.Who.{Who}
 use Rattle.sw_data.specs.declared.recordings.Call.{Call}
-use Rattle.sw_data.specs.declared.recordings.Call.TheVariants as call
 use Rattle.sw_data.specs.declared.rows.WorkerRow.{WorkerRow}
 use Rattle.sw_data.specs.declared.workers.Phase.{Phase}
 use Rattle.sw_pages.specs.Acts.{told_by}
@@ -14,15 +13,6 @@ use Rattle.sw_rules.specs.State.{State}
 use Rattle.sw_rules.specs.Told.{Outcome}
 use Rattle.sw_tables.specs.Lent.{shown_worker}
 use Rattle.sw_worker.specs.Table.{worker_at}
-
--- own: a call acts on caches, and has no fetches
-abbrev pub is_on_caches : Call → Bool
-is_on_caches (call.CacheOpen name) = true
-is_on_caches (call.CacheDelete name) = true
-is_on_caches (call.Put put) = true
-is_on_caches (call.Delete asked) = true
-is_on_caches (call.Batch asked) = true
-is_on_caches _ = false
 
 -- own: what a call comes to in the name of the worker of a row, which notes it
 abbrev pub noted_call : Who → Phase → WorkerRow → List ℕ → Call → State → Outcome

@@ -24,6 +24,7 @@ use Rattle.sw_data.specs.declared.answers.Fault.{Fault}
 use Rattle.sw_data.specs.declared.recordings.FetchLine.{FetchLine}
 use Rattle.sw_data.specs.declared.rows.JobKind.TheVariants as job_kind
 use Rattle.sw_data.specs.declared.rows.JobRow.{JobRow}
+use Rattle.sw_data.specs.declared.storage.Change.{Change}
 use Rattle.sw_data.specs.Addresses.{without_fragment}
 use Rattle.sw_activate.specs.Answers.{unregister_refusal}
 use Rattle.sw_install.specs.Fetches.{ComesTo, HasNewWorker}
@@ -97,12 +98,27 @@ pub record Agree (one other : Outcome) : Type 0 where
   pub state : one.told.state ≡ other.told.state
   pub notices : one.told.notices ≡ other.told.notices
 
+-- own: what is told of durable changes; an act on caches tells its own by the event that it is of
+abbrev pub TellSame : Act → List Change → List Change → Type 0
+TellSame (act.Caches done) one other = Unit {0}
+TellSame _ one other = one ≡ other
+
+-- own: an outcome in a state is that of an action or a call that was worked out
+pub record IsAsked (outcome : Outcome) (asked : Asked) (state : State) : Type 0 where
+  pub same : Agree outcome (outcome_of asked state)
+  pub changes : TellSame asked.act outcome.told.changes (outcome_of asked state).told.changes
+
+-- own: an outcome in a state is that of an addAll that goes on to its fetches, which has no durable changes
+pub record IsStarted (outcome : Outcome) (reply : Answer) (new : NewAddAll) (then : Then) (state : State) : Type 0 where
+  pub same : Agree outcome (started_outcome reply new then state)
+  pub changes : outcome.told.changes ≡ []
+
 -- ---- what a work comes to
 
 -- own: a work, done on a host, comes to this outcome
 abbrev pub Means : Work → Hosted → Outcome → Type 0
-Means (work.Asked asked) host outcome = Agree outcome (outcome_of asked (state_of host))
-Means (work.Start answer new then) host outcome = Agree outcome (started_outcome answer new then (state_of host))
+Means (work.Asked asked) host outcome = IsAsked outcome asked (state_of host)
+Means (work.Start answer new then) host outcome = IsStarted outcome answer new then (state_of host)
 Means (work.Register job refusal fetch preload rows) host outcome = registering.run (state_of host) job ≡ Some outcome
 Means (work.Update job fetch) host outcome = registering.run (state_of host) job ≡ Some outcome
 Means (work.Unregister job refusal) host outcome = registering.run (state_of host) job ≡ Some outcome

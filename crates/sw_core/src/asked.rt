@@ -3,7 +3,7 @@
 ghost use Rattle.std.specs.Prelude.{◌≡◌, None, IfOk};
 ghost use Rattle.sw_core.specs.Hosted.{Hosted, SameRows};
 ghost use Rattle.sw_core.specs.Paged.{FitsHost};
-ghost use Rattle.sw_core.specs.Plans.{Agree, FitsAsked, FitsTheAct, FitsThen, caller_of, outcome_of, told_by_act, told_then};
+ghost use Rattle.sw_core.specs.Plans.{FitsAsked, FitsTheAct, FitsThen, IsAsked, caller_of, told_by_act, told_then};
 ghost use Rattle.sw_data.specs.declared.events.Who.TheVariants as maker;
 ghost use Rattle.sw_pages.specs.Acts as pages;
 ghost use Rattle.sw_pages.specs.Fits.{FitsPage};
@@ -74,8 +74,7 @@ impl Core {
         ensures same { SameRows self.old self.new }
         ensures fits { IfOk result (λ asked. FitsAsked asked self.new) }
         ensures agrees { IfOk result (λ asked. (state : State)
-            → Agree (pages.outcome_of (maker.Lane lane at) worked state)
-            (outcome_of asked state)) }
+            → IsAsked (pages.outcome_of (maker.Lane lane at) worked state) asked state) }
     {
         let Worked {
             answer,

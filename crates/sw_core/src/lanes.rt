@@ -6,7 +6,7 @@ ghost use Rattle.sw_cachestorage.specs.Adding as adding;
 ghost use Rattle.sw_cachestorage.specs.Adding.{FitsStart};
 ghost use Rattle.sw_core.specs.Hosted.{Hosted, SameRows, state_of};
 ghost use Rattle.sw_core.specs.Paged.{FitsHost, is_of_storage};
-ghost use Rattle.sw_core.specs.Plans.{Agree, FitsAsked, FitsWork, Means, Works, outcome_of};
+ghost use Rattle.sw_core.specs.Plans.{FitsAsked, FitsWork, IsAsked, Means, Works};
 ghost use Rattle.sw_data.specs.declared.events.Who.TheVariants as maker;
 ghost use Rattle.sw_data.specs.Events.{is_lane, who_of};
 ghost use Rattle.sw_laws.specs.Coherent.{Coherent};
@@ -106,8 +106,8 @@ impl Core {
         ensures same { SameRows self.old self.new }
         ensures fits { IfOk result (λ asked. FitsAsked asked self.new) }
         ensures agrees { IfOk result (λ asked. IfSome (cache_action event.now) (λ action.
-            Agree (rules.with_key (state_of self.old) action.place (action.act (state_of self.old)))
-            (outcome_of asked (state_of self.old)))) }
+            IsAsked (rules.with_key (state_of self.old) action.place (action.act (state_of self.old)))
+            asked (state_of self.old))) }
     {
         let step = prepare_on_caches(alloc, &mut self.caches, event)?;
         Ok(Asked {
@@ -183,8 +183,8 @@ impl Core {
     fn forget(&self, alloc: Global, place: &Place) -> Result<Asked, NoMemory>
         ensures fits { IfOk result (λ asked. FitsAsked asked self.now) }
         ensures agrees { IfOk result (λ asked.
-            Agree (rules.with_key (state_of self.now) place.now (rules.forget (state_of self.now)))
-            (outcome_of asked (state_of self.now))) }
+            IsAsked (rules.with_key (state_of self.now) place.now (rules.forget (state_of self.now)))
+            asked (state_of self.now)) }
     {
         let key = match place_key(alloc, place)? {
             Ok(key) => key,

@@ -11,7 +11,7 @@ pub returns-in-Start : goal.returns-in-Start
 returns-in-Start c outcome means =
     let agrees = subst (λ (w : Work). Means w c.args.self.now outcome) c.in-Start.is means in
     agree_goes outcome (started_outcome c.in-Start.answer c.in-Start.new c.in-Start.then (state_of c.args.self.now)) c.do_start.result c.args.notices.now c.args.notices.now
-    (state_of c.do_start.new.self) agrees (c.do_start.ensures c.args.notices.now)
+    (state_of c.do_start.new.self) agrees.same (c.do_start.ensures c.args.notices.now)
 
 pub returns-in-Fetched : goal.returns-in-Fetched
 returns-in-Fetched c outcome means =
