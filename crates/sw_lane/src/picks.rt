@@ -20,7 +20,8 @@ pub trait Board {
 
     /// Whether this action may happen as the next one of this lane.
     fn lane_ready(&self, lane: u32, action: &Action) -> bool
-        ensures { (at : ℕ) → result ≡ enabled (state self.now) (event_of_action (Lane lane at) action.now) };
+        ensures { (at : ℕ) → result
+            ≡ enabled (state self.now) (event_of_action (Lane lane at) action.now) };
 
     /// The first ready task that isn't in flight.
     fn next_task(&self) -> Option<Task>
