@@ -29,6 +29,7 @@ pub(crate) fn add_record<D: Disk>(
         (λ image. OnPart part (IsTornRecord gate bytes.now)) }
     ensures calls { OnOk result (D.clock disk.new ≡ capped (D.clock disk.old + 4)) }
     ensures most { D.clock disk.new ≤ D.clock disk.old + 4 }
+    ensures later { D.clock disk.old ≤ D.clock disk.new }
     ensures cause { HasCause (D.faults disk.old) (D.faults disk.new) result }
 {
     write_synced(disk, part, gate + 1, bytes)?;

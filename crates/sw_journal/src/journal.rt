@@ -204,6 +204,7 @@ impl Journal {
 
         ensures calls { OnOk result (D.clock disk.new ≡ capped (D.clock disk.old + 4)) }
         ensures most { D.clock disk.new ≤ D.clock disk.old + 4 }
+        ensures later { D.clock disk.old ≤ D.clock disk.new }
         ensures fault { IsErrOf result AppendError.DiskFault
             → Rose (D.faults disk.old) (D.faults disk.new) }
         ensures count { D.faults disk.old ≤ D.faults disk.new }

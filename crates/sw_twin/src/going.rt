@@ -17,6 +17,7 @@ fn write_part<D: Disk>(disk: &mut D, part: Part, contents: &[u8]) -> Result<(), 
     ensures any_moment { LeavesSteps D.Disk disk.old disk.new (λ image. OnPart part Anything) }
     ensures calls { OnOk result (D.clock disk.new ≡ capped (D.clock disk.old + 3)) }
     ensures most { D.clock disk.new ≤ D.clock disk.old + 3 }
+    ensures later { D.clock disk.old ≤ D.clock disk.new }
     ensures cause { HasCause (D.faults disk.old) (D.faults disk.new) result }
 {
     disk.cut(part, 0)?;
@@ -32,6 +33,7 @@ fn add_one<D: Disk>(disk: &mut D, ones: u64) -> Result<(), Failed>
     ensures any_moment { LeavesSteps D.Disk disk.old disk.new (λ image. OnPart Root Anything) }
     ensures calls { OnOk result (D.clock disk.new ≡ capped (D.clock disk.old + 4)) }
     ensures most { D.clock disk.new ≤ D.clock disk.old + 4 }
+    ensures later { D.clock disk.old ≤ D.clock disk.new }
     ensures cause { HasCause (D.faults disk.old) (D.faults disk.new) result }
 {
     write_synced(disk, Part::Root, ones, &[0, 0])?;
@@ -54,6 +56,7 @@ pub(crate) fn go_over<D: Disk>(
         (λ image. IsGoingOver part contents.now) }
     ensures calls { OnOk result (D.clock disk.new ≡ capped (D.clock disk.old + 7)) }
     ensures most { D.clock disk.new ≤ D.clock disk.old + 7 }
+    ensures later { D.clock disk.old ≤ D.clock disk.new }
     ensures cause { HasCause (D.faults disk.old) (D.faults disk.new) result }
 {
     write_part(disk, part, contents)?;

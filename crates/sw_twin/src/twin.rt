@@ -77,6 +77,7 @@ impl Twin {
         // Nothing is written. It syncs first. Unless that call is the one that failed, what reads give is sure, and a
         // crash since one call after the entry has left nothing else.
         ensures quiet { IsQuiet D.Disk disk.old disk.new }
+        ensures first_call { capped (D.clock disk.old + 1) ≤ D.clock disk.new }
         ensures durable { (IsErrOf result ReopenError.DiskFault
             → IsPastFirst D.Disk disk.old disk.new) → IsDurable D.Disk disk.new }
         ensures first { (IsErrOf result ReopenError.DiskFault
@@ -187,6 +188,7 @@ impl Twin {
 
         ensures calls { OnOk result (D.clock disk.new ≡ capped (D.clock disk.old + 4)) }
         ensures most { D.clock disk.new ≤ D.clock disk.old + 4 }
+        ensures later { D.clock disk.old ≤ D.clock disk.new }
         ensures fault { IsErrOf result AppendError.DiskFault
             → Rose (D.faults disk.old) (D.faults disk.new) }
         ensures count { D.faults disk.old ≤ D.faults disk.new }
@@ -244,6 +246,7 @@ impl Twin {
 
         ensures calls { OnOk result (D.clock disk.new ≡ capped (D.clock disk.old + 7)) }
         ensures most { D.clock disk.new ≤ D.clock disk.old + 7 }
+        ensures later { D.clock disk.old ≤ D.clock disk.new }
         ensures fault { IsErrOf result CheckpointError.DiskFault
             → Rose (D.faults disk.old) (D.faults disk.new) }
         ensures count { D.faults disk.old ≤ D.faults disk.new }
