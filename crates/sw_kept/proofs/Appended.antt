@@ -1,5 +1,5 @@
 -- What a disk keeps once changes were appended, and while they are.
-use Rattle.std.proofs.Common.{◌≡◌, ◌⊎◌, inl, inr, ⊎_elim, ℕ, List, [], Option, Some, None, refl, Result, Ok, Err, sym, ◌∙◌, ap, subst}
+use Rattle.std.proofs.Common.{◌≡◌, ◌⊎◌, inl, inr, ⊎_elim, ℕ, List, Option, Some, None, refl, Result, Ok, Err, sym, ◌∙◌, subst}
 use Rattle.std.specs.Prelude.{OnOk}
 use Rattle.sw_codec.proofs.LawLemmas.{read_again}
 use Rattle.sw_codec.specs.Reading.{read_changes}
@@ -12,7 +12,7 @@ use Rattle.sw_disk.specs.Meanings.{Becomes, IsDurable, LeavesOnly, LeavesSteps}
 use Rattle.sw_disk.proofs.Images.{told_at, told_some}
 use Rattle.sw_disk.proofs.Moments.{weaker}
 use Rattle.sw_journal.specs.Journal.{Since}
-use Rattle.sw_kept.specs.Keeping.{KeepsNow, LeavesEither, Spell}
+use Rattle.sw_kept.specs.Keeping.{KeepsNow, LeavesEither, Spell, StaysTold}
 use Rattle.sw_kept.specs.Stored.{HasKept}
 use Rattle.sw_kept.proofs.Contents.{more_kept, same_kept}
 use Rattle.sw_rules.specs.Storage.{kept_after}
@@ -24,6 +24,16 @@ told_after None None R Q so became = tt
 told_after None (Some b) R Q so became = absurd became
 told_after (Some a) None R Q so became = tt
 told_after (Some a) (Some b) R Q so became = so a b refl became
+
+told_still : (old new : Option Image) (R : Image → Image → Type 0) → BothTold old new R → BothTold old new (λ before after. Unit {0})
+told_still None None R became = tt
+told_still None (Some b) R became = absurd became
+told_still (Some a) None R became = absurd became
+told_still (Some a) (Some b) R became = tt
+
+-- a disk whose bytes became what is in some relation to them tells as before
+pub stays_told : {D : Type 0} (disk : Ghosts D) (start end : D) (R : Image → Image → Type 0) → Becomes disk start end R → StaysTold disk start end
+stays_told disk start end R became = told_still (disk.seen start) (disk.seen end) R became
 
 -- what follows from three things that hold after Ok
 pub ok_three : {T E : Type 0} (result : Result T E) (A B C P : Type 0) → (A → B → C → P) → OnOk result A → OnOk result B → OnOk result C → OnOk result P

@@ -1,10 +1,9 @@
 -- A content that is written as a whole part, and what a disk keeps while it goes over to it.
-use Rattle.std.proofs.Common.{◌≡◌, ◌≢◌, inl, inr, ℕ, suc, ◌+◌, ◌<◌, ◌^◌, List, [], ◌∷◌, ◌++◌, length, All, Some, Ok, Err, Result, refl, sym, ◌∙◌, ap, subst}
+use Rattle.std.proofs.Common.{◌≡◌, inl, inr, ℕ, ◌+◌, ◌<◌, ◌^◌, List, [], ◌∷◌, ◌++◌, length, All, Ok, Err, Result, refl, ◌∙◌, ap}
 use Rattle.std.proofs.lemmas.List.Elements.{All-cons, All-nil}
 use Rattle.std.specs.Prelude.{IfOk}
 use Rattle.sw_change.proofs.LawLemmas.{rebuilt}
 use Rattle.sw_codec.proofs.LawLemmas.{read_again}
-use Rattle.sw_codec.specs.Reading.{read_changes}
 use Rattle.sw_data.specs.declared.storage.Change.{Change}
 use Rattle.sw_data.specs.declared.storage.Kept.{Kept}
 use Rattle.sw_disk.specs.declared.disk.Disk.{Ghosts}

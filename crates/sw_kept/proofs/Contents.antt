@@ -1,11 +1,11 @@
 -- Contents that records make.
-use Rattle.std.proofs.Common.{◌≡◌, ℕ, Bool, true, false, List, [], ◌∷◌, ◌++◌, Result, Ok, Err, sym, ◌∙◌, ap, subst}
+use Rattle.std.proofs.Common.{◌≡◌, ℕ, true, false, List, [], ◌∷◌, ◌++◌, Result, Ok, Err, sym, ◌∙◌, ap, subst}
 use Rattle.std.proofs.lemmas.List.Sums.{fold-append}
 use Rattle.sw_codec.specs.Reading.{read_changes}
 use Rattle.sw_data.specs.declared.storage.Change.{Change}
 use Rattle.sw_data.specs.declared.storage.Kept.{Kept}
 use Rattle.sw_disk.specs.Image.{Image}
-use Rattle.sw_journal.specs.Content.{Content, Records}
+use Rattle.sw_journal.specs.Content.{Records}
 use Rattle.sw_kept.specs.Stored.{Stored, HasKept, IsCarried, Keeps, carried, kept_by, made_by, stored_of}
 use Rattle.sw_rules.specs.Storage.{IsMade, applied, kept_after, nothing}
 use Rattle.sw_twin.specs.Current.{content_of}

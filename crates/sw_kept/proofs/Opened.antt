@@ -1,12 +1,11 @@
 -- What a disk keeps that was opened.
-use Rattle.std.proofs.Common.{◌≡◌, ℕ, List, Some, Result, Ok, Err, sym, ◌∙◌, ap, subst}
+use Rattle.std.proofs.Common.{◌≡◌, ℕ, List, Ok, Err, ◌∙◌, ap}
 use Rattle.sw_data.specs.declared.storage.Kept.{Kept}
 use Rattle.sw_disk.specs.declared.disk.Disk.{Ghosts}
 use Rattle.sw_disk.specs.DiskRule.{ForTold}
-use Rattle.sw_disk.specs.Image.{Image}
 use Rattle.sw_disk.proofs.Images.{told_at, told_some}
 use Rattle.sw_journal.specs.Content.{BadAt, NotFormatted, Records}
-use Rattle.sw_kept.specs.Stored.{HasKept, Stored, Bad, Unformatted, bad_by, kept_by, made_by, stored, stored_of}
+use Rattle.sw_kept.specs.Stored.{HasKept, Bad, Unformatted, bad_by, kept_by, made_by, stored, stored_of}
 use Rattle.sw_rules.specs.Storage.{nothing}
 use Rattle.sw_twin.specs.Current.{content_of}
 

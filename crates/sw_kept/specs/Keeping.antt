@@ -6,7 +6,7 @@ use Rattle.sw_data.specs.declared.storage.Kept.{Kept}
 use Rattle.sw_disk.specs.declared.disk.Disk.{Ghosts}
 use Rattle.sw_disk.specs.DiskRule.{ForTold}
 use Rattle.sw_disk.specs.Image.{Image}
-use Rattle.sw_disk.specs.Meanings.{LeavesOnly}
+use Rattle.sw_disk.specs.Meanings.{Becomes, LeavesOnly}
 use Rattle.sw_kept.specs.Stored.{HasKept}
 use Rattle.sw_twin.specs.Twin.{StandsFor, TwinState}
 
@@ -21,6 +21,10 @@ pub record KeepsNow {D : Type 0} (twin : TwinState) (kept : Kept) (disk : Ghosts
 abbrev pub LeavesEither : {D : Type 0} → Ghosts D → (old new : D) → Kept → Kept → Type 0
 LeavesEither disk old new kept other =
     ForTold (disk.seen old) (λ image. LeavesOnly disk old new (λ c. HasKept kept c ⊎ HasKept other c))
+
+-- own: a disk that tells what reads give still tells it, and one that doesn't still doesn't
+abbrev pub StaysTold : {D : Type 0} → Ghosts D → (old new : D) → Type 0
+StaysTold disk old new = Becomes disk old new (λ before after. Unit {0})
 
 -- own: these bytes spell these changes, of which there is at least one
 pub record Spell (changes : List Change) (bytes : List ℕ) : Type 0 where

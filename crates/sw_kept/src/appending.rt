@@ -7,7 +7,7 @@ ghost use Rattle.sw_data.specs.Faults.{Rose};
 ghost use Rattle.sw_disk.specs.DiskRule.{ForTold, capped};
 ghost use Rattle.sw_journal.specs.Format.{format_2, needed_length};
 ghost use Rattle.sw_journal.specs.Journal.{Since};
-ghost use Rattle.sw_kept.specs.Keeping.{KeepsNow, LeavesEither, Spell};
+ghost use Rattle.sw_kept.specs.Keeping.{KeepsNow, LeavesEither, Spell, StaysTold};
 ghost use Rattle.sw_kept.specs.Stored.{HasKept};
 ghost use Rattle.sw_rules.specs.Storage.{kept_after};
 ghost use Rattle.sw_twin.specs.Twin.{StandsFor};
@@ -16,7 +16,6 @@ use sw_disk::Disk;
 use sw_twin::{AppendError, Twin};
 
 /// Appends changes, which the payload spells, as one record. It takes no memory.
-
 pub fn append<D: Disk>(twin: &mut Twin, disk: &mut D, payload: &[u8]) -> Result<(), AppendError>
     requires format { twin.old.journal.format ≡ format_2 }
     requires room { length payload.now ≤ twin.old.journal.spare }
@@ -43,6 +42,7 @@ pub fn append<D: Disk>(twin: &mut Twin, disk: &mut D, payload: &[u8]) -> Result<
         → OnOk result (ForTold (D.seen disk.old)
         (λ image. Since D.Disk disk.new disk.new (HasKept (kept_after kept all)))) }
 
+    ensures told { OnOk result (StaysTold D.Disk disk.old disk.new) }
     ensures next { OnOk result (twin.new ≡ record twin.old {
       journal = record twin.old.journal {
         gate = twin.old.journal.gate + needed_length format_2 (length payload.now);
@@ -55,6 +55,7 @@ pub fn append<D: Disk>(twin: &mut Twin, disk: &mut D, payload: &[u8]) -> Result<
     }) }
     ensures calls { OnOk result (D.clock disk.new ≡ capped (D.clock disk.old + 4)) }
     ensures most { D.clock disk.new ≤ D.clock disk.old + 4 }
+    ensures later { D.clock disk.old ≤ D.clock disk.new }
     ensures fault { IsErrOf result AppendError.DiskFault
         → Rose (D.faults disk.old) (D.faults disk.new) }
     ensures count { D.faults disk.old ≤ D.faults disk.new }

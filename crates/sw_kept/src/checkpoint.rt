@@ -6,7 +6,7 @@ ghost use Rattle.sw_data.specs.Faults.{Rose};
 ghost use Rattle.sw_disk.specs.DiskRule.{ForTold, capped};
 ghost use Rattle.sw_disk.specs.Meanings.{LeavesOnly};
 ghost use Rattle.sw_journal.specs.Format.{format_2};
-ghost use Rattle.sw_kept.specs.Keeping.{KeepsNow};
+ghost use Rattle.sw_kept.specs.Keeping.{KeepsNow, StaysTold};
 ghost use Rattle.sw_kept.specs.Spelling.{IsContents, SpellEach, SpellsOne};
 ghost use Rattle.sw_kept.specs.Stored.{HasKept};
 ghost use Rattle.sw_rules.specs.Storage.{IsMade};
@@ -73,11 +73,13 @@ pub fn go_over<D: Disk>(
         → ForTold (D.seen disk.old)
         (λ image. LeavesOnly D.Disk disk.old disk.new (HasKept kept)) }
 
+    ensures told { OnOk result (StaysTold D.Disk disk.old disk.new) }
     ensures place { OnOk result (twin.new.journal.format ≡ format_2) }
     ensures limit { twin.new.journal.limit ≡ twin.old.journal.limit }
     ensures same { OnErr result (twin.new ≡ twin.old) }
     ensures calls { OnOk result (D.clock disk.new ≡ capped (D.clock disk.old + 7)) }
     ensures most { D.clock disk.new ≤ D.clock disk.old + 7 }
+    ensures later { D.clock disk.old ≤ D.clock disk.new }
     ensures fault { IsErrOf result CheckpointError.DiskFault
         → Rose (D.faults disk.old) (D.faults disk.new) }
     ensures count { D.faults disk.old ≤ D.faults disk.new }

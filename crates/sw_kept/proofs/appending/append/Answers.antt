@@ -2,9 +2,9 @@ use Rattle.sw_disk.specs.DiskRule.{ForTold}
 use Rattle.sw_disk.specs.Meanings.{Becomes, IsDurable}
 use Rattle.sw_disk.proofs.Images.{ok_so}
 use Rattle.sw_journal.specs.Journal.{Since}
-use Rattle.sw_kept.proofs.Appended.{keeps_more, leaves_either, ok_three, since_more}
+use Rattle.sw_kept.proofs.Appended.{keeps_more, leaves_either, ok_three, since_more, stays_told}
 use Rattle.sw_kept.proofs.appending.append.Goals as goal
-use Rattle.sw_kept.specs.Keeping.{KeepsNow}
+use Rattle.sw_kept.specs.Keeping.{KeepsNow, StaysTold}
 use Rattle.sw_kept.specs.Stored.{HasKept}
 use Rattle.sw_rules.specs.Storage.{kept_after}
 use Rattle.sw_twin.specs.Twin.{HasMore, StandsFor}
@@ -33,3 +33,11 @@ returns-clause-acknowledged g c kept all spells keeps =
     let payload = c.args.payload.now in
     ok_so c.append.result (ForTold (disk.seen start) (λ image. Since disk end end (HasMore twin payload image))) (ForTold (disk.seen start) (λ image. Since disk end end (HasKept (kept_after kept all))))
     (since_more twin kept disk start end keeps payload all spells) c.append.ensures.acknowledged
+
+pub returns-clause-told : goal.returns-clause-told
+returns-clause-told g c =
+    let disk = g.D.Disk in
+    let start = c.args.disk.now in
+    let end = c.append.new.disk in
+    let more = HasMore c.args.twin.now c.args.payload.now in
+    ok_so c.append.result (Becomes disk start end more) (StaysTold disk start end) (stays_told disk start end more) c.append.ensures.added

@@ -1,10 +1,12 @@
 use Rattle.std.proofs.Common.{◌≡◌}
+use Rattle.sw_disk.specs.Image.{Image}
 use Rattle.sw_disk.specs.Meanings.{Becomes, IsDurable}
+use Rattle.sw_disk.proofs.Images.{ok_so}
 use Rattle.sw_journal.specs.Content.{content}
-use Rattle.sw_kept.proofs.Appended.{ok_three}
+use Rattle.sw_kept.proofs.Appended.{ok_three, stays_told}
 use Rattle.sw_kept.proofs.Checkpoints.{keeps_over, leaves_over}
 use Rattle.sw_kept.proofs.checkpoint.go_over.Goals as goal
-use Rattle.sw_kept.specs.Keeping.{KeepsNow}
+use Rattle.sw_kept.specs.Keeping.{KeepsNow, StaysTold}
 use Rattle.sw_twin.specs.Current.{content_of}
 use Rattle.sw_twin.specs.Twin.{StandsFor}
 
@@ -21,3 +23,11 @@ returns-clause-keeps g c kept is keeps =
 pub returns-clause-any_moment : goal.returns-clause-any_moment
 returns-clause-any_moment g c kept is keeps =
     leaves_over c.args.twin.now kept g.D.Disk c.args.disk.now c.checkpoint.new.disk keeps c.args.contents.now is.keeps c.checkpoint.ensures.any_moment
+
+pub returns-clause-told : goal.returns-clause-told
+returns-clause-told g c =
+    let disk = g.D.Disk in
+    let start = c.args.disk.now in
+    let end = c.checkpoint.new.disk in
+    let has = λ (old new : Image). content_of new ≡ content c.args.contents.now in
+    ok_so c.checkpoint.result (Becomes disk start end has) (StaysTold disk start end) (stays_told disk start end has) c.checkpoint.ensures.has

@@ -1,7 +1,6 @@
-use Rattle.std.proofs.Common.{◌≡◌, List, ℕ, Bool, true, false, ◌+◌, ◌∷◌, [], drop, refl, sym, ◌∙◌, ap, subst}
+use Rattle.std.proofs.Common.{Bool, true, false, ◌+◌, ◌∷◌, drop, sym, ◌∙◌, ap, subst}
 use Rattle.std.proofs.lemmas.List.{drop_all, drop_more}
-use Rattle.sw_data.specs.declared.storage.Kept.{Kept}
-use Rattle.sw_kept.proofs.Contents.{bad, carried_on, carried_off, ok}
+use Rattle.sw_kept.proofs.Contents.{carried_on, carried_off}
 use Rattle.sw_kept.specs.Stored.{IsCarried, made_by}
 use Rattle.sw_kept.proofs.content.content_by.Goals as goal
 

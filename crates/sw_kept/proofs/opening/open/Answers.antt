@@ -1,5 +1,5 @@
-use Rattle.std.proofs.Common.{[], refl, sym, ◌∙◌, ap}
-use Rattle.sw_kept.proofs.Contents.{ok, records_make}
+use Rattle.std.proofs.Common.{[], refl, sym, ◌∙◌}
+use Rattle.sw_kept.proofs.Contents.{records_make}
 use Rattle.sw_rules.specs.Storage.{nothing}
 use Rattle.sw_kept.proofs.opening.open.Goals as goal
 
