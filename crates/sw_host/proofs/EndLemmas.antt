@@ -1,124 +1,86 @@
--- A run begins with the restart from nothing, and is whole or stalled at its end.
-use Rattle.std.proofs.Common.{◌≡◌, ◌∙◌, ℕ, ◌<◌, List, [], ◌∷◌, length, Option, Some, None, refl, sym, subst, ap, arith, rules}
-use Rattle.std.proofs.lemmas.List.Elements.{All-push}
-use Rattle.std.specs.Option.{option_map_or}
-use Rattle.sw_data.specs.declared.histories.End.TheVariants as end
+-- A run that has ended on a disk, and a disk that is refused.
+use Rattle.std.proofs.Common.{◌≡◌, ◌∙◌, inr, ℕ, List, Result, Ok, Err, refl, sym, subst, ap}
+use Rattle.std.specs.Prelude.{IfOk, IsErrOf, OnErr}
 use Rattle.sw_data.specs.declared.histories.Entry.{Entry}
-use Rattle.sw_data.specs.declared.histories.Task.{Task}
 use Rattle.sw_data.specs.declared.recordings.Recording.{Recording}
-use Rattle.sw_host.specs.Playing.{IsRunTo, IsSoFar, end_of, opening}
-use Rattle.sw_host.specs.Stands.{EndsAs, status_of}
+use Rattle.sw_data.specs.declared.storage.Kept.{Kept}
+use Rattle.sw_data.specs.Faults.{Rose}
+use Rattle.sw_disk.specs.declared.disk.Disk.{Ghosts}
+use Rattle.sw_disk.specs.DiskRule.{ForTold}
+use Rattle.sw_host.specs.declared.report.Report.{Report}
 use Rattle.sw_host.specs.declared.statuses.Status.{Status}
-use Rattle.sw_lane.specs.declared.picks.Pick.TheVariants as pick
-use Rattle.sw_lane.specs.declared.picks.Work.TheVariants as work
-use Rattle.sw_lane.specs.Left.{Left, at_of}
-use Rattle.sw_lane.specs.Picked.{at_rest, lane_left, picked, ready_lane, task_left}
-use Rattle.sw_lane.specs.Recorded.{AreLanesOf, IsAtEnd}
-use Rattle.sw_lane.proofs.Following.{stays}
-use Rattle.sw_lane.proofs.Saying.{says}
-use Rattle.sw_laws.specs.Coherent.{Coherent}
-use Rattle.sw_laws.proofs.LawProofs.{after-coherent, is_always_controlled, rests_without_work}
+use Rattle.sw_host.specs.declared.statuses.Status.TheVariants as status
+use Rattle.sw_host.specs.Stands.{EndsAs, IsLeftAfter, IsReportOf, RefusesDisk, ReplaysOn, last_of, status_of}
+use Rattle.sw_journal.specs.Quiet.{IsQuiet}
+use Rattle.sw_kept.specs.Stored.{Bad, Unformatted, stored}
+use Rattle.sw_pool.specs.declared.ends.DriveEnd.{DriveEnd}
+use Rattle.sw_pool.specs.declared.ends.DriveEnd.TheVariants as drive_end
+use Rattle.sw_pool.specs.Ends.{Ended}
 use Rattle.sw_print.specs.Transcript.{transcript}
-use Rattle.sw_rules.specs.History.{after}
-use Rattle.sw_rules.specs.Picks.{Stalled}
-use Rattle.sw_rules.specs.State.{State, initial}
-use Rattle.sw_rules.specs.Storage.{nothing}
-use Rattle.sw_rules.specs.Tasks.{ready_tasks}
-use Rattle.sw_rules.proofs.HistoryLemmas.{stamped_standing}
+use Rattle.sw_store.specs.declared.errors.OpenError.{OpenError}
+use Rattle.sw_store.specs.declared.errors.OpenError.TheVariants as error
+use Rattle.sw_store.specs.Opened.{IsUnopened}
 
--- nothing has happened but the restart
-begins : (recording : Recording) (lanes : List Left) → AreLanesOf recording [] lanes → IsSoFar recording (opening ∷ []) lanes initial
-begins recording lanes ours = record {
-  legal = record {
-    made = ([], refl);
-    opens = record { event = refl; maker = refl; answer = refl; notices = refl };
-    steps = tt;
-  };
-  follows = tt;
-  picked = tt;
-  passes = All-push (λ entry. entry.pass < 1) [] opening (λ entry at. search rules) (omega arith);
-  stamps = (refl, tt);
-  lanes_are = stays recording [] lanes opening ours refl;
-  state_is = refl;
-}
+-- ---- a run that has ended
 
-pub has_begun : (recording : Recording) (history : List Entry) (lanes : List Left) (state : State) → history ≡ opening ∷ [] → state ≡ initial → AreLanesOf recording [] lanes → IsSoFar recording history lanes state
-has_begun recording history lanes state is at ours =
-    subst (λ (s : State). IsSoFar recording history lanes s) (sym at)
-    (subst (λ (h : List Entry). IsSoFar recording h lanes initial) (sym is) (begins recording lanes ours))
+-- where there was memory to the end, no run has ended for want of it
+some_status : (ended : DriveEnd) → (ended ≡ drive_end.NoMemory → ⊥) → status_of ended ≡ status.NoMemory → ⊥
+some_status drive_end.Done some is = absurd cc
+some_status (drive_end.Stalled lane) some is = absurd cc
+some_status (drive_end.DiskFault refused) some is = absurd cc
+some_status (drive_end.Full happened from needed) some is = absurd cc
+some_status drive_end.NoMemory some is = some refl
 
-module _ (recording : Recording) (history : List Entry) (lanes : List Left) (state : State) (so_far : IsSoFar recording history lanes state) where
-  -- the state on the way is coherent
-  pub sound : Coherent state
-  sound = subst Coherent so_far.state_is (after-coherent nothing history so_far.legal.made)
-
-  -- no task is ready, and every lane is at its end
-  pub ends_done : IsAtEnd recording history state → IsRunTo recording end.Done history
-  ends_done at_end =
-      let rest : ready_tasks (after nothing history) ≡ [] = ap ready_tasks so_far.state_is ∙ at_end.tasks in
-      let none = rests_without_work.rests nothing history so_far.legal rest in
-      record {
-        run = record {
-          legal = so_far.legal;
-          stamped = stamped_standing nothing 0 history so_far.stamps;
-          follows = so_far.follows;
-          controlled = is_always_controlled nothing history so_far.legal;
-          passes = so_far.passes;
-          ended = record { lanes = at_end.lanes; jobs = none.jobs; handlers = none.handlers; tasks = none.tasks; owed = none.owed };
-        };
-        picked = so_far.picked;
-      }
-
-  -- nothing may happen, and a lane has actions left
-  pub ends_stalled : (lane : ℕ) → Stalled recording history state lane → IsRunTo recording (end.Stalled lane) history
-  ends_stalled lane stalled = record {
-    run = record {
-      legal = so_far.legal;
-      stamped = stamped_standing nothing 0 history so_far.stamps;
-      follows = so_far.follows;
-      controlled = is_always_controlled nothing history so_far.legal;
-      passes = so_far.passes;
-      ended = subst (λ (s : State). Stalled recording history s lane) (sym so_far.state_is) stalled;
-    };
-    picked = so_far.picked;
+module _ {D : Type 0} (disk : Ghosts D) (start now : D) (recording : Recording) where
+  -- the status and the text of a run
+  pub ends_as : (base : Kept) (history printed : List Entry) (ended : DriveEnd) (outcome : Status) (text : List ℕ)
+      → Ended disk start now recording base history ended → printed ≡ history → outcome ≡ status_of ended → (ended ≡ drive_end.NoMemory → ⊥)
+      → text ≡ transcript printed (last_of ended) → EndsAs disk start now recording outcome text
+  ends_as base history printed ended outcome text run same is some prints = record {
+    base = base;
+    history = history;
+    ended = ended;
+    run = run;
+    ends = is;
+    some = λ none. some_status ended some (sym is ∙ none);
+    printed = prints ∙ ap (λ (entries : List Entry). transcript entries (last_of ended)) same;
   }
 
-initial_coherent : Coherent initial
-initial_coherent = after-coherent nothing (opening ∷ []) ([], refl)
+  -- what a run leaves whose text found no memory
+  pub left_by_run : {T E : Type 0} (result : Result T E) (base : Kept) (history : List Entry) (ended : DriveEnd)
+      → Ended disk start now recording base history ended → OnErr result (IsLeftAfter disk start now recording)
+  left_by_run (Ok value) base history ended run = tt
+  left_by_run (Err why) base history ended run = inr (base, history, ended, run)
 
--- nothing has happened: the state is coherent
-pub initial_sound : (state : State) → state ≡ initial → Coherent state
-initial_sound state is = subst Coherent (sym is) initial_coherent
+-- ---- a disk that is refused
 
--- the work is complete where that is picked
-pub done_at : (recording : Recording) (history : List Entry) (lanes : List Left) (state : State) (in_flight : List Task) → pick.Done ≡ picked state in_flight lanes → IsSoFar recording history lanes state → IsRunTo recording (end_of None) history
-done_at recording history lanes state in_flight is so_far =
-    ends_done recording history lanes state so_far (says recording history lanes state in_flight pick.Done is so_far.lanes_are)
+-- a report that is this one
+by_report : (P : Status → List ℕ → Type 0) (report wanted : Report) → report ≡ wanted → P wanted.status wanted.text → P report.status report.text
+by_report P report wanted is holds = subst (λ (r : Report). P r.status r.text) (sym is) holds
 
--- the run has stalled where that is picked
-pub stalled_at : (recording : Recording) (history : List Entry) (lanes : List Left) (state : State) (in_flight : List Task) (lane : ℕ) → pick.Stalled lane ≡ picked state in_flight lanes → IsSoFar recording history lanes state → IsRunTo recording (end_of (Some lane)) history
-stalled_at recording history lanes state in_flight lane is so_far =
-    ends_stalled recording history lanes state so_far lane (says recording history lanes state in_flight (pick.Stalled lane) is so_far.lanes_are)
+refuses : {T D : Type 0} (disk : Ghosts D) (old new : D) (opened : Result T OpenError) (why : OpenError) (report : Report) → opened ≡ Err why
+    → (IsErrOf opened error.NotFormatted → IsQuiet disk old new × ForTold (disk.seen old) (λ image. stored image ≡ Unformatted))
+    → ((offset : ℕ) → IsErrOf opened (error.BadJournal offset) → IsQuiet disk old new × ForTold (disk.seen old) (λ image. stored image ≡ Bad offset))
+    → (IsErrOf opened error.DiskFault → Rose (disk.faults old) (disk.faults new))
+    → IsUnopened disk old new
+    → IsReportOf why report → RefusesDisk disk old new report.status report.text
+refuses disk old new opened error.NoMemory report was unformatted bad fault unopened is = absurd is
+refuses disk old new opened error.DiskFault report was unformatted bad fault unopened is =
+    by_report (RefusesDisk disk old new) report _ is (refl, fault was, unopened)
+refuses disk old new opened error.NotFormatted report was unformatted bad fault unopened is =
+    by_report (RefusesDisk disk old new) report _ is (refl, (unformatted was).0, (unformatted was).1)
+refuses disk old new opened (error.BadJournal offset) report was unformatted bad fault unopened is =
+    by_report (RefusesDisk disk old new) report _ is (offset, refl, (bad offset was).0, (bad offset was).1)
+refuses disk old new opened (error.Full from needed) report was unformatted bad fault unopened is =
+    by_report (RefusesDisk disk old new) report _ is (refl, unopened)
 
-idle_never : (lanes : List Left) (ready : Option ℕ) (left : Option Task) (stalled : Option ℕ)
-    → option_map_or (λ n. pick.Work (work.Action n (at_of lanes n))) ready
-    (option_map_or (λ one. pick.Work (work.Task one)) left (option_map_or pick.Stalled stalled pick.Done)) ≡ pick.Idle → ⊥
-idle_never lanes (Some n) left stalled is = absurd cc
-idle_never lanes None (Some one) stalled is = absurd cc
-idle_never lanes None None (Some lane) is = absurd cc
-idle_never lanes None None None is = absurd cc
-
--- where nothing is in flight a run is never idle
-pub never_idle : (state : State) (in_flight : List Task) (lanes : List Left) → pick.Idle ≡ picked state in_flight lanes → in_flight ≡ [] → ⊥
-never_idle state in_flight lanes is free =
-    idle_never lanes (ready_lane state lanes) (task_left state in_flight) (lane_left lanes)
-    (sym (subst (λ (tasks : List Task). pick.Idle ≡ option_map_or (λ n. pick.Work (work.Action n (at_of lanes n))) (ready_lane state lanes)
-    (option_map_or (λ one. pick.Work (work.Task one)) (task_left state in_flight) (at_rest (length tasks) lanes))) free is))
-
--- the report of a run that has come to its end
-pub ends_as : (recording : Recording) (history : List Entry) (stalled : Option ℕ) (outcome : Status) (text : List ℕ)
-    → IsRunTo recording (end_of stalled) history → outcome ≡ status_of stalled → text ≡ transcript history (end_of stalled) → EndsAs recording outcome text
-ends_as recording history None outcome text run is prints =
-    subst (λ (s : Status). EndsAs recording s text) (sym is) (history, run, prints)
-ends_as recording history (Some lane) outcome text run is prints =
-    subst (λ (s : Status). EndsAs recording s text) (sym is) (lane, history, run, prints)
+-- the report of a disk that was not opened
+pub refused : {T D E : Type 0} (disk : Ghosts D) (old new : D) (recording : Recording) (opened : Result T OpenError) (why : OpenError) (result : Result Report E) → opened ≡ Err why
+    → (IsErrOf opened error.NotFormatted → IsQuiet disk old new × ForTold (disk.seen old) (λ image. stored image ≡ Unformatted))
+    → ((offset : ℕ) → IsErrOf opened (error.BadJournal offset) → IsQuiet disk old new × ForTold (disk.seen old) (λ image. stored image ≡ Bad offset))
+    → (IsErrOf opened error.DiskFault → Rose (disk.faults old) (disk.faults new))
+    → IsUnopened disk old new
+    → IfOk result (λ report. IsReportOf why report) → IfOk result (λ report. ReplaysOn disk old new recording report.status report.text)
+refused disk old new recording opened why (Err none_left) was unformatted bad fault unopened is = tt
+refused disk old new recording opened why (Ok report) was unformatted bad fault unopened is =
+    inr (refuses disk old new opened why report was unformatted bad fault unopened is)

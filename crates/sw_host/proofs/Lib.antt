@@ -1,6 +1,4 @@
 pub mod EndLemmas
-pub mod FetchLemmas
-pub mod ReadyLemmas
 pub mod StandLemmas
+pub mod StoringLemmas
 pub mod TextLemmas
-pub mod TurnLemmas

@@ -1,38 +1,54 @@
--- What is replayed is what stands.
-use Rattle.std.proofs.Common.{◌≡◌, ℕ, List, Option, Result, Ok, Err, IfOk, inr, refl, subst, sym}
-use Rattle.std.specs.Prelude.{String}
-use Rattle.std.specs.declared.alloc.Global.{Global}
+-- Whatever stalled has run its recording.
+use Rattle.std.proofs.Common.{◌≡◌, inl, inr, ℕ, List, Option, Result, Ok, Err, refl, subst}
 use Rattle.sw_data.specs.declared.recordings.Recording.{Recording}
-use Rattle.sw_record.specs.declared.error.RecordingError.{RecordingError}
-use Rattle.sw_record.specs.declared.error.RecordingError.TheVariants as error
-use Rattle.sw_record.specs.Grammar.{Reads, recording_of}
-use Rattle.sw_host.specs.declared.report.Report.{Report}
+use Rattle.sw_disk.specs.declared.disk.Disk.{Ghosts}
+use Rattle.sw_host.specs.declared.command.Command.{Command}
+use Rattle.sw_host.specs.declared.command.Command.TheVariants as command
 use Rattle.sw_host.specs.declared.statuses.Status.{Status}
 use Rattle.sw_host.specs.declared.statuses.Status.TheVariants as status
-use Rattle.sw_host.specs.Stands.{IsRead, Replays, ReportedAs, Stands}
+use Rattle.sw_host.specs.Stands.{HasEnded, IsRead, ReportedAs, Stands, status_of}
+use Rattle.sw_pool.specs.declared.ends.DriveEnd.{DriveEnd}
+use Rattle.sw_pool.specs.declared.ends.DriveEnd.TheVariants as drive_end
+use Rattle.sw_record.specs.declared.error.RecordingError.{RecordingError}
+use Rattle.sw_record.specs.declared.error.RecordingError.TheVariants as error
+use Rattle.sw_record.specs.Grammar.{recording_of}
 
-stands_by : (words : List (String Global)) (left : Option (List ℕ)) (before now : ℕ) (bytes : List ℕ) (what : Result Recording RecordingError) (outcome : Status) (text : List ℕ)
-    → IsRead words left bytes → recording_of bytes ≡ what → ReportedAs what outcome text → Stands words left before now outcome text
-stands_by words left before now bytes (Ok recording) status.Done text is_read is runs = (bytes, recording, is_read, is, runs)
-stands_by words left before now bytes (Ok recording) status.Stalled text is_read is runs = (bytes, recording, is_read, is, runs)
-stands_by words left before now bytes (Ok recording) _ text is_read is runs = absurd runs
-stands_by words left before now bytes (Err error.NoMemory) outcome text is_read is runs = absurd runs
-stands_by words left before now bytes (Err (error.BadLine line why)) status.BadLine text is_read is runs = (bytes, line, why, is_read, is, runs)
-stands_by words left before now bytes (Err (error.BadLine line why)) _ text is_read is runs = absurd runs
-stands_by words left before now bytes (Err (error.TooLarge line passed)) status.TooLarge text is_read is runs = inr (bytes, line, passed, is_read, is, runs)
-stands_by words left before now bytes (Err (error.TooLarge line passed)) _ text is_read is runs = absurd runs
+module _ {D : Type 0} (disk : Ghosts D) (old new : D) (left : Option (List ℕ)) (text : List ℕ) where
+  -- own: a recording was run until nothing might happen
+  abbrev HasStalled : Type 0
+  HasStalled = (lane : ℕ) × HasEnded disk old new left (drive_end.Stalled lane) text
 
--- the report of bytes that were read
-pub stands_of : {E : Type 0} (words : List (String Global)) (left : Option (List ℕ)) (before now : ℕ) (bytes : List ℕ) (result : Result Report E)
-    → IsRead words left bytes → IfOk result (λ report. Replays bytes report.status report.text) → IfOk result (λ report. Stands words left before now report.status report.text)
-stands_of words left before now bytes (Ok report) is_read replays = stands_by words left before now bytes (recording_of bytes) report.status report.text is_read refl replays
-stands_of words left before now bytes (Err why) is_read replays = tt
+  stalled_by : (ended : DriveEnd) → status.Stalled ≡ status_of ended → HasEnded disk old new left ended text → HasStalled
+  stalled_by drive_end.Done is run = absurd cc
+  stalled_by (drive_end.Stalled lane) is run = (lane, run)
+  stalled_by (drive_end.DiskFault refused) is run = absurd cc
+  stalled_by (drive_end.Full happened from needed) is run = absurd cc
+  stalled_by drive_end.NoMemory is run = absurd cc
 
--- the report of what the reader answered
-pub replays_of : {E : Type 0} (bytes : List ℕ) (what : Result Recording RecordingError) (result : Result Report E)
-    → Reads what (recording_of bytes) → IfOk result (λ report. ReportedAs what report.status report.text) → IfOk result (λ report. Replays bytes report.status report.text)
-replays_of bytes what (Err why) reads reported = tt
-replays_of bytes (Ok recording) (Ok report) reads reported = subst (λ (r : Result Recording RecordingError). ReportedAs r report.status report.text) (sym reads) reported
-replays_of bytes (Err error.NoMemory) (Ok report) reads reported = absurd reported
-replays_of bytes (Err (error.BadLine line why)) (Ok report) reads reported = subst (λ (r : Result Recording RecordingError). ReportedAs r report.status report.text) (sym reads) reported
-replays_of bytes (Err (error.TooLarge line passed)) (Ok report) reads reported = subst (λ (r : Result Recording RecordingError). ReportedAs r report.status report.text) (sym reads) reported
+  reported : (bytes : List ℕ) → IsRead left bytes → (what : Result Recording RecordingError) → recording_of bytes ≡ what → ReportedAs disk old new what status.Stalled text → HasStalled
+  reported bytes read (Ok recording) is (inl run) = stalled_by run.ended run.ends (record {
+    bytes = bytes;
+    recording = recording;
+    base = run.base;
+    history = run.history;
+    is_read = read;
+    is_recording = is;
+    run = run.run;
+    printed = run.printed;
+  })
+  reported bytes read (Ok recording) is (inr refused) = absurd refused
+  reported bytes read (Err error.NoMemory) is refused = absurd refused.0
+  reported bytes read (Err (error.BadLine line why)) is refused = absurd refused.0
+  reported bytes read (Err (error.TooLarge line passed)) is refused = absurd refused.0
+
+  stands : (before now : ℕ) (wanted : Command) → Stands disk old new left before now wanted status.Stalled text → HasStalled
+  stands before now command.Init is = absurd is
+  stands before now command.Replay (inl (bytes, read, is)) = reported bytes read (recording_of bytes) refl is
+  stands before now command.Replay (inr (inl is)) = absurd (cc (is.0))
+  stands before now command.Replay (inr (inr is)) = absurd (cc (is.0))
+  stands before now command.Show is = absurd is
+  stands before now command.Numbered is = absurd (cc (is.0))
+  stands before now command.Unknown is = absurd (cc (is.0))
+
+  pub has_stalled : (before now : ℕ) (wanted : Command) (outcome : Status) → outcome ≡ status.Stalled → Stands disk old new left before now wanted outcome text → HasStalled
+  has_stalled before now wanted outcome is stood = stands before now wanted (subst (λ (s : Status). Stands disk old new left before now wanted s text) is stood)

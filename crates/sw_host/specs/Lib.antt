@@ -1,3 +1,3 @@
-pub mod Machines
-pub mod Playing
 pub mod Stands
+pub mod Texts
+pub mod Words

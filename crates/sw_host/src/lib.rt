@@ -1,20 +1,17 @@
-//! The host: it reads a recording, runs it, and prints the transcript.
+//! The host: it formats a disk, runs a recording on it and prints the transcript, or prints what the disk keeps.
 #![tactic(auto)]
 
-mod acting;
+mod command;
 mod ending;
-mod fetching;
-mod hosted;
-mod machine;
-mod opening;
-mod playing;
 mod report;
 mod statuses;
+mod storing;
 mod top;
-mod turns;
 
 pub use statuses::Status;
-pub use top::run;
+pub use top::{Outcome, run};
 
+#[cfg(test)]
+mod crash_tests;
 #[cfg(test)]
 mod tests;

@@ -1,8 +1,8 @@
 //! What a run comes to before writing: its status, and the text that stands for it.
 
 ghost use Rattle.std.specs.Prelude.{◌≡◌, IfOk};
-ghost use Rattle.sw_host.specs.Stands as stands;
 ghost use Rattle.sw_host.specs.Stands.{RefusedAs};
+ghost use Rattle.sw_host.specs.Texts as texts;
 ghost use Rattle.sw_record.specs.Refusals.{cause_word, limit_word, refusal_text};
 ghost use Rattle.sw_record.specs.declared.error.RecordingError.{RecordingError};
 
@@ -22,12 +22,25 @@ pub struct Report {
 pub fn refused(alloc: Global, status: Status) -> Result<Report, NoMemory>
     ensures { IfOk result (λ report. report ≡ record {
       status = status;
-      text = stands.refusal_text status;
+      text = texts.refusal_text status;
     }) }
 {
     Ok(Report {
         status,
         text: Text::of(alloc, status.refusal())?,
+    })
+}
+
+/// The report of a bad journal.
+pub fn bad_journal(alloc: Global, offset: u64) -> Result<Report, NoMemory>
+    ensures { IfOk result (λ report. report ≡ record {
+      status = Status.BadJournal;
+      text = texts.bad_journal_text offset;
+    }) }
+{
+    Ok(Report {
+        status: Status::BadJournal,
+        text: Text::from_string(format!(in alloc; "error: bad journal at {offset}\n")?),
     })
 }
 

@@ -1,8 +1,12 @@
 use super::*;
 use std::alloc::{AllocError, Global};
 use std::test::Fail;
-use sw_data::Bytes;
+use sw_data::{Bytes, NoMemory};
+use sw_disk::{CallKind, Failing, MemoryDisk, PlainDisk};
 use sw_io::{MemorySink, MemorySource, Sink};
+
+// What `init` makes of the current part.
+const FORMATTED: &[u8] = b"SWHOST-JOURNAL-2\x00";
 
 const OPEN: &str = "{\"lane\":0,\"do\":\"cacheOpen\",\"at\":\"https://a.test/\",\"name\":\"v\"}\n";
 
@@ -43,13 +47,30 @@ fn words(alloc: Global, word: &str) -> Result<Vec<String>, AllocError> {
     Ok(all)
 }
 
+// A disk whose current part holds these bytes.
+fn with_left(alloc: Global, left: &[u8]) -> Result<PlainDisk, NoMemory> {
+    let (root, right) = (Bytes::of(alloc, b"")?, Bytes::of(alloc, b"")?);
+    Ok(PlainDisk::new(root, Bytes::of(alloc, left)?, right))
+}
+
+// A formatted disk whose writes fail from this one on.
+fn failing_from(alloc: Global, write: u64) -> Result<MemoryDisk, NoMemory> {
+    let (root, right) = (Bytes::of(alloc, b"")?, Bytes::of(alloc, b"")?);
+    let mut failing = Vec::new(alloc);
+    failing.push(Failing {
+        call: CallKind::Write,
+        from: write,
+        to: u64::MAX,
+    })?;
+    Ok(MemoryDisk::new(root, Bytes::of(alloc, FORMATTED)?, right, failing))
+}
+
 #[test]
 fn recordings_are_replayed(rt: HostRuntime) -> Result<(), Fail> {
     let alloc = rt.alloc();
     let first = "- restarted -> 0 registrations 0 caches\n";
-    for (word, lines, source_fails, sink_fails, status, text) in [
+    for (lines, source_fails, sink_fails, status, text) in [
         (
-            "replay",
             format!(in alloc; "")?,
             None,
             None,
@@ -57,7 +78,6 @@ fn recordings_are_replayed(rt: HostRuntime) -> Result<(), Fail> {
             format!(in alloc; "{first}end done\n")?,
         ),
         (
-            "replay",
             format!(in alloc; "{OPEN}{PUT}{OTHER}{PUT}{MATCH}{OPEN}{ELSEWHERE}")?,
             None,
             None,
@@ -67,7 +87,6 @@ fn recordings_are_replayed(rt: HostRuntime) -> Result<(), Fail> {
             )?,
         ),
         (
-            "replay",
             format!(in alloc; "{PUT}\n")?,
             None,
             None,
@@ -75,15 +94,6 @@ fn recordings_are_replayed(rt: HostRuntime) -> Result<(), Fail> {
             format!(in alloc; "{first}L0.0 put -> CacheGone\nend done\n")?,
         ),
         (
-            "show",
-            format!(in alloc; "{OPEN}")?,
-            None,
-            None,
-            14,
-            format!(in alloc; "error: not yet\n")?,
-        ),
-        (
-            "replay",
             format!(in alloc; "{OPEN}\nx")?,
             None,
             None,
@@ -91,7 +101,6 @@ fn recordings_are_replayed(rt: HostRuntime) -> Result<(), Fail> {
             format!(in alloc; "error: line 3: json\n")?,
         ),
         (
-            "replay",
             format!(in alloc; "{OPEN}{TOO_HIGH}x")?,
             None,
             None,
@@ -99,7 +108,6 @@ fn recordings_are_replayed(rt: HostRuntime) -> Result<(), Fail> {
             format!(in alloc; "error: line 2: too large: lanes\n")?,
         ),
         (
-            "replay",
             format!(in alloc; "{OPEN}{SECOND_LANE}")?,
             None,
             None,
@@ -109,7 +117,6 @@ fn recordings_are_replayed(rt: HostRuntime) -> Result<(), Fail> {
             )?,
         ),
         (
-            "replay",
             format!(in alloc; "{WAITS}")?,
             None,
             None,
@@ -117,7 +124,6 @@ fn recordings_are_replayed(rt: HostRuntime) -> Result<(), Fail> {
             format!(in alloc; "{first}L0.0 open -> none\nend stalled 0\n")?,
         ),
         (
-            "replay",
             format!(in alloc; "{FETCH}{OPEN}")?,
             None,
             None,
@@ -125,7 +131,6 @@ fn recordings_are_replayed(rt: HostRuntime) -> Result<(), Fail> {
             format!(in alloc; "{first}L0.0 cacheOpen -> made\nend done\n")?,
         ),
         (
-            "replay",
             format!(in alloc; "{OPEN}")?,
             Some(0),
             None,
@@ -133,7 +138,6 @@ fn recordings_are_replayed(rt: HostRuntime) -> Result<(), Fail> {
             format!(in alloc; "error: read\n")?,
         ),
         (
-            "replay",
             format!(in alloc; "{OPEN}")?,
             None,
             Some(0),
@@ -146,10 +150,84 @@ fn recordings_are_replayed(rt: HostRuntime) -> Result<(), Fail> {
             failing_at(alloc, source_fails)?,
         );
         let mut sink = MemorySink::new(alloc, failing_at(alloc, sink_fails)?);
-        let ended = run(alloc, &words(alloc, word)?, &mut source, &mut sink);
-        assert_eq!(rt; ended.code(), status, "{lines}");
+        let disk = with_left(alloc, FORMATTED)?;
+        let ended = run(alloc, &words(alloc, "replay")?, &mut source, &mut sink, disk);
+        assert_eq!(rt; ended.status.code(), status, "{lines}");
         assert!(rt; sink.bytes() == text.as_bytes(), "{lines}");
         assert_eq!(rt; sink.faults() > 0, sink_fails.is_some(), "{lines}");
+    }
+    Ok(())
+}
+
+// One disk, from its formatting on.
+#[test]
+fn a_disk_is_formatted_replayed_and_shown(rt: HostRuntime) -> Result<(), Fail> {
+    let alloc = rt.alloc();
+    let mut disk = with_left(alloc, b"")?;
+    for (word, lines, status, text) in [
+        ("replay", OPEN, 7, "error: not formatted\n"),
+        ("show", "", 7, "error: not formatted\n"),
+        ("init", "", 0, "formatted\n"),
+        ("init", "", 12, "error: already formatted\n"),
+        ("show", "", 0, "registrations 0\ncaches 0\n"),
+        (
+            "replay",
+            OPEN,
+            0,
+            "- restarted -> 0 registrations 0 caches\nL0.0 cacheOpen -> made\nend done\n",
+        ),
+        (
+            "show",
+            "",
+            0,
+            "registrations 0\ncaches 1\ncache \"https://a.test\" \"v\" 0\n",
+        ),
+        (
+            "replay",
+            PUT,
+            0,
+            "- restarted -> 0 registrations 1 caches\nL0.0 put -> ok\nend done\n",
+        ),
+        (
+            "show",
+            "",
+            0,
+            "registrations 0\ncaches 1\ncache \"https://a.test\" \"v\" 1\n",
+        ),
+        (
+            "format",
+            "",
+            2,
+            "error: words: init, replay [N], show, gen NUMBER SIZE\n",
+        ),
+    ] {
+        let mut source = MemorySource::new(Bytes::of(alloc, lines.as_bytes())?, Vec::new(alloc));
+        let mut sink = MemorySink::new(alloc, Vec::new(alloc));
+        let ended = run(alloc, &words(alloc, word)?, &mut source, &mut sink, disk);
+        disk = ended.disk;
+        assert_eq!(rt; ended.status.code(), status, "{word} {lines}");
+        assert!(rt; sink.bytes() == text.as_bytes(), "{word} {lines}");
+    }
+    Ok(())
+}
+
+// The disk fails at its opening, or once the recording is run.
+#[test]
+fn faults_of_the_disk_are_told(rt: HostRuntime) -> Result<(), Fail> {
+    let alloc = rt.alloc();
+    for (write, text) in [
+        (0, "error: disk\n"),
+        (
+            2,
+            "- restarted -> 0 registrations 0 caches\nend disk L0.0 cacheOpen\n",
+        ),
+    ] {
+        let disk = failing_from(alloc, write)?;
+        let mut source = MemorySource::new(Bytes::of(alloc, OPEN.as_bytes())?, Vec::new(alloc));
+        let mut sink = MemorySink::new(alloc, Vec::new(alloc));
+        let ended = run(alloc, &words(alloc, "replay")?, &mut source, &mut sink, disk);
+        assert_eq!(rt; ended.status.code(), 6, "{write}");
+        assert!(rt; sink.bytes() == text.as_bytes(), "{write}");
     }
     Ok(())
 }

@@ -1,64 +1,74 @@
-//! The program `swhost`: the words are its arguments, the source is standard input, the sink is standard output.
+//! The program `swhost`: the words are its arguments, the source is standard input, the sink is standard output, and the
+//! disk is three files of the current folder.
 #![tactic(auto)]
 
-ghost use Rattle.std.specs.Prelude.{◌≡◌, ◌+◌, ◌≤◌, ◌∷◌, ℕ, List, [], Contains, true, false};
-ghost use Rattle.std.specs.Io.KnownBytes.{Appends, IsAtEnd, Keeps};
+ghost use Rattle.std.specs.Prelude.{◌≡◌, ◌≢◌, ◌+◌, ◌≤◌, ℕ, List};
+ghost use Rattle.std.specs.Io.KnownBytes.{Appends, Keeps};
 ghost use Rattle.std.specs.Process.{exit_status};
 ghost use Rattle.sw_data.specs.Faults.{Rose};
 ghost use Rattle.sw_data.specs.Streams.{AppendsPrefix, ConsumesSome};
-ghost use Rattle.sw_record.specs.declared.limits.TheConstants.{RECORDING_LIMIT};
-ghost use Rattle.sw_host.specs.Stands.{IsBadLine, IsDone, IsStalled, IsTooLarge, Stands, is_replay, refusal_text};
+ghost use Rattle.sw_host.specs.declared.command.Command.TheVariants as command;
 ghost use Rattle.sw_host.specs.declared.statuses.Status.{Status};
+ghost use Rattle.sw_host.specs.Stands.{HasEnded, LeavesWithoutMemory, Stands};
+ghost use Rattle.sw_host.specs.Texts.{code_of};
+ghost use Rattle.sw_host.specs.Words.{command_of};
+ghost use Rattle.sw_pool.specs.declared.ends.DriveEnd.TheVariants as drive_end;
+ghost use Rattle.sw_record.specs.declared.limits.TheConstants.{RECORDING_LIMIT};
 
 use std::alloc::Global;
 use std::env;
+use std::fs::{File, OpenOptions};
 use std::process::ExitCode;
+use sw_disk::{Disk, FileDisk};
 use sw_host::{Status, run};
 use sw_io::{Sink, Source, StdSink, StdSource};
 
-// Does what the words say, as `run` does, and ends with the number of the status.
-fn ended<S: Source, K: Sink>(
+// Does what the words say, as `run` does, and hands out the number of the status, with the disk.
+fn ended<S: Source, K: Sink, D: Disk>(
     alloc: Global,
     words: &[String],
     source: &mut S,
     sink: &mut K,
-) -> ExitCode
-    ensures done { exit_status result ≡ 0 → (text : List ℕ)
-        × IsDone words.now (S.left source.old) text
+    disk: D,
+) -> (ExitCode, D)
+    ensures done { exit_status result.0 ≡ 0 → command_of words.now ≡ command.Replay
+        → (text : List ℕ) × HasEnded D.Disk disk result.1 (S.left source.old) drive_end.Done text
         × Appends (K.held sink.old) (K.held sink.new) text }
-    ensures stalled { exit_status result ≡ 9 → (text : List ℕ)
-        × IsStalled words.now (S.left source.old) text
+    ensures stalled { exit_status result.0 ≡ 9 → (text : List ℕ) × (lane : ℕ)
+        × HasEnded D.Disk disk result.1 (S.left source.old) (drive_end.Stalled lane) text
         × Appends (K.held sink.old) (K.held sink.new) text }
-    ensures bad_line { exit_status result ≡ 3 → (text : List ℕ)
-        × IsBadLine words.now (S.left source.old) text
-        × Appends (K.held sink.old) (K.held sink.new) text }
-    ensures too_large { exit_status result ≡ 10 → (text : List ℕ)
-        × IsTooLarge words.now (S.left source.old) text
-        × Appends (K.held sink.old) (K.held sink.new) text }
-    ensures not_yet { exit_status result ≡ 14 → (is_replay words.now ≡ false)
-        × Appends (K.held sink.old) (K.held sink.new) (refusal_text Status.NotYet) }
-    ensures read_fault { exit_status result ≡ 4 → (is_replay words.now ≡ true)
-        × Rose (S.faults source.old) (S.faults source.new)
-        × Appends (K.held sink.old) (K.held sink.new) (refusal_text Status.ReadFault) }
-    ensures write_fault { exit_status result ≡ 5 → Rose (K.faults sink.old) (K.faults sink.new)
-        × ((status : Status) × (text : List ℕ)
-        × Stands words.now (S.left source.old) (S.faults source.old) (S.faults source.new)
-        status text
-        × AppendsPrefix (K.held sink.old) (K.held sink.new) text) }
-    ensures no_memory { exit_status result ≡ 1 → Keeps (K.held sink.old) (K.held sink.new) }
 
-    // The exit status is one of these.
-    ensures known { Contains (0 ∷ 1 ∷ 3 ∷ 4 ∷ 5 ∷ 9 ∷ 10 ∷ 14 ∷ []) (exit_status result) }
+    // The exit status is the number of a status, which has its cause.
+    ensures stands { exit_status result.0 ≢ 1 → exit_status result.0 ≢ 5
+        → (outcome : Status) × (exit_status result.0 ≡ code_of outcome)
+        × ((text : List ℕ) × Stands D.Disk disk result.1 (S.left source.old)
+        (S.faults source.old) (S.faults source.new) (command_of words.now) outcome text
+        × Appends (K.held sink.old) (K.held sink.new) text) }
+    ensures write_fault { exit_status result.0 ≡ 5
+        → Rose (K.faults sink.old) (K.faults sink.new)
+        × ((status : Status) × (text : List ℕ) × Stands D.Disk disk result.1 (S.left source.old)
+        (S.faults source.old) (S.faults source.new) (command_of words.now) status text
+        × AppendsPrefix (K.held sink.old) (K.held sink.new) text) }
+    ensures no_memory { exit_status result.0 ≡ 1 → Keeps (K.held sink.old) (K.held sink.new)
+        × LeavesWithoutMemory D.Disk disk result.1 (S.left source.old) (command_of words.now) }
 
     // What it reads.
-    ensures untouched { is_replay words.now ≡ false → source.new ≡ source.old }
+    ensures untouched { command_of words.now ≢ command.Replay → source.new ≡ source.old }
     ensures reads { S.reads source.new ≤ S.reads source.old + (RECORDING_LIMIT + 2) }
-    ensures consumed { is_replay words.now ≡ true
+    ensures consumed { command_of words.now ≡ command.Replay
         → ConsumesSome (S.left source.old) (S.left source.new) }
-    ensures end { exit_status result ≡ 0 → IsAtEnd (S.left source.new) }
-    ensures end_stalled { exit_status result ≡ 9 → IsAtEnd (S.left source.new) }
 {
-    ExitCode::from(run(alloc, words, source, sink).code())
+    let outcome = run(alloc, words, source, sink, disk);
+    (ExitCode::from(outcome.status.code()), outcome.disk)
+}
+
+// A file of the current folder, which is made where there is none.
+fn file(rt: &HostRuntime, name: &str) -> Option<File> {
+    let mut options = OpenOptions::new();
+    options.read(true);
+    options.write(true);
+    options.create(true);
+    options.open(rt, name).ok()
 }
 
 fn main(rt: HostRuntime) -> ExitCode {
@@ -73,5 +83,10 @@ fn main(rt: HostRuntime) -> ExitCode {
     }
     let mut source = StdSource::new(rt.stdin());
     let mut sink = StdSink::new(rt.stdout());
-    ended(alloc, &words, &mut source, &mut sink)
+    let disk = FileDisk::new(
+        file(&rt, "swhost.root"),
+        file(&rt, "swhost.left"),
+        file(&rt, "swhost.right"),
+    );
+    ended(alloc, &words, &mut source, &mut sink, disk).0
 }
