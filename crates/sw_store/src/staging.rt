@@ -1,10 +1,9 @@
 //! Events that happen, and wait for their changes to be written.
 
-ghost use Rattle.std.specs.Prelude.{◌≡◌, ◌≢◌, ◌≤◌, ◌<◌, ◌+◌, ◌++◌, ◌↔◌, ◌∷◌, [], ℕ, List, true, false, length, IfOk, IfSome, IsErrOf, OnErr, OnOk, Some};
+ghost use Rattle.std.specs.Prelude.{◌≡◌, ◌≢◌, ◌≤◌, ◌<◌, ◌+◌, ◌++◌, ◌↔◌, [], ℕ, List, true, false, length, IfOk, IsErrOf, OnErr, OnOk, Some};
 ghost use Rattle.sw_codec.specs.Spelling.{spelled_all};
 ghost use Rattle.sw_core.specs.Hosted.{state_of};
 ghost use Rattle.sw_data.specs.declared.events.Event as events;
-ghost use Rattle.sw_data.specs.declared.storage.Change.{Change};
 ghost use Rattle.sw_disk.specs.DiskRule.{capped};
 ghost use Rattle.sw_journal.specs.Format.{format_2, needed_length};
 ghost use Rattle.sw_laws.specs.Coherent.{Coherent};
