@@ -3,6 +3,15 @@ use Rattle.std.proofs.Common.{◌∙◌, sym, ap}
 use Rattle.sw_host.proofs.EndLemmas.{ends_as, left_by_run}
 use Rattle.sw_host.proofs.ending.run_on.Goals as goal
 
+pub drive-end-requires-clause-driven : goal.drive-end-requires-clause-driven
+drive-end-requires-clause-driven g c = record {
+  recording = c.args.recording;
+  base = c.args.store.base;
+  lines_are = sym c.in_ok-yard.ensures.net;
+  goes = c.in_ok-yard.ensures.under_way;
+  keeps = (c.in_ok-yard.ensures.at_work c.requires.opened.0 c.requires.opened.1).keeps;
+}
+
 pub returns-in_err-text-clause-left : goal.returns-in_err-text-clause-left
 returns-in_err-text-clause-left g c = λ start opened.
     left_by_run g.D.Disk start c.drive-end.new.disk c.args.recording c.from_residual-in_err-text.result c.args.store.base c.drive-end.new.self.history.items c.drive-end.result
