@@ -87,11 +87,7 @@ fn run_on<D: Disk>(
 }
 
 // The report of a disk that was not opened; the recording is let go here, where that costs the check little.
-fn unopened(
-    alloc: Global,
-    recording: Recording,
-    error: OpenError,
-) -> Result<Report, NoMemory>
+fn unopened(alloc: Global, recording: Recording, error: OpenError) -> Result<Report, NoMemory>
     ensures { IfOk result (λ report. IsReportOf error report) }
 {
     drop(recording);

@@ -151,7 +151,13 @@ fn recordings_are_replayed(rt: HostRuntime) -> Result<(), Fail> {
         );
         let mut sink = MemorySink::new(alloc, failing_at(alloc, sink_fails)?);
         let disk = with_left(alloc, FORMATTED)?;
-        let ended = run(alloc, &words(alloc, "replay")?, &mut source, &mut sink, disk);
+        let ended = run(
+            alloc,
+            &words(alloc, "replay")?,
+            &mut source,
+            &mut sink,
+            disk,
+        );
         assert_eq!(rt; ended.status.code(), status, "{lines}");
         assert!(rt; sink.bytes() == text.as_bytes(), "{lines}");
         assert_eq!(rt; sink.faults() > 0, sink_fails.is_some(), "{lines}");
@@ -225,7 +231,13 @@ fn faults_of_the_disk_are_told(rt: HostRuntime) -> Result<(), Fail> {
         let disk = failing_from(alloc, write)?;
         let mut source = MemorySource::new(Bytes::of(alloc, OPEN.as_bytes())?, Vec::new(alloc));
         let mut sink = MemorySink::new(alloc, Vec::new(alloc));
-        let ended = run(alloc, &words(alloc, "replay")?, &mut source, &mut sink, disk);
+        let ended = run(
+            alloc,
+            &words(alloc, "replay")?,
+            &mut source,
+            &mut sink,
+            disk,
+        );
         assert_eq!(rt; ended.status.code(), 6, "{write}");
         assert!(rt; sink.bytes() == text.as_bytes(), "{write}");
     }
