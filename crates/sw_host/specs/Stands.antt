@@ -1,7 +1,5 @@
 -- What a run comes to before writing: when each status stands, with which text, and what it has done to the disk.
-use Rattle.std.specs.Prelude.{◌≡◌, ◌≢◌, ◌⊎◌, ◌≤◌, ◌<◌, ℕ, List, [], map, length, codes, IsSome, Option, Some, Result, Ok, Err, String}
-use Rattle.std.specs.declared.alloc.Global.{Global}
-use Rattle.sw_data.specs.declared.events.Event.{Event}
+use Rattle.std.specs.Prelude.{◌≡◌, ◌≢◌, ◌⊎◌, ◌≤◌, ◌<◌, ℕ, List, map, length, codes, IsSome, Option, Result, Ok, Err}
 use Rattle.sw_data.specs.declared.histories.End.{End}
 use Rattle.sw_data.specs.declared.histories.End.TheVariants as end
 use Rattle.sw_data.specs.declared.histories.Entry.{Entry}
@@ -19,7 +17,6 @@ use Rattle.sw_host.specs.declared.report.Report.{Report}
 use Rattle.sw_host.specs.declared.statuses.Status.{Status}
 use Rattle.sw_host.specs.declared.statuses.Status.TheVariants as status
 use Rattle.sw_host.specs.Texts.{bad_journal_text, refusal_text}
-use Rattle.sw_host.specs.Words.{command_of}
 use Rattle.sw_journal.specs.Format.{format_of}
 use Rattle.sw_journal.specs.Init.{first_bytes}
 use Rattle.sw_journal.specs.Quiet.{IsQuiet}
@@ -29,8 +26,6 @@ use Rattle.sw_pool.specs.declared.ends.DriveEnd.{DriveEnd}
 use Rattle.sw_pool.specs.declared.ends.DriveEnd.TheVariants as drive_end
 use Rattle.sw_print.specs.Showing.{shown}
 use Rattle.sw_print.specs.Transcript.{transcript}
-use Rattle.sw_record.specs.declared.error.LineCause.{LineCause}
-use Rattle.sw_record.specs.declared.error.Limit.{Limit}
 use Rattle.sw_record.specs.declared.error.RecordingError.{RecordingError}
 use Rattle.sw_record.specs.declared.error.RecordingError.TheVariants as error
 use Rattle.sw_record.specs.Grammar.{recording_of}

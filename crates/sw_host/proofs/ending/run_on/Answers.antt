@@ -1,5 +1,5 @@
 -- A history that was run to an end is the report's, or what its disk keeps is left.
-use Rattle.std.proofs.Common.{◌∙◌, sym, ap}
+use Rattle.std.proofs.Common.{◌∙◌, sym}
 use Rattle.sw_host.proofs.EndLemmas.{ends_as, left_by_run}
 use Rattle.sw_host.proofs.ending.run_on.Goals as goal
 
