@@ -226,7 +226,8 @@ impl Store {
         ensures staged { OnOk result (IsStaged event pass self.old self.new) }
 
         // What waits goes on from the state at which it began.
-        ensures goes_on { (begun : State) → IsGroup begun self.old → OnOk result (IsGroup begun self.new) }
+        ensures goes_on { (begun : State) → IsGroup begun self.old
+            → OnOk result (IsGroup begun self.new) }
 
         // Each refusal has its cause, and leaves all as it was.
         ensures same { OnErr result (IsSame self.old self.new) }

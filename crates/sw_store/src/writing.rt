@@ -107,7 +107,8 @@ impl Store {
         ensures told { OnOk result (StaysTold D.Disk disk.old disk.new) }
 
         // Where there are no changes no call of the disk is made, and else at most four.
-        ensures nothing { self.old.payload ≡ [] → (disk.new ≡ disk.old) × (self.new.twin ≡ self.old.twin) }
+        ensures nothing { self.old.payload ≡ []
+            → (disk.new ≡ disk.old) × (self.new.twin ≡ self.old.twin) }
         ensures most { D.clock disk.new ≤ D.clock disk.old + 4 }
         ensures later { D.clock disk.old ≤ D.clock disk.new }
         ensures count { D.faults disk.old ≤ D.faults disk.new }
@@ -117,7 +118,8 @@ impl Store {
             ↔ (self.old.since ≡ Some since) }
         ensures fault { (refused : Vec entries_of.Entry Global)
             → IsErrOf result (CommitError.DiskFault refused)
-            → (refused.items ≡ all_stamped (D.clock disk.new) self.old.staged) × Rose (D.faults disk.old) (D.faults disk.new)
+            → (refused.items ≡ all_stamped (D.clock disk.new) self.old.staged)
+            × Rose (D.faults disk.old) (D.faults disk.new)
             × (self.new.since ≡ Some (D.clock disk.new)) }
     {
         match self.since {
