@@ -1,11 +1,10 @@
 -- The split over the other events, and over all of them.
-use Rattle.std.proofs.Common.{◌≡◌, ◌∙◌, ℕ, Bool, true, false, not, ◌&&◌, ◌==◌, List, [], ◌∷◌, length, Option, Some, None, Ok, Err, IfSome, refl, ap, arith}
-use Rattle.std.specs.Prelude.{Result, find, option_and_then, is_none, is_some}
+use Rattle.std.proofs.Common.{◌≡◌, ◌∙◌, ℕ, Bool, true, false, not, ◌&&◌, ◌==◌, List, [], ◌∷◌, length, Option, Some, None, IfSome, refl, ap, arith}
+use Rattle.std.specs.Prelude.{find, option_and_then, is_none, is_some}
 use Rattle.std.proofs.lemmas.Bool.Decides.{nat_tests}
 use Rattle.sw_data.specs.declared.answers.Answer.{Answer}
 use Rattle.sw_data.specs.declared.answers.Answer.TheVariants as answer
 use Rattle.sw_data.specs.declared.answers.Fault.{Fault}
-use Rattle.sw_data.specs.declared.answers.Settlement.TheVariants as settlement
 use Rattle.sw_data.specs.declared.events.Event.{Event}
 use Rattle.sw_data.specs.declared.events.Event.TheVariants as event
 use Rattle.sw_data.specs.declared.events.Who.{Who}
@@ -23,7 +22,6 @@ use Rattle.sw_data.specs.declared.recordings.CacheQuery.{CacheQuery}
 use Rattle.sw_data.specs.declared.recordings.Call.{Call}
 use Rattle.sw_data.specs.declared.recordings.Call.TheVariants as call
 use Rattle.sw_data.specs.declared.recordings.ClientScope.{ClientScope}
-use Rattle.sw_data.specs.declared.recordings.FetchLine.{FetchLine}
 use Rattle.sw_data.specs.declared.recordings.Place.{Place}
 use Rattle.sw_data.specs.declared.recordings.Registering.{Registering}
 use Rattle.sw_data.specs.declared.rows.ClientRow.{ClientRow}
@@ -34,7 +32,7 @@ use Rattle.sw_data.specs.Addresses.{address_of, resolved, same_origin}
 use Rattle.sw_data.specs.Keys.{key_of}
 use Rattle.sw_rules.specs.Activating.{activated, finish_activate, is_owed, paid, pay, tryactivate}
 use Rattle.sw_rules.specs.Batch.{BatchFault, batch}
-use Rattle.sw_rules.specs.Caching.{add_all, add_all_at, add_task, added, batch_fault, batch_ops, carry_out, delete_cache, delete_request, fetchable_all, forget, is_busy, match_request, open_cache, pairs_of, parsed_ops, place_key, put_response, puts_of, query_cache, query_places, responses_fault, run_batch, single_fault, start_task, store_task, task_ended, with_cache_pairs, with_key, with_url}
+use Rattle.sw_rules.specs.Caching.{add_all, add_all_at, add_task, batch_fault, batch_ops, delete_cache, delete_request, fetchable_all, forget, is_busy, match_request, open_cache, pairs_of, parsed_ops, place_key, put_response, query_cache, query_places, run_batch, single_fault, start_task, with_cache_pairs, with_key, with_url}
 use Rattle.sw_rules.specs.Calls.{called, is_next_call, make_call, noted, own_registration, update_own}
 use Rattle.sw_rules.specs.Clients.{await, begin, begin_on, claim_of, close, end, end_event, get_registration, get_registrations, open_at, open_client, ready, ready_registration, remove_event, skip_waiting, with_named, with_slot}
 use Rattle.sw_rules.specs.Installing.{ended_handler}
@@ -42,18 +40,14 @@ use Rattle.sw_rules.specs.Jobs.{promised_value}
 use Rattle.sw_rules.specs.Matching.{Pair, first_match}
 use Rattle.sw_rules.specs.Preloading.{preload_set}
 use Rattle.sw_rules.specs.Registering.{register, soft_update, soft_update_named, unregister, update, update_named, with_client}
-use Rattle.sw_rules.specs.Rows.{active_worker, client_row, event_row, is_active, is_install, is_activating, is_worker, maker_worker, mapped_registration, named_scope, newest_worker, registration_of, registration_row, slot_worker, task_row, worker_row}
-use Rattle.sw_rules.specs.State.{State, Registration, Worker, Handler, AddAll, of_task}
+use Rattle.sw_rules.specs.Rows.{active_worker, client_row, event_row, is_active, is_install, is_activating, is_worker, maker_worker, mapped_registration, named_scope, newest_worker, registration_of, registration_row, slot_worker, worker_row}
+use Rattle.sw_rules.specs.State.{State, Registration, Worker, Handler, of_task}
 use Rattle.sw_rules.specs.Step.{by_host, by_lane, step}
 use Rattle.sw_rules.specs.Told.{Told, Outcome, followed, quiet}
 use Rattle.sw_laws.specs.Coherent.{is_running, is_there}
-use Rattle.sw_laws.proofs.JobEvents.{evaluated-law, fetched-law, installed-law, rejected-law, run-law, scheduled_by-law}
-use Rattle.sw_laws.proofs.Lists.{bound_holds, by_option, by_test, find_any, find_passes, length_pushed, mapped_holds}
-use Rattle.sw_laws.proofs.Split.{GetsPreload, IsLawBeside, IsLawWhere, IsMoveLaw, recheck-law, try_activate-law}
-
-by_result : {A B X : Type 0} (P : X → Type 0) (result : Result A B) (good : A → X) (bad : B → X) → ((a : A) → result ≡ Ok a → P (good a)) → ((b : B) → result ≡ Err b → P (bad b)) → P (elim result [ Ok a ↦ good a | Err b ↦ bad b ])
-by_result P (Ok a) good bad one other = one a refl
-by_result P (Err b) good bad one other = other b refl
+use Rattle.sw_laws.proofs.JobEvents.{added-law, evaluated-law, fetched-law, installed-law, rejected-law, run-law, scheduled_by-law}
+use Rattle.sw_laws.proofs.Lists.{bound_holds, by_option, by_result, by_test, find_any, find_passes, length_pushed, mapped_holds}
+use Rattle.sw_laws.proofs.Split.{GetsPreload, IsHostLaw, IsLawBeside, IsLawWhere, IsMoveLaw, recheck-law, try_activate-law}
 
 worker_by_own : (state : State) (number : ℕ) (worker : Worker) → worker_row state number ≡ Some worker → worker_row state worker.number ≡ Some worker
 worker_by_own state number worker is =
@@ -83,6 +77,11 @@ gives_control (event.Call maker asked) = is_claim asked
 gives_control _ = false
 
 module _ (Law : State → Told → Type 0) where
+  -- what holds of an event holds of it as a whole
+  whole-holds : (Whole : State → Told → Type 0) → ((state : State) (told : Told) → Law state told → Whole state told) → (state : State) (o : Option Outcome) → IfSome o (λ outcome. Law state outcome.told) → IfSome o (λ outcome. Whole state outcome.told)
+  whole-holds Whole whole state None holds = tt
+  whole-holds Whole whole state (Some outcome) holds = whole state outcome.told holds
+
   -- the end of an activate handler, and what follows it
   pub activated-by : ((state : State) (worker : Worker) (handler : Handler) → worker_row state worker.number ≡ Some worker → ended_handler state (λ in_phase. not (is_install in_phase)) worker ≡ Some handler → Law state (finish_activate state worker.registration worker.number))
       → (state : State) (number : ℕ) → IfSome (activated state number) (λ outcome. Law state outcome.told)
@@ -91,7 +90,7 @@ module _ (Law : State → Told → Type 0) where
       mapped_holds (λ outcome. Law state outcome.told) _ (ended_handler state (λ in_phase. not (is_install in_phase)) worker) (λ handler ended.
       ending state worker handler (worker_by_own state number worker found) ended))
 
-module _ (Law Own : State → Told → Type 0) (controls : Bool) {anywhere : Bool} (law : IsLawBeside Law Own controls anywhere) where
+module _ (Law Own Ends : State → Told → Type 0) (controls : Bool) {anywhere : Bool} (law : IsLawBeside Law Own Ends controls anywhere) where
   nothing : (state : State) → Law state (quiet state)
   nothing = law.rechecks.nothing
 
@@ -112,18 +111,18 @@ module _ (Law Own : State → Told → Type 0) (controls : Bool) {anywhere : Boo
 
   register-law : (state : State) (maker : Who) (asked : Registering) → Holds state (register state maker asked)
   register-law state maker asked =
-      with_client-law state asked.client _ (λ client there. grind (arith, rejected-law Law Own controls law, scheduled_by-law Law Own controls law))
+      with_client-law state asked.client _ (λ client there. grind (arith, rejected-law Law Own Ends controls law, scheduled_by-law Law Own Ends controls law))
 
   update_named-law : (state : State) (maker : Who) (found : Option Registration) (referrer : List ℕ) → Holds state (update_named state maker found referrer)
-  update_named-law state maker None referrer = rejected-law Law Own controls law state maker _
+  update_named-law state maker None referrer = rejected-law Law Own Ends controls law state maker _
   update_named-law state maker (Some row) referrer =
-      by_option (Holds state) (newest_worker state row.number) _ _ (λ none. rejected-law Law Own controls law state maker _)
-      (λ newest there. scheduled_by-law Law Own controls law state maker _ refl)
+      by_option (Holds state) (newest_worker state row.number) _ _ (λ none. rejected-law Law Own Ends controls law state maker _)
+      (λ newest there. scheduled_by-law Law Own Ends controls law state maker _ refl)
 
   update-law : (state : State) (maker : Who) (of : ClientScope) → Holds state (update state maker of)
   update-law state maker of =
       with_client-law state of.client _ (λ client there.
-      by_option (Holds state) (named_scope client of.scope) _ _ (λ none. rejected-law Law Own controls law state maker _)
+      by_option (Holds state) (named_scope client of.scope) _ _ (λ none. rejected-law Law Own Ends controls law state maker _)
       (λ scope named. update_named-law state maker (mapped_registration state client.key scope) client.url))
 
   soft_update_named-law : (state : State) (found : Option Registration) → Holds state (soft_update_named state found)
@@ -141,8 +140,8 @@ module _ (Law Own : State → Told → Type 0) (controls : Bool) {anywhere : Boo
   unregister-law : (state : State) (maker : Who) (of : ClientScope) → Holds state (unregister state maker of)
   unregister-law state maker of =
       with_client-law state of.client _ (λ client there.
-      by_option (Holds state) (named_scope client of.scope) _ _ (λ none. rejected-law Law Own controls law state maker _)
-      (λ scope named. scheduled_by-law Law Own controls law state maker _ refl))
+      by_option (Holds state) (named_scope client of.scope) _ _ (λ none. rejected-law Law Own Ends controls law state maker _)
+      (λ scope named. scheduled_by-law Law Own Ends controls law state maker _ refl))
 
   -- ---- clients
 
@@ -295,30 +294,12 @@ module _ (Law Own : State → Told → Type 0) (controls : Bool) {anywhere : Boo
 
   add_all-law : (state : State) (maker : Who) (base : List ℕ) (asked : CacheAddAll) (key : List ℕ) → is_running state.workers (maker_worker maker) ≡ true → Holds state (add_all state maker base asked key)
   add_all-law state maker base asked key runs =
-      by_test (Holds state) (is_none (pairs_of key asked.name state.caches)) _ _ (λ gone. rejected-law Law Own controls law state maker _)
-      (λ there. by_result (Holds state) (fetchable_all base asked.requests) _ _ (λ requests is. start_task-law state maker key asked.name requests runs) (λ why is. rejected-law Law Own controls law state maker _))
+      by_test (Holds state) (is_none (pairs_of key asked.name state.caches)) _ _ (λ gone. rejected-law Law Own Ends controls law state maker _)
+      (λ there. by_result (Holds state) (fetchable_all base asked.requests) _ _ (λ requests is. start_task-law state maker key asked.name requests runs) (λ why is. rejected-law Law Own Ends controls law state maker _))
 
   add_all_at-law : (state : State) (lane at : ℕ) (place : Place) (asked : CacheAddAll) → Holds state (add_all_at state (who.Lane lane at) place asked)
   add_all_at-law state lane at place asked =
-      by_result (Holds state) (place_key place) _ _ (λ key is. add_all-law state (who.Lane lane at) place.at asked key refl) (λ why is. rejected-law Law Own controls law state (who.Lane lane at) why)
-
-  store_task-law : (state : State) (row : AddAll) (ops : List Op) (pairs : List Pair) → pairs_of row.key row.name state.caches ≡ Some pairs → Holds state (store_task state row ops pairs)
-  store_task-law state row ops pairs there =
-      by_result (Holds state) (batch pairs ops) _ _
-      (λ new is. further state (carry_out state row.key row.name ops new) _ (law.carrying state row.key row.name ops pairs new there is) (law.answering (carry_out state row.key row.name ops new).state row.number settlement.Done false))
-      (λ why is. law.answering state row.number _ true)
-
-  task_ended-law : (state : State) (lines : List (Option FetchLine)) (row : AddAll) → Holds state (task_ended state lines row)
-  task_ended-law state lines row =
-      by_option (Holds state) (responses_fault 0 row.requests lines) _ _
-      (λ none. by_option (Holds state) (pairs_of row.key row.name state.caches) _ _ (λ gone. law.answering state row.number _ true)
-      (λ pairs there. store_task-law state row (puts_of row.requests lines) pairs there))
-      (λ why is. law.answering state row.number _ true)
-
-  added-law : (state : State) (number : ℕ) (lines : List (Option FetchLine)) → HoldsIf state (added state number lines)
-  added-law state number lines =
-      bound_holds (Holds state) _ (task_row state number) (λ row there.
-      by_test (HoldsIf state) (is_none row.settled) _ _ (λ open_task. task_ended-law state lines row) (λ done. tt))
+      by_result (Holds state) (place_key place) _ _ (λ key is. add_all-law state (who.Lane lane at) place.at asked key refl) (λ why is. rejected-law Law Own Ends controls law state (who.Lane lane at) why)
 
   forget-law : (state : State) (key : List ℕ) → Holds state (forget state key)
   forget-law state key = by_test (Holds state) (is_busy state key) _ _ (λ busy. nothing state) (λ free. law.forgetting state key free)
@@ -378,52 +359,60 @@ module _ (Law Own : State → Told → Type 0) (controls : Bool) {anywhere : Boo
   add_all_by-law : (state : State) (maker : Who) (place : Place) (asked : CacheAddAll) (lane at : ℕ) → maker ≡ who.Lane lane at → Holds state (add_all_at state maker place asked)
   add_all_by-law state maker place asked lane at is = rw is (add_all_at-law state lane at place asked)
 
-  whole-holds : (Whole : State → Told → Type 0) → ((state : State) (told : Told) → Law state told → Whole state told) → (state : State) (o : Option Outcome) → HoldsIf state o → IfSome o (λ outcome. Whole state outcome.told)
-  whole-holds Whole whole state None holds = tt
-  whole-holds Whole whole state (Some outcome) holds = whole state outcome.told holds
+  -- a law of whole events that are allowed, where it follows of the other and holds of the events of the host that move
+  -- something on
+  pub step-law-by : (Allowed : Event → Type 0) (Whole : State → Told → Type 0) → ((state : State) (told : Told) → Law state told → Whole state told) → IsHostLaw Allowed Whole → (state : State) (happened : Event) → (gives_control happened ≡ true → controls ≡ true) → Allowed happened → IfSome (step state happened) (λ outcome. Whole state outcome.told)
+  unfolding step
+  step-law-by Allowed Whole whole host state (event.Open maker client url partition) may allowed = whole-holds Law Whole whole state _ (by_lane-law state maker _ (λ lane at is. open_client-law (may refl) state client url partition))
+  step-law-by Allowed Whole whole host state (event.Close maker client) may allowed = whole-holds Law Whole whole state _ (by_lane-law state maker _ (λ lane at is. close-law state client))
+  step-law-by Allowed Whole whole host state (event.Register maker asked) may allowed = whole-holds Law Whole whole state _ (by_lane-law state maker _ (λ lane at is. register-law state maker asked))
+  step-law-by Allowed Whole whole host state (event.Update maker of) may allowed = whole-holds Law Whole whole state _ (by_lane-law state maker _ (λ lane at is. update-law state maker of))
+  step-law-by Allowed Whole whole host state (event.SoftUpdate maker of) may allowed = whole-holds Law Whole whole state _ (by_lane-law state maker _ (λ lane at is. soft_update-law state of))
+  step-law-by Allowed Whole whole host state (event.Unregister maker of) may allowed = whole-holds Law Whole whole state _ (by_lane-law state maker _ (λ lane at is. unregister-law state maker of))
+  step-law-by Allowed Whole whole host state (event.Await maker of) may allowed = whole-holds Law Whole whole state _ (await-law state maker of)
+  step-law-by Allowed Whole whole host state (event.Ready maker client) may allowed = whole-holds Law Whole whole state _ (by_lane-law state maker _ (λ lane at is. ready-law state client))
+  step-law-by Allowed Whole whole host state (event.Registration maker client url) may allowed = whole-holds Law Whole whole state _ (by_lane-law state maker _ (λ lane at is. get_registration-law state client url))
+  step-law-by Allowed Whole whole host state (event.Registrations maker client) may allowed = whole-holds Law Whole whole state _ (by_lane-law state maker _ (λ lane at is. get_registrations-law state client))
+  step-law-by Allowed Whole whole host state (event.SkipWaiting maker of place) may allowed = whole-holds Law Whole whole state _ (by_lane-law state maker _ (λ lane at is. with_slot-law state of place _ (λ registration worker found. skip_waiting-law state worker.registration worker.number)))
+  step-law-by Allowed Whole whole host state (event.Claim maker of place) may allowed = whole-holds Law Whole whole state _ (by_lane-law state maker _ (λ lane at is. with_slot-law state of place _ (λ registration worker found. claim_of-law (may refl) state _ worker found)))
+  step-law-by Allowed Whole whole host state (event.Begin maker client number) may allowed = whole-holds Law Whole whole state _ (by_lane-law state maker _ (λ lane at is. begin-law state client number))
+  step-law-by Allowed Whole whole host state (event.End maker number) may allowed = whole-holds Law Whole whole state _ (by_lane-law state maker _ (λ lane at is. end-law state number))
+  step-law-by Allowed Whole whole host state (event.CacheOpen maker place name) may allowed = whole-holds Law Whole whole state _ (by_lane-law state maker _ (λ lane at is. with_key-law state place _ (open_cache-law state name)))
+  step-law-by Allowed Whole whole host state (event.CacheHas maker place name) may allowed = whole-holds Law Whole whole state _ (by_lane-law state maker _ (λ lane at is. with_key-law state place _ (λ key. nothing state)))
+  step-law-by Allowed Whole whole host state (event.CacheDelete maker place name) may allowed = whole-holds Law Whole whole state _ (by_lane-law state maker _ (λ lane at is. with_key-law state place _ (delete_cache-law state name)))
+  step-law-by Allowed Whole whole host state (event.CacheKeys maker place) may allowed = whole-holds Law Whole whole state _ (by_lane-law state maker _ (λ lane at is. with_key-law state place _ (λ key. nothing state)))
+  step-law-by Allowed Whole whole host state (event.Forget maker place) may allowed = whole-holds Law Whole whole state _ (by_lane-law state maker _ (λ lane at is. with_key-law state place _ (forget-law state)))
+  step-law-by Allowed Whole whole host state (event.Match maker place asked) may allowed = whole-holds Law Whole whole state _ (by_lane-law state maker _ (λ lane at is. with_key-law state place _ (match_request-law state place.at asked)))
+  step-law-by Allowed Whole whole host state (event.MatchAll maker place asked) may allowed = whole-holds Law Whole whole state _ (by_lane-law state maker _ (λ lane at is. with_key-law state place _ (query_cache-law state place.at asked)))
+  step-law-by Allowed Whole whole host state (event.Keys maker place asked) may allowed = whole-holds Law Whole whole state _ (by_lane-law state maker _ (λ lane at is. with_key-law state place _ (query_cache-law state place.at asked)))
+  step-law-by Allowed Whole whole host state (event.Put maker place put) may allowed = whole-holds Law Whole whole state _ (by_lane-law state maker _ (λ lane at is. with_key-law state place _ (put_response-law state place.at put)))
+  step-law-by Allowed Whole whole host state (event.Delete maker place asked) may allowed = whole-holds Law Whole whole state _ (by_lane-law state maker _ (λ lane at is. with_key-law state place _ (delete_request-law state place.at asked)))
+  step-law-by Allowed Whole whole host state (event.Batch maker place asked) may allowed = whole-holds Law Whole whole state _ (by_lane-law state maker _ (λ lane at is. with_key-law state place _ (batch_ops-law state place.at asked)))
+  step-law-by Allowed Whole whole host state (event.AddAll maker place asked) may allowed = whole-holds Law Whole whole state _ (by_lane-law state maker _ (add_all_by-law state maker place asked))
+  step-law-by Allowed Whole whole host state (event.PreloadEnable maker of) may allowed = whole-holds Law Whole whole state _ (by_lane-law state maker _ (λ lane at is. with_named-law state of _ (λ row. preload_set-law state row true row.preload_value)))
+  step-law-by Allowed Whole whole host state (event.PreloadDisable maker of) may allowed = whole-holds Law Whole whole state _ (by_lane-law state maker _ (λ lane at is. with_named-law state of _ (λ row. preload_set-law state row false row.preload_value)))
+  step-law-by Allowed Whole whole host state (event.PreloadValue maker of text) may allowed = whole-holds Law Whole whole state _ (by_lane-law state maker _ (λ lane at is. with_named-law state of _ (λ row. preload_set-law state row row.preload text)))
+  step-law-by Allowed Whole whole host state (event.PreloadState maker of) may allowed = whole-holds Law Whole whole state _ (by_lane-law state maker _ (λ lane at is. with_named-law state of _ (λ row. nothing state)))
+  step-law-by Allowed Whole whole host state (event.Call maker asked) may allowed = whole-holds Law Whole whole state _ (make_call-law state maker asked may)
+  step-law-by Allowed Whole whole host state (event.Run maker job) may allowed = by_host-law Whole state maker _ (host.running state job)
+  step-law-by Allowed Whole whole host state (event.Fetched maker job line) may allowed = by_host-law Whole state maker _ (host.fetching state maker job line allowed)
+  step-law-by Allowed Whole whole host state (event.Evaluated maker job) may allowed = by_host-law Whole state maker _ (host.moves.evaluating state job)
+  step-law-by Allowed Whole whole host state (event.Installed maker job) may allowed = by_host-law Whole state maker _ (host.moves.installing state job)
+  step-law-by Allowed Whole whole host state (event.TryActivate maker registration) may allowed = whole-holds Law Whole whole state _ (by_host-law Law state maker _ (tryactivate-law state registration))
+  step-law-by Allowed Whole whole host state (event.Activated maker worker) may allowed = by_host-law Whole state maker _ (host.moves.activating state worker)
+  step-law-by Allowed Whole whole host state (event.Added maker task lines) may allowed = by_host-law Whole state maker _ (host.adding state maker task lines allowed)
+  step-law-by Allowed Whole whole host state (event.Restarted maker) may allowed = tt
 
+module _ (Law Own : State → Told → Type 0) (controls : Bool) {anywhere : Bool} (law : IsLawBeside Law Own Law controls anywhere) where
   -- a law of whole events, where it follows of the other and holds of the events that move a worker on
   pub step-law-beside : (Whole : State → Told → Type 0) → ((state : State) (told : Told) → Law state told → Whole state told) → IsMoveLaw Whole → (state : State) (happened : Event) → (gives_control happened ≡ true → controls ≡ true) → IfSome (step state happened) (λ outcome. Whole state outcome.told)
-  unfolding step
-  step-law-beside Whole whole moving state (event.Open maker client url partition) may = whole-holds Whole whole state _ (by_lane-law state maker _ (λ lane at is. open_client-law (may refl) state client url partition))
-  step-law-beside Whole whole moving state (event.Close maker client) may = whole-holds Whole whole state _ (by_lane-law state maker _ (λ lane at is. close-law state client))
-  step-law-beside Whole whole moving state (event.Register maker asked) may = whole-holds Whole whole state _ (by_lane-law state maker _ (λ lane at is. register-law state maker asked))
-  step-law-beside Whole whole moving state (event.Update maker of) may = whole-holds Whole whole state _ (by_lane-law state maker _ (λ lane at is. update-law state maker of))
-  step-law-beside Whole whole moving state (event.SoftUpdate maker of) may = whole-holds Whole whole state _ (by_lane-law state maker _ (λ lane at is. soft_update-law state of))
-  step-law-beside Whole whole moving state (event.Unregister maker of) may = whole-holds Whole whole state _ (by_lane-law state maker _ (λ lane at is. unregister-law state maker of))
-  step-law-beside Whole whole moving state (event.Await maker of) may = whole-holds Whole whole state _ (await-law state maker of)
-  step-law-beside Whole whole moving state (event.Ready maker client) may = whole-holds Whole whole state _ (by_lane-law state maker _ (λ lane at is. ready-law state client))
-  step-law-beside Whole whole moving state (event.Registration maker client url) may = whole-holds Whole whole state _ (by_lane-law state maker _ (λ lane at is. get_registration-law state client url))
-  step-law-beside Whole whole moving state (event.Registrations maker client) may = whole-holds Whole whole state _ (by_lane-law state maker _ (λ lane at is. get_registrations-law state client))
-  step-law-beside Whole whole moving state (event.SkipWaiting maker of place) may = whole-holds Whole whole state _ (by_lane-law state maker _ (λ lane at is. with_slot-law state of place _ (λ registration worker found. skip_waiting-law state worker.registration worker.number)))
-  step-law-beside Whole whole moving state (event.Claim maker of place) may = whole-holds Whole whole state _ (by_lane-law state maker _ (λ lane at is. with_slot-law state of place _ (λ registration worker found. claim_of-law (may refl) state _ worker found)))
-  step-law-beside Whole whole moving state (event.Begin maker client number) may = whole-holds Whole whole state _ (by_lane-law state maker _ (λ lane at is. begin-law state client number))
-  step-law-beside Whole whole moving state (event.End maker number) may = whole-holds Whole whole state _ (by_lane-law state maker _ (λ lane at is. end-law state number))
-  step-law-beside Whole whole moving state (event.CacheOpen maker place name) may = whole-holds Whole whole state _ (by_lane-law state maker _ (λ lane at is. with_key-law state place _ (open_cache-law state name)))
-  step-law-beside Whole whole moving state (event.CacheHas maker place name) may = whole-holds Whole whole state _ (by_lane-law state maker _ (λ lane at is. with_key-law state place _ (λ key. nothing state)))
-  step-law-beside Whole whole moving state (event.CacheDelete maker place name) may = whole-holds Whole whole state _ (by_lane-law state maker _ (λ lane at is. with_key-law state place _ (delete_cache-law state name)))
-  step-law-beside Whole whole moving state (event.CacheKeys maker place) may = whole-holds Whole whole state _ (by_lane-law state maker _ (λ lane at is. with_key-law state place _ (λ key. nothing state)))
-  step-law-beside Whole whole moving state (event.Forget maker place) may = whole-holds Whole whole state _ (by_lane-law state maker _ (λ lane at is. with_key-law state place _ (forget-law state)))
-  step-law-beside Whole whole moving state (event.Match maker place asked) may = whole-holds Whole whole state _ (by_lane-law state maker _ (λ lane at is. with_key-law state place _ (match_request-law state place.at asked)))
-  step-law-beside Whole whole moving state (event.MatchAll maker place asked) may = whole-holds Whole whole state _ (by_lane-law state maker _ (λ lane at is. with_key-law state place _ (query_cache-law state place.at asked)))
-  step-law-beside Whole whole moving state (event.Keys maker place asked) may = whole-holds Whole whole state _ (by_lane-law state maker _ (λ lane at is. with_key-law state place _ (query_cache-law state place.at asked)))
-  step-law-beside Whole whole moving state (event.Put maker place put) may = whole-holds Whole whole state _ (by_lane-law state maker _ (λ lane at is. with_key-law state place _ (put_response-law state place.at put)))
-  step-law-beside Whole whole moving state (event.Delete maker place asked) may = whole-holds Whole whole state _ (by_lane-law state maker _ (λ lane at is. with_key-law state place _ (delete_request-law state place.at asked)))
-  step-law-beside Whole whole moving state (event.Batch maker place asked) may = whole-holds Whole whole state _ (by_lane-law state maker _ (λ lane at is. with_key-law state place _ (batch_ops-law state place.at asked)))
-  step-law-beside Whole whole moving state (event.AddAll maker place asked) may = whole-holds Whole whole state _ (by_lane-law state maker _ (add_all_by-law state maker place asked))
-  step-law-beside Whole whole moving state (event.PreloadEnable maker of) may = whole-holds Whole whole state _ (by_lane-law state maker _ (λ lane at is. with_named-law state of _ (λ row. preload_set-law state row true row.preload_value)))
-  step-law-beside Whole whole moving state (event.PreloadDisable maker of) may = whole-holds Whole whole state _ (by_lane-law state maker _ (λ lane at is. with_named-law state of _ (λ row. preload_set-law state row false row.preload_value)))
-  step-law-beside Whole whole moving state (event.PreloadValue maker of text) may = whole-holds Whole whole state _ (by_lane-law state maker _ (λ lane at is. with_named-law state of _ (λ row. preload_set-law state row row.preload text)))
-  step-law-beside Whole whole moving state (event.PreloadState maker of) may = whole-holds Whole whole state _ (by_lane-law state maker _ (λ lane at is. with_named-law state of _ (λ row. nothing state)))
-  step-law-beside Whole whole moving state (event.Call maker asked) may = whole-holds Whole whole state _ (make_call-law state maker asked may)
-  step-law-beside Whole whole moving state (event.Run maker job) may = whole-holds Whole whole state _ (by_host-law Law state maker _ (run-law Law Own controls law state job))
-  step-law-beside Whole whole moving state (event.Fetched maker job line) may = whole-holds Whole whole state _ (by_host-law Law state maker _ (fetched-law Law Own controls law state job line))
-  step-law-beside Whole whole moving state (event.Evaluated maker job) may = by_host-law Whole state maker _ (moving.evaluating state job)
-  step-law-beside Whole whole moving state (event.Installed maker job) may = by_host-law Whole state maker _ (moving.installing state job)
-  step-law-beside Whole whole moving state (event.TryActivate maker registration) may = whole-holds Whole whole state _ (by_host-law Law state maker _ (tryactivate-law state registration))
-  step-law-beside Whole whole moving state (event.Activated maker worker) may = by_host-law Whole state maker _ (moving.activating state worker)
-  step-law-beside Whole whole moving state (event.Added maker task lines) may = whole-holds Whole whole state _ (by_host-law Law state maker _ (added-law state task lines))
-  step-law-beside Whole whole moving state (event.Restarted maker) may = tt
+  step-law-beside Whole whole moving state happened may =
+      step-law-by Law Own Law controls law (λ any. Unit {0}) Whole whole (record {
+        moves = moving;
+        running = λ before job. whole-holds Law Whole whole before _ (run-law Law Own controls law before job);
+        fetching = λ before maker job line allowed. whole-holds Law Whole whole before _ (fetched-law Law Own controls law before job line);
+        adding = λ before maker task lines allowed. whole-holds Law Whole whole before _ (added-law Law Own controls law before task lines);
+      }) state happened may tt
 
 module _ (Law : State → Told → Type 0) (controls : Bool) {anywhere : Bool} (law : IsLawWhere Law controls anywhere) where
   activated-law : (state : State) (worker : Worker) (handler : Handler) → worker_row state worker.number ≡ Some worker → ended_handler state (λ in_phase. not (is_install in_phase)) worker ≡ Some handler → Law state (finish_activate state worker.registration worker.number)

@@ -199,7 +199,7 @@ unfolding forget_key
 forget_goes state key = record { values = λ job result is. is; workers = some_go (is_worker_of_any (filter (is_mapped_of key) state.registrations)) (λ worker. record worker { state = clear_state worker.state }) (λ x. refl) (λ x. refl) (λ x. clear_moves x.state) state.workers }
 
 -- the law of the steps that move no worker on
-forward_law : IsLawBeside GoesForward (λ state told. Unit {0}) true true
+forward_law : IsLawBeside GoesForward (λ state told. Unit {0}) GoesForward true true
 unfolding followed schedule map_registration unmap set_mode set_preload fetch_script make_worker add_client add_event remove_event add_cache drop_cache carry_out add_task settle_task note_call
 forward_law = record {
   rechecks = record {

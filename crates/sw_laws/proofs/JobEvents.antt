@@ -1,6 +1,7 @@
--- The split over jobs: scheduling, running, the fetch of a script, its evaluation, and the end of an install handler.
-use Rattle.std.proofs.Common.{◌≡◌, ◌∙◌, ℕ, Bool, true, false, ◌&&◌, ◌||◌, ◌==◌, List, [], ◌∷◌, length, Option, Some, None, IfSome, option_map, refl, ap, arith, if◌then◌else◌}
-use Rattle.std.specs.Prelude.{option_and_then}
+-- The split over jobs and the fetches of an addAll: scheduling, running, the fetch of a script, its evaluation, and the
+-- end of an install handler.
+use Rattle.std.proofs.Common.{◌≡◌, ◌∙◌, ℕ, Bool, true, false, ◌&&◌, ◌||◌, ◌==◌, List, [], ◌∷◌, length, Option, Some, None, Ok, IfSome, option_map, refl, ap, arith, if◌then◌else◌}
+use Rattle.std.specs.Prelude.{is_none, option_and_then}
 use Rattle.std.specs.List.{list_any}
 use Rattle.std.proofs.lemmas.Bool.Decides.{nat_tests}
 use Rattle.std.proofs.lemmas.List.Folds.{find-append}
@@ -8,6 +9,7 @@ use Rattle.sw_data.specs.declared.answers.Fault.{Fault}
 use Rattle.sw_data.specs.declared.answers.Settlement.{Settlement}
 use Rattle.sw_data.specs.declared.answers.Settlement.TheVariants as settlement
 use Rattle.sw_data.specs.declared.events.Who.{Who}
+use Rattle.sw_data.specs.declared.exchange.Op.{Op}
 use Rattle.sw_data.specs.declared.recordings.Fetched.{Fetched}
 use Rattle.sw_data.specs.declared.recordings.FetchLine.{FetchLine}
 use Rattle.sw_data.specs.declared.rows.Job.{Job}
@@ -17,24 +19,29 @@ use Rattle.sw_data.specs.declared.rows.JobKind.TheVariants as job_kind
 use Rattle.sw_data.specs.declared.rows.JobPhase.{JobPhase}
 use Rattle.sw_data.specs.declared.workers.Mode.{Mode}
 use Rattle.sw_data.specs.Addresses.{same_origin}
+use Rattle.sw_rules.specs.Batch.{batch}
+use Rattle.sw_rules.specs.Caching.{added, carry_out, pairs_of, puts_of, responses_fault, settle_task, store_task, task_ended}
 use Rattle.sw_rules.specs.Jobs.{finish, gets_value, promise, resolve_and_finish, schedule, settle}
-use Rattle.sw_rules.specs.Installing.{ended_handler, evaluated, evaluated_worker, fail_install, fetch_ended, fetched, fetched_of, fetched_script, finish_install, install, install_ended, installed, is_same_script, job_worker, keep_script, reject_and_drop, script_fault, throw}
-use Rattle.sw_rules.specs.Registering.{has_script, is_registered, may_run, register_refusal, rejected, run, run_allowed_register, run_job, run_register, run_unregister, run_update, scheduled_by, unregister_mapped}
+use Rattle.sw_rules.specs.Installing.{ended_handler, evaluated, evaluated_worker, fail_install, fetch_ended, fetched, fetched_of, fetched_script, finish_install, install, install_ended, installed, is_same_script, job_worker, keep_script, make_worker, reject_and_drop, script_fault, throw}
+use Rattle.sw_rules.specs.Matching.{Pair}
+use Rattle.sw_rules.specs.Registering.{fetch_script, has_script, is_registered, may_run, register_refusal, rejected, run, run_allowed_register, run_job, run_register, run_unregister, run_update, scheduled_by, unregister_mapped}
 use Rattle.sw_rules.specs.Registrations.{clear, drop_registration, map_registration, new_registration, set_mode, try_clear, unmap}
-use Rattle.sw_rules.specs.Rows.{changed, in_phase, is_evaluating, is_fetching, is_install, is_installing, is_job, is_mapped, is_registration, is_mapped_to, job_row, mapped_registration}
-use Rattle.sw_rules.specs.State.{State, Registration, Worker, Handler, of_job, value}
+use Rattle.sw_rules.specs.Rows.{changed, in_phase, is_evaluating, is_fetching, is_install, is_installing, is_job, is_mapped, is_registration, is_mapped_to, job_row, mapped_registration, task_row}
+use Rattle.sw_rules.specs.State.{State, Registration, Worker, AddAll, Handler, of_job, value}
 use Rattle.sw_rules.specs.Told.{Told, Outcome, followed, quiet}
 use Rattle.sw_laws.specs.Coherent.{is_there}
-use Rattle.sw_laws.proofs.Lists.{bound_holds, bytes_eq_same, by_option, by_test, find_changed, find_passes, length_pushed, mapped_holds}
+use Rattle.sw_laws.proofs.Lists.{bound_holds, bytes_eq_same, by_option, by_result, by_test, find_changed, find_passes, length_pushed, mapped_holds}
 use Rattle.sw_laws.proofs.Split.{IsLawBeside, IsLawWhere, IsAt, IsInstalled, IsLeavingLaw, LeavesMap, may_end, may_finish, try_clear-law}
 
 -- ---- look-ups along the chains
 
--- a job that was found is found by its own number
+-- a job that was found has the number
+own_number : (state : State) (number : ℕ) (row : JobRow) → job_row state number ≡ Some row → row.job.number ≡ number
+own_number state number row is = grind (arith, nat_tests, find_passes (is_job number) state.jobs row is)
+
+-- and is found by its own
 found_by_own : (state : State) (number : ℕ) (row : JobRow) → job_row state number ≡ Some row → job_row state row.job.number ≡ Some row
-found_by_own state number row is =
-    let same : row.job.number ≡ number = grind (arith, nat_tests, find_passes (is_job number) state.jobs row is) in
-    ap (job_row state) same ∙ is
+found_by_own state number row is = ap (job_row state) (own_number state number row is) ∙ is
 
 -- a job whose promise settles may finish
 settled_may_finish : (state : State) (job : ℕ) (result : Settlement) → may_end state job ≡ true → may_finish (settle state job result).state job ≡ true
@@ -118,19 +125,19 @@ module _ (Law : State → Told → Type 0) where
 
   registered-law : (state : State) (test : JobPhase → Bool) (act : JobRow → ℕ → Option Outcome) (row : JobRow) (registration : Option ℕ) → row.registration ≡ registration
       → job_row state row.job.number ≡ Some row → in_phase test row ≡ true
-      → ((row : JobRow) (registration : ℕ) → IsAt state test row registration → HoldsIf state (act row registration))
+      → ((registration : ℕ) → IsAt state test row registration → HoldsIf state (act row registration))
       → HoldsIf state (option_and_then (act row) registration)
   registered-law state test act row None is found here acts = tt
-  registered-law state test act row (Some registration) is found here acts = acts row registration (record { found = found; phase = here; registered = is })
+  registered-law state test act row (Some registration) is found here acts = acts registration (record { found = found; phase = here; registered = is })
 
   -- what happens to a job in a phase, with its registration
   at_phase-law : (state : State) (number : ℕ) (test : JobPhase → Bool) (act : JobRow → ℕ → Option Outcome) (found : Option JobRow) → job_row state number ≡ found
-      → ((row : JobRow) (registration : ℕ) → IsAt state test row registration → HoldsIf state (act row registration))
+      → ((row : JobRow) (registration : ℕ) → row.job.number ≡ number → IsAt state test row registration → HoldsIf state (act row registration))
       → HoldsIf state (option_and_then (λ row. option_and_then (act row) row.registration) (option_and_then (λ row. if in_phase test row then Some row else None) found))
   at_phase-law state number test act None is acts = tt
   at_phase-law state number test act (Some row) is acts =
       by_test (λ o. HoldsIf state (option_and_then (λ (row : JobRow). option_and_then (act row) row.registration) o)) (in_phase test row) _ _
-      (λ here. registered-law state test act row row.registration refl (found_by_own state number row is) here acts)
+      (λ here. registered-law state test act row row.registration refl (found_by_own state number row is) here (λ registration. acts row registration (own_number state number row is)))
       (λ no_phase. tt)
 
   evaluated_worker-by : ((state : State) (row : JobRow) (registration : ℕ) (worker : Worker) → IsAt state is_evaluating row registration → job_worker state row ≡ Some worker → Law state (throw state row.job.number registration worker.number))
@@ -146,7 +153,7 @@ module _ (Law : State → Told → Type 0) where
       → (state : State) (number : ℕ) → HoldsIf state (evaluated state number)
   evaluated-by throwing beginning state number =
       at_phase-law state number is_evaluating (λ row registration. option_map (evaluated_worker state row.job registration) (job_worker state row)) (job_row state number) refl
-      (λ row registration at. mapped_holds (Holds state) (evaluated_worker state row.job registration) (job_worker state row)
+      (λ row registration own at. mapped_holds (Holds state) (evaluated_worker state row.job registration) (job_worker state row)
       (λ worker made. evaluated_worker-by throwing beginning state row registration worker at made))
 
   install_ended-by : ((state : State) (row : JobRow) (registration : ℕ) (worker : Worker) (handler : Handler) → IsInstalled state row registration worker handler → Law state (fail_install state row registration worker.number))
@@ -162,19 +169,105 @@ module _ (Law : State → Told → Type 0) where
       → (state : State) (number : ℕ) → HoldsIf state (installed state number)
   installed-by failing installing state number =
       at_phase-law state number is_installing (λ row registration. option_and_then (λ worker. option_map (install_ended state row registration worker) (ended_handler state is_install worker)) (job_worker state row)) (job_row state number) refl
-      (λ row registration at. bound_holds (Holds state) (λ worker. option_map (install_ended state row registration worker) (ended_handler state is_install worker)) (job_worker state row)
+      (λ row registration own at. bound_holds (Holds state) (λ worker. option_map (install_ended state row registration worker) (ended_handler state is_install worker)) (job_worker state row)
       (λ worker made. mapped_holds (Holds state) (install_ended state row registration worker) (ended_handler state is_install worker)
       (λ handler ended. install_ended-by failing installing state row registration worker handler (record { at = at; made = made; ended = ended }))))
 
--- ---- the events of jobs
+-- ---- the cases of a run, and of what a fetch gave
 
-module _ (Law Own : State → Told → Type 0) (controls : Bool) {anywhere : Bool} (law : IsLawBeside Law Own controls anywhere) where
-  nothing : (state : State) → Law state (quiet state)
-  nothing = law.rechecks.nothing
+-- what a law has to say of the run of a job
+pub record IsRunLaw (Law : State → Told → Type 0) (state : State) (job : Job) : Type 0 where
+  pub ending : (result : Settlement) → Law state (resolve_and_finish state job.number result)
+  pub mapping : mapped_registration state job.key job.scope ≡ None → Law state (followed (map_registration state job) (λ after. fetch_script after job (length state.registrations)))
+  pub fetching : (found : Registration) → mapped_registration state job.key job.scope ≡ Some found → Law state (fetch_script state job found.number)
+  pub unregistering : (found : Registration) → mapped_registration state job.key job.scope ≡ Some found → Law state (unregister_mapped state job found.number)
 
-  further : (state : State) (told : Told) (next : State → Told) → Law state told → Law told.state (next told.state) → Law state (followed told next)
-  further = law.rechecks.further
+-- of what the fetch of its script gave
+pub record IsFetchLaw (Law : State → Told → Type 0) (state : State) (row : JobRow) (registration : ℕ) : Type 0 where
+  pub rejecting : (why : Fault) → Law state (reject_and_drop state row.job.number registration why)
+  pub keeping : Law state (keep_script state row.job registration)
+  pub making : (script : Fetched) → Law state (make_worker state row registration script)
 
+-- and of what the fetches of an addAll gave
+pub record IsAddLaw (Law : State → Told → Type 0) (state : State) (row : AddAll) : Type 0 where
+  pub storing : (ops : List Op) (pairs new : List Pair) → pairs_of row.key row.name state.caches ≡ Some pairs → batch pairs ops ≡ Ok new
+      → Law state (followed (carry_out state row.key row.name ops new) (λ stored. settle_task stored row.number settlement.Done false))
+  pub refusing : (why : Fault) → Law state (settle_task state row.number (settlement.Fault why) true)
+
+module _ (Law : State → Told → Type 0) (state : State) (job : Job) (law : IsRunLaw Law state job) where
+  run_allowed_register-by : Holds Law state (run_allowed_register state job)
+  unfolding run_allowed_register
+  run_allowed_register-by =
+      by_option (Holds Law state) (mapped_registration state job.key job.scope) _ _ law.mapping
+      (λ found there. by_test (Holds Law state) (is_registered state job found) _ _
+      (λ same. law.ending (settlement.Registration found.number))
+      (λ other. law.fetching found there))
+
+  run_register-by : Holds Law state (run_register state job)
+  unfolding run_register
+  run_register-by =
+      by_option (Holds Law state) (register_refusal job) _ _ (λ none. run_allowed_register-by) (λ why there. law.ending _)
+
+  run_update-by : Holds Law state (run_update state job)
+  unfolding run_update
+  run_update-by =
+      by_option (Holds Law state) (mapped_registration state job.key job.scope) _ _ (λ none. law.ending _)
+      (λ found there. by_test (Holds Law state) (has_script state job found) _ _
+      (λ same. law.fetching found there)
+      (λ other. law.ending _))
+
+  run_unregister-by : Holds Law state (run_unregister state job)
+  unfolding run_unregister
+  run_unregister-by =
+      by_test (Holds Law state) (same_origin job.scope job.referrer) _ _
+      (λ same. by_option (Holds Law state) (mapped_registration state job.key job.scope) _ _ (λ none. law.ending _) law.unregistering)
+      (λ other. law.ending _)
+
+  run_job-by : Holds Law state (run_job state job)
+  run_job-by = by_kind (Holds Law state) job.what _ _ _ run_register-by run_update-by run_unregister-by
+
+module _ (Law : State → Told → Type 0) where
+  pub run-by : ((state : State) (row : JobRow) → job_row state row.job.number ≡ Some row → may_run state row ≡ true → IsRunLaw Law state row.job) → (state : State) (number : ℕ) → HoldsIf Law state (run state number)
+  run-by running state number =
+      by_option (HoldsIf Law state) (job_row state number) _ _ (λ none. tt)
+      (λ row found. by_test (HoldsIf Law state) (may_run state row) _ _
+      (λ may. run_job-by Law state row.job (running state row (found_by_own state number row found) may)) (λ no_run. tt))
+
+  fetched_script-by : (state : State) (row : JobRow) (registration : ℕ) → IsFetchLaw Law state row registration → (script : Fetched) → Holds Law state (fetched_script state row registration script)
+  unfolding fetched_script
+  fetched_script-by state row registration law script =
+      by_option (Holds Law state) (script_fault row.job script) _ _
+      (λ none. by_test (Holds Law state) (is_same_script state row.job registration script.response.body) _ _ (λ same. law.keeping) (λ other. law.making script))
+      (λ why there. law.rejecting why)
+
+  fetch_ended-by : (state : State) (row : JobRow) (registration : ℕ) → IsFetchLaw Law state row registration → (script : Option Fetched) → Holds Law state (fetch_ended state row script registration)
+  fetch_ended-by state row registration law None = law.rejecting _
+  fetch_ended-by state row registration law (Some script) = fetched_script-by state row registration law script
+
+  pub fetched-by : (state : State) (number : ℕ) → ((row : JobRow) (registration : ℕ) → row.job.number ≡ number → IsAt state is_fetching row registration → IsFetchLaw Law state row registration) → (line : Option FetchLine) → HoldsIf Law state (fetched state number line)
+  fetched-by state number fetching line =
+      at_phase-law Law state number is_fetching (λ row registration. Some (fetch_ended state row (fetched_of line) registration)) (job_row state number) refl
+      (λ row registration own at. fetch_ended-by state row registration (fetching row registration own at) (fetched_of line))
+
+  store_task-by : (state : State) (row : AddAll) → IsAddLaw Law state row → (ops : List Op) (pairs : List Pair) → pairs_of row.key row.name state.caches ≡ Some pairs → Holds Law state (store_task state row ops pairs)
+  store_task-by state row law ops pairs there =
+      by_result (Holds Law state) (batch pairs ops) _ _ (λ new is. law.storing ops pairs new there is) (λ why is. law.refusing _)
+
+  task_ended-by : (state : State) (row : AddAll) → IsAddLaw Law state row → (lines : List (Option FetchLine)) → Holds Law state (task_ended state lines row)
+  task_ended-by state row law lines =
+      by_option (Holds Law state) (responses_fault 0 row.requests lines) _ _
+      (λ none. by_option (Holds Law state) (pairs_of row.key row.name state.caches) _ _ (λ gone. law.refusing _)
+      (λ pairs there. store_task-by state row law (puts_of row.requests lines) pairs there))
+      (λ why is. law.refusing why)
+
+  pub added-by : (state : State) (number : ℕ) → ((row : AddAll) → task_row state number ≡ Some row → IsAddLaw Law state row) → (lines : List (Option FetchLine)) → HoldsIf Law state (added state number lines)
+  added-by state number adding lines =
+      bound_holds (Holds Law state) _ (task_row state number) (λ row there.
+      by_test (HoldsIf Law state) (is_none row.settled) _ _ (λ open_task. task_ended-by state row (adding row there) lines) (λ done. tt))
+
+-- ---- what the promise of an action waits for
+
+module _ (Law Own Ends : State → Told → Type 0) (controls : Bool) {anywhere : Bool} (law : IsLawBeside Law Own Ends controls anywhere) where
   pub rejected-law : (state : State) (who : Who) (why : Fault) → Law state (rejected state who why).told
   unfolding rejected
   rejected-law state who why = law.promising state who (value (settlement.Fault why)) refl
@@ -182,8 +275,17 @@ module _ (Law Own : State → Told → Type 0) (controls : Bool) {anywhere : Boo
   pub scheduled_by-law : (state : State) (who : Who) (job : Job) → job.number ≡ length state.jobs → Law state (scheduled_by state who job).told
   unfolding scheduled_by
   scheduled_by-law state who job is =
-      further state (schedule state job) (λ after. promise after who (of_job job.number))
+      law.rechecks.further state (schedule state job) (λ after. promise after who (of_job job.number))
       (law.scheduling state job is) (law.promising (schedule state job).state who (of_job job.number) (scheduled_there state job is))
+
+-- ---- the events of jobs
+
+module _ (Law Own : State → Told → Type 0) (controls : Bool) {anywhere : Bool} (law : IsLawBeside Law Own Law controls anywhere) where
+  nothing : (state : State) → Law state (quiet state)
+  nothing = law.rechecks.nothing
+
+  further : (state : State) (told : Told) (next : State → Told) → Law state told → Law told.state (next told.state) → Law state (followed told next)
+  further = law.rechecks.further
 
   -- a job settles, something happens that leaves the jobs as they are, and the job is over
   ended-law : (state : State) (job : ℕ) (result : Settlement) → may_end state job ≡ true → Law state (resolve_and_finish state job result)
@@ -231,50 +333,17 @@ module _ (Law Own : State → Told → Type 0) (controls : Bool) {anywhere : Boo
       (further settled _ _ (try_clear-law Law law.rechecks settled registration (unmapped state registration job.number (settlement.Truth true)))
       (law.finishing (try_clear settled registration).state job.number (rw (try_clear_jobs settled registration) may_now))))
 
-  run_allowed_register-law : (state : State) (row : JobRow) → job_row state row.job.number ≡ Some row → may_run state row ≡ true → Law state (run_allowed_register state row.job).told
-  unfolding run_allowed_register
-  run_allowed_register-law state row is may =
-      by_option (Holds Law state) (mapped_registration state row.job.key row.job.scope) _ _
-      (λ none. further state _ _ (law.mapping state row.job none)
-      (law.fetching (map_registration state row.job).state row (new_registration (length state.registrations) row.job) (mapped_same state row is) (mapped_may_run state row may) (mapped_new state row.job none)))
-      (λ found there. by_test (Holds Law state) (is_registered state row.job found) _ _
-      (λ same. ended-law state row.job.number (settlement.Registration found.number) (run_may_end state row is may))
-      (λ other. law.fetching state row found is may there))
-
-  run_register-law : (state : State) (row : JobRow) → job_row state row.job.number ≡ Some row → may_run state row ≡ true → Law state (run_register state row.job).told
-  unfolding run_register
-  run_register-law state row is may =
-      by_option (Holds Law state) (register_refusal row.job) _ _
-      (λ none. run_allowed_register-law state row is may)
-      (λ why there. ended-law state row.job.number _ (run_may_end state row is may))
-
-  run_update-law : (state : State) (row : JobRow) → job_row state row.job.number ≡ Some row → may_run state row ≡ true → Law state (run_update state row.job).told
-  unfolding run_update
-  run_update-law state row is may =
-      by_option (Holds Law state) (mapped_registration state row.job.key row.job.scope) _ _
-      (λ none. ended-law state row.job.number _ (run_may_end state row is may))
-      (λ found there. by_test (Holds Law state) (has_script state row.job found) _ _
-      (λ same. law.fetching state row found is may there)
-      (λ other. ended-law state row.job.number _ (run_may_end state row is may)))
-
-  run_unregister-law : (state : State) (row : JobRow) → job_row state row.job.number ≡ Some row → may_run state row ≡ true → Law state (run_unregister state row.job).told
-  unfolding run_unregister
-  run_unregister-law state row is may =
-      by_test (Holds Law state) (same_origin row.job.scope row.job.referrer) _ _
-      (λ same. by_option (Holds Law state) (mapped_registration state row.job.key row.job.scope) _ _
-      (λ none. ended-law state row.job.number _ (run_may_end state row is may))
-      (λ found there. unregister_mapped-law state row found is may there))
-      (λ other. ended-law state row.job.number _ (run_may_end state row is may))
-
-  run_job-law : (state : State) (row : JobRow) → job_row state row.job.number ≡ Some row → may_run state row ≡ true → Holds Law state (run_job state row.job)
-  run_job-law state row is may =
-      by_kind (Holds Law state) row.job.what _ _ _ (run_register-law state row is may) (run_update-law state row is may) (run_unregister-law state row is may)
+  running : (state : State) (row : JobRow) → job_row state row.job.number ≡ Some row → may_run state row ≡ true → IsRunLaw Law state row.job
+  running state row is may = record {
+    ending = λ result. ended-law state row.job.number result (run_may_end state row is may);
+    mapping = λ none. further state _ _ (law.mapping state row.job none)
+        (law.fetching (map_registration state row.job).state row (new_registration (length state.registrations) row.job) (mapped_same state row is) (mapped_may_run state row may) (mapped_new state row.job none));
+    fetching = λ found there. law.fetching state row found is may there;
+    unregistering = λ found there. unregister_mapped-law state row found is may there;
+  }
 
   pub run-law : (state : State) (number : ℕ) → HoldsIf Law state (run state number)
-  run-law state number =
-      by_option (HoldsIf Law state) (job_row state number) _ _ (λ none. tt)
-      (λ row found. by_test (HoldsIf Law state) (may_run state row) _ _
-      (λ may. run_job-law state row (found_by_own state number row found) may) (λ no_run. tt))
+  run-law = run-by Law running
 
   -- ---- the fetch of a script
 
@@ -284,24 +353,26 @@ module _ (Law Own : State → Told → Type 0) (controls : Bool) {anywhere : Boo
       further state (set_mode state registration job.mode) _ (law.moding state registration job.mode)
       (ended-law (set_mode state registration job.mode).state job.number _ (mode_may_end state registration job.number job.mode may))
 
-  fetched_script-law : (state : State) (row : JobRow) (registration : ℕ) (script : Fetched) → IsAt state is_fetching row registration → Holds Law state (fetched_script state row registration script)
-  unfolding fetched_script
-  fetched_script-law state row registration script at =
-      by_option (Holds Law state) (script_fault row.job script) _ _
-      (λ none. by_test (Holds Law state) (is_same_script state row.job registration script.response.body) _ _
-      (λ same. keep_script-law state row.job registration (fetching_may_end state row registration at))
-      (λ other. law.making state row registration script at))
-      (λ why there. leaving.rejecting state row registration why at)
-
-  fetch_ended-law : (state : State) (row : JobRow) (script : Option Fetched) (registration : ℕ) → IsAt state is_fetching row registration → Holds Law state (fetch_ended state row script registration)
-  fetch_ended-law state row None registration at =
-      leaving.rejecting state row registration _ at
-  fetch_ended-law state row (Some script) registration at = fetched_script-law state row registration script at
+  fetching : (state : State) (row : JobRow) (registration : ℕ) → IsAt state is_fetching row registration → IsFetchLaw Law state row registration
+  fetching state row registration at = record {
+    rejecting = λ why. leaving.rejecting state row registration why at;
+    keeping = keep_script-law state row.job registration (fetching_may_end state row registration at);
+    making = λ script. law.making state row registration script at;
+  }
 
   pub fetched-law : (state : State) (number : ℕ) (line : Option FetchLine) → HoldsIf Law state (fetched state number line)
-  fetched-law state number line =
-      at_phase-law Law state number is_fetching (λ row registration. Some (fetch_ended state row (fetched_of line) registration)) (job_row state number) refl
-      (λ row registration at. fetch_ended-law state row (fetched_of line) registration at)
+  fetched-law state number = fetched-by Law state number (λ row registration own at. fetching state row registration at)
+
+  -- ---- the fetches of an addAll
+
+  adding : (state : State) (row : AddAll) → IsAddLaw Law state row
+  adding state row = record {
+    storing = λ ops pairs new there is. further state _ _ (law.carrying state row.key row.name ops pairs new there is) (law.answering (carry_out state row.key row.name ops new).state row.number settlement.Done false);
+    refusing = λ why. law.answering state row.number _ true;
+  }
+
+  pub added-law : (state : State) (number : ℕ) (lines : List (Option FetchLine)) → HoldsIf Law state (added state number lines)
+  added-law state number = added-by Law state number (λ row there. adding state row)
 
 module _ (Law : State → Told → Type 0) (controls : Bool) {anywhere : Bool} (law : IsLawWhere Law controls anywhere) where
   -- ---- the evaluation of a script

@@ -13,6 +13,8 @@ pub mod DurableSteps
 pub mod EndSteps
 pub mod Events
 pub mod FetchSteps
+pub mod FetchesStay
+pub mod Fetching
 pub mod ForgetSteps
 pub mod Forward
 pub mod ForwardLaw

@@ -1,9 +1,9 @@
 -- Lists of rows: tests, look-ups and changes, and rows that are apart.
-use Rattle.std.proofs.Common.{◌≡◌, ℕ, ◌+◌, Bool, true, false, not, ◌&&◌, ◌||◌, ◌==◌, List, [], ◌∷◌, ◌++◌, map, filter, Option, Some, None, IfSome, option_map, length, length-append, refl, sym, ap, arith, if◌then◌else◌}
+use Rattle.std.proofs.Common.{◌≡◌, ℕ, ◌+◌, Bool, true, false, not, ◌&&◌, ◌||◌, ◌==◌, List, [], ◌∷◌, ◌++◌, map, filter, Option, Some, None, Ok, Err, IfSome, option_map, length, length-append, refl, sym, ap, arith, if◌then◌else◌}
 use Rattle.std.specs.List.{list_any, list_all, find}
 use Rattle.std.specs.Option.{option_map_or}
 use Rattle.std.proofs.lemmas.Bool.{and_from, and_parts}
-use Rattle.std.specs.Prelude.{bytes_eq, option_and_then}
+use Rattle.std.specs.Prelude.{Result, bytes_eq, option_and_then}
 use Rattle.std.proofs.lemmas.Bool.Decides.{nat_tests, same_from_decides}
 use Rattle.std.proofs.lemmas.Slice.Eq.{bytes_eq-Decides}
 use Rattle.sw_laws.specs.Coherent.{apart}
@@ -87,6 +87,10 @@ by_truth false one other = other refl
 pub by_option : {A X : Type 0} (P : X → Type 0) (o : Option A) (gone : X) (there : A → X) → (o ≡ None → P gone) → ((a : A) → o ≡ Some a → P (there a)) → P (elim o [ None ↦ gone | Some a ↦ there a ])
 by_option P None gone there one other = one refl
 by_option P (Some a) gone there one other = other a refl
+
+pub by_result : {A B X : Type 0} (P : X → Type 0) (result : Result A B) (good : A → X) (bad : B → X) → ((a : A) → result ≡ Ok a → P (good a)) → ((b : B) → result ≡ Err b → P (bad b)) → P (elim result [ Ok a ↦ good a | Err b ↦ bad b ])
+by_result P (Ok a) good bad one other = one a refl
+by_result P (Err b) good bad one other = other b refl
 
 -- what holds of each value that there is
 pub mapped_holds : {A X : Type 0} (P : X → Type 0) (f : A → X) (o : Option A) → ((a : A) → o ≡ Some a → P (f a)) → IfSome (option_map f o) P

@@ -1,15 +1,18 @@
 -- The split over helpers and events, made once for all laws: a law of a state and of what follows it holds of each
 -- event, if it holds of each least step. First what a law has to say, and what happens where a registration is left.
-use Rattle.std.proofs.Common.{◌≡◌, ℕ, Bool, true, false, not, ◌&&◌, ◌==◌, List, length, Some, None, Ok, IfSome, arith}
+use Rattle.std.proofs.Common.{◌≡◌, ℕ, Bool, true, false, not, ◌&&◌, ◌==◌, List, length, Option, Some, None, Ok, IfSome, arith}
 use Rattle.std.specs.Prelude.{option_and_then, is_none, is_some, map}
 use Rattle.std.specs.Option.{option_map_or}
 use Rattle.sw_data.specs.declared.answers.Fault.{Fault}
 use Rattle.sw_data.specs.declared.answers.Settlement.{Settlement}
 use Rattle.sw_data.specs.declared.answers.Settlement.TheVariants as settlement
+use Rattle.sw_data.specs.declared.events.Event.{Event}
+use Rattle.sw_data.specs.declared.events.Event.TheVariants as event
 use Rattle.sw_data.specs.declared.events.Who.{Who}
 use Rattle.sw_data.specs.declared.exchange.Op.{Op}
 use Rattle.sw_data.specs.declared.exchange.Request.{Request}
 use Rattle.sw_data.specs.declared.recordings.Fetched.{Fetched}
+use Rattle.sw_data.specs.declared.recordings.FetchLine.{FetchLine}
 use Rattle.sw_data.specs.declared.rows.ClientRow.{ClientRow}
 use Rattle.sw_data.specs.declared.rows.Job.{Job}
 use Rattle.sw_data.specs.declared.rows.JobPhase.{JobPhase}
@@ -17,14 +20,14 @@ use Rattle.sw_data.specs.declared.rows.JobRow.{JobRow}
 use Rattle.sw_data.specs.declared.workers.Mode.{Mode}
 use Rattle.sw_rules.specs.Activating.{activated, become_activated, is_owed, paid}
 use Rattle.sw_rules.specs.Batch.{batch}
-use Rattle.sw_rules.specs.Caching.{add_cache, add_task, carry_out, drop_cache, forget_key, is_busy, pairs_of, settle_task}
+use Rattle.sw_rules.specs.Caching.{add_cache, add_task, added, carry_out, drop_cache, forget_key, is_busy, pairs_of, settle_task}
 use Rattle.sw_rules.specs.Calls.{note_call}
 use Rattle.sw_rules.specs.Clients.{add_client, add_event, claim_clients, flagged, leave, new_client, remove_event}
-use Rattle.sw_rules.specs.Installing.{begin_install, end_handler, ended_handler, evaluated, fail_install, finish_install, installed, job_worker, make_worker, reject_and_drop, tell_update, throw}
+use Rattle.sw_rules.specs.Installing.{begin_install, end_handler, ended_handler, evaluated, fail_install, fetched, finish_install, installed, job_worker, make_worker, reject_and_drop, tell_update, throw}
 use Rattle.sw_rules.specs.Jobs.{finish, promise, schedule, settle}
 use Rattle.sw_rules.specs.Matching.{Pair}
 use Rattle.sw_rules.specs.Preloading.{set_preload}
-use Rattle.sw_rules.specs.Registering.{fetch_script, may_run}
+use Rattle.sw_rules.specs.Registering.{fetch_script, may_run, run}
 use Rattle.sw_rules.specs.Registrations.{activate, chosen, clear, left_by, map_registration, recheck, release, set_mode, try_activate, try_clear, unload, unmap}
 use Rattle.sw_rules.specs.Rows.{active_worker, client_row, event_row, has_pending_worker, has_worker, in_phase, is_activating, is_active, is_evaluating, is_fetching, is_install, is_installing, is_mapped, is_used, job_row, maker_worker, mapped_registration, worker_row}
 use Rattle.sw_rules.specs.State.{State, Registration, Worker, Awaited, Handler}
@@ -110,23 +113,24 @@ GetsPreload false Law = (state : State) (registration : ℕ) (on : Bool) (text :
 
 -- a law of all events: it holds of each least step, under the tests under which the step is taken; what gives a client
 -- a controller that it hadn't is asked for only where that counts, a registration leaves the map and gets a preload
--- anywhere or only as the events have it, and of what moves a worker on another law is asked
-pub record IsLawBeside (Law Own : State → Told → Type 0) (controls anywhere : Bool) : Type 0 where
+-- anywhere or only as the events have it, of what moves a worker on another law is asked, and of what ends a job, its
+-- fetch or an addAll a third
+pub record IsLawBeside (Law Own Ends : State → Told → Type 0) (controls anywhere : Bool) : Type 0 where
   pub rechecks : IsRecheckLaw Law
   pub scheduling : (state : State) (job : Job) → job.number ≡ length state.jobs → Law state (schedule state job)
   pub promising : (state : State) (who : Who) (awaited : Awaited) → is_there state.jobs state.tasks awaited ≡ true → Law state (promise state who awaited)
   pub settling : (state : State) (job : ℕ) (result : Settlement) → may_end state job ≡ true → Law state (settle state job result)
-  pub finishing : (state : State) (job : ℕ) → may_finish state job ≡ true → Law state (finish state job)
+  pub finishing : (state : State) (job : ℕ) → may_finish state job ≡ true → Ends state (finish state job)
   pub mapping : (state : State) (job : Job) → mapped_registration state job.key job.scope ≡ None → Law state (map_registration state job)
   pub unmapping : LeavesMap anywhere Law
   pub moding : (state : State) (registration : ℕ) (mode : Mode) → Law state (set_mode state registration mode)
   pub preloading : GetsPreload anywhere Law
   pub fetching : (state : State) (row : JobRow) (registration : Registration) → job_row state row.job.number ≡ Some row → may_run state row ≡ true → mapped_registration state row.job.key row.job.scope ≡ Some registration → Law state (fetch_script state row.job registration.number)
-  pub making : (state : State) (row : JobRow) (registration : ℕ) (fetched : Fetched) → IsAt state is_fetching row registration → Law state (make_worker state row registration fetched)
-  pub throwing : (state : State) (row : JobRow) (registration : ℕ) (worker : Worker) → IsAt state is_evaluating row registration → job_worker state row ≡ Some worker → Law state (throw state row.job.number registration worker.number)
+  pub making : (state : State) (row : JobRow) (registration : ℕ) (fetched : Fetched) → IsAt state is_fetching row registration → Ends state (make_worker state row registration fetched)
+  pub throwing : (state : State) (row : JobRow) (registration : ℕ) (worker : Worker) → IsAt state is_evaluating row registration → job_worker state row ≡ Some worker → Ends state (throw state row.job.number registration worker.number)
   pub beginning : (state : State) (row : JobRow) (registration : ℕ) (worker : Worker) → IsAt state is_evaluating row registration → job_worker state row ≡ Some worker
       → Own state (followed (begin_install state row.job.number registration worker.number) (λ begun. followed (settle begun row.job.number (settlement.Registration registration)) (λ settled. tell_update settled registration)))
-  pub failing : (state : State) (row : JobRow) (registration : ℕ) (worker : Worker) (handler : Handler) → IsInstalled state row registration worker handler → Law state (fail_install state row registration worker.number)
+  pub failing : (state : State) (row : JobRow) (registration : ℕ) (worker : Worker) (handler : Handler) → IsInstalled state row registration worker handler → Ends state (fail_install state row registration worker.number)
   pub installing : (state : State) (row : JobRow) (registration : ℕ) (worker : Worker) (handler : Handler) → IsInstalled state row registration worker handler → Own state (finish_install state row.job.number registration worker)
   pub paying : (state : State) (registration : ℕ) (told : Told) → is_owed state registration ≡ true → Law (paid registration state) told → Law state told
   pub activated : (state : State) (worker : Worker) (handler : Handler) (next : State → Told) → worker_row state worker.number ≡ Some worker → ended_handler state (λ phase. not (is_install phase)) worker ≡ Some handler → ((after : State) → Law after (next after))
@@ -144,12 +148,12 @@ pub record IsLawBeside (Law Own : State → Told → Type 0) (controls anywhere 
   pub carrying : (state : State) (key name : List ℕ) (ops : List Op) (pairs new : List Pair) → pairs_of key name state.caches ≡ Some pairs → batch pairs ops ≡ Ok new → Law state (carry_out state key name ops new)
   pub forgetting : (state : State) (key : List ℕ) → is_busy state key ≡ false → Law state (forget_key state key)
   pub awaiting : (state : State) (who : Who) (key name : List ℕ) (requests : List Request) → is_running state.workers (maker_worker who) ≡ true → Law state (add_task state who key name requests)
-  pub answering : (state : State) (number : ℕ) (result : Settlement) (faulted : Bool) → Law state (settle_task state number result faulted)
+  pub answering : (state : State) (number : ℕ) (result : Settlement) (faulted : Bool) → Ends state (settle_task state number result faulted)
   pub noting : (state : State) (worker : ℕ) (faulted : Bool) → Law state (note_call state worker faulted)
 
 -- a law that is asked of all steps alike
 abbrev pub IsLawWhere : (State → Told → Type 0) → Bool → Bool → Type 0
-IsLawWhere Law controls anywhere = IsLawBeside Law Law controls anywhere
+IsLawWhere Law controls anywhere = IsLawBeside Law Law Law controls anywhere
 
 -- a law that holds of a registration which leaves the map or gets a preload anywhere
 abbrev pub IsLaw : (State → Told → Type 0) → Bool → Type 0
@@ -160,3 +164,11 @@ pub record IsMoveLaw (Law : State → Told → Type 0) : Type 0 where
   pub evaluating : (state : State) (number : ℕ) → IfSome (evaluated state number) (λ outcome. Law state outcome.told)
   pub installing : (state : State) (number : ℕ) → IfSome (installed state number) (λ outcome. Law state outcome.told)
   pub activating : (state : State) (number : ℕ) → IfSome (activated state number) (λ outcome. Law state outcome.told)
+
+-- a law of the events of the host that move a job, a worker or an addAll on; of the ends of fetches only where they are
+-- allowed
+pub record IsHostLaw (Allowed : Event → Type 0) (Law : State → Told → Type 0) : Type 0 where
+  pub moves : IsMoveLaw Law
+  pub running : (state : State) (number : ℕ) → IfSome (run state number) (λ outcome. Law state outcome.told)
+  pub fetching : (state : State) (maker : Who) (number : ℕ) (line : Option FetchLine) → Allowed (event.Fetched maker number line) → IfSome (fetched state number line) (λ outcome. Law state outcome.told)
+  pub adding : (state : State) (maker : Who) (number : ℕ) (lines : List (Option FetchLine)) → Allowed (event.Added maker number lines) → IfSome (added state number lines) (λ outcome. Law state outcome.told)

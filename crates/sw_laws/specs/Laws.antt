@@ -1,7 +1,9 @@
 -- Laws of every legal history, each the clause of the call of `sw_laws::laws` that has its name.
-use Rattle.std.specs.Prelude.{◌≡◌, ◌⊎◌, ℕ, suc, true, List, [], ◌∷◌, ◌++◌, take, filter, find, is_none, is_some, Option, Some, option_and_then}
+use Rattle.std.specs.Prelude.{◌≡◌, ◌⊎◌, ℕ, suc, Bool, true, false, ◌&&◌, ◌==◌, List, [], ◌∷◌, ◌++◌, take, filter, find, is_none, is_some, Option, Some, option_and_then}
+use Rattle.std.specs.List.{list_any}
 use Rattle.sw_data.specs.declared.answers.Settlement.{Settlement}
 use Rattle.sw_data.specs.declared.events.Event.{Event}
+use Rattle.sw_data.specs.declared.events.Event.TheVariants as event
 use Rattle.sw_data.specs.declared.histories.Entry.{Entry}
 use Rattle.sw_data.specs.declared.rows.JobRow.{JobRow}
 use Rattle.sw_data.specs.declared.storage.Change.{Change}
@@ -12,7 +14,7 @@ use Rattle.sw_data.specs.declared.workers.WorkerState.TheVariants as worker_stat
 use Rattle.sw_rules.specs.Durable as kept
 use Rattle.sw_rules.specs.History.{Controlled, Legal, after, moved}
 use Rattle.sw_rules.specs.Restart.{restart}
-use Rattle.sw_rules.specs.Rows.{is_unfinished, is_worker, job_row, worker_row}
+use Rattle.sw_rules.specs.Rows.{in_phase, is_fetching, is_unfinished, is_worker, job_row, worker_row}
 use Rattle.sw_rules.specs.State.{State, Worker}
 use Rattle.sw_rules.specs.Step.{changes_of, state_after}
 use Rattle.sw_rules.specs.Storage.{IsMade, applied, kept_after}
@@ -91,6 +93,35 @@ pub record HasSlots : Type 0 where
   pub states : (base : Kept) (history : List Entry) (happened : Event) (number : ℕ) (row : Worker)
       → Legal base history → worker_row (after base history) number ≡ Some row
       → HasGoneOn row (state_after (after base history) happened).workers number
+
+-- ---- fetches
+
+-- the event ends the fetch of this job
+abbrev pub ends_fetch : ℕ → Event → Bool
+ends_fetch job (event.Fetched who other line) = other == job
+ends_fetch job _ = false
+
+-- the event ends the fetches of this addAll
+abbrev pub ends_add_all : ℕ → Event → Bool
+ends_add_all task (event.Added who other lines) = other == task
+ends_add_all task _ = false
+
+-- a job of this number fetches
+abbrev pub is_fetching_job : State → ℕ → Bool
+is_fetching_job state job = list_any (λ row. row.job.number == job && in_phase is_fetching row) state.jobs
+
+-- an addAll of this number has not settled
+abbrev pub is_open_task : State → ℕ → Bool
+is_open_task state task = list_any (λ row. row.number == task && is_none row.settled) state.tasks
+
+-- own: what is fetched stays so until the event that ends it
+pub record FetchesStay : Type 0 where
+  pub jobs : (state : State) (happened : Event) (job : ℕ)
+      → Coherent state → ends_fetch job happened ≡ false
+      → is_fetching_job state job ≡ true → is_fetching_job (state_after state happened) job ≡ true
+  pub tasks : (state : State) (happened : Event) (task : ℕ)
+      → Coherent state → ends_add_all task happened ≡ false
+      → is_open_task state task ≡ true → is_open_task (state_after state happened) task ≡ true
 
 -- ---- what is kept
 

@@ -1,6 +1,6 @@
 //! The laws. A call does nothing; its clause is the law.
 
-ghost use Rattle.sw_laws.specs.Laws.{DurableIsKept, HasSlots, IsAlwaysCoherent, IsAlwaysControlled, RestartsOnce, RestsWithoutWork, SettlesOnce};
+ghost use Rattle.sw_laws.specs.Laws.{DurableIsKept, FetchesStay, HasSlots, IsAlwaysCoherent, IsAlwaysControlled, RestartsOnce, RestsWithoutWork, SettlesOnce};
 
 /// A restart leaves a coherent state, and each event keeps it so: the rows of every state after a legal history fit
 /// together.
@@ -47,4 +47,10 @@ pub fn promises_settle_once()
 #[tactic(auto, using(crate::proofs::DurableKept::durable_is_kept))]
 pub fn changes_keep_the_durable_part()
     ensures { DurableIsKept }
+{}
+
+/// A job that fetches goes on to do so, and an addAll stays unsettled, until the event that ends its fetches.
+#[tactic(auto, using(crate::proofs::FetchesStay::fetches_stay))]
+pub fn fetches_stay()
+    ensures { FetchesStay }
 {}
