@@ -1,5 +1,5 @@
 -- What is picked: the lowest lane whose next action may happen, or else the first ready task that isn't in flight.
-use Rattle.std.specs.Prelude.{ℕ, Bool, false, not, ◌==◌, List, length, find, is_some, Option, Some, None, option_map, if◌then◌else◌}
+use Rattle.std.specs.Prelude.{ℕ, Bool, true, false, not, ◌==◌, List, length, find, filter_map, is_some, Option, Some, None, option_map, if◌then◌else◌}
 use Rattle.std.specs.Option.{option_map_or}
 use Rattle.std.specs.List.{list_any}
 use Rattle.sw_data.specs.declared.events.Event.{Event}
@@ -27,6 +27,16 @@ is_task (task.Install one) (task.Install other) = one == other
 is_task (task.TryActivate one) (task.TryActivate other) = one == other
 is_task (task.Activate one) (task.Activate other) = one == other
 is_task _ _ = false
+
+-- the fetch of a job's script, or the fetches of an addAll
+abbrev pub is_fetch : Task → Bool
+is_fetch (task.Fetch job) = true
+is_fetch (task.FetchAll number) = true
+is_fetch _ = false
+
+-- what each pass has taken up, as one list: the tasks in flight (own)
+abbrev pub in_flight : List (Option Task) → List Task
+in_flight flights = filter_map (λ one. one) flights
 
 -- the first ready task that isn't in flight (own)
 abbrev pub task_left : State → List Task → Option Task
