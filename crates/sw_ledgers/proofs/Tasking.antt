@@ -1,13 +1,14 @@
 -- The rows of the table of addAlls: how they are found, added and changed.
-use Rattle.std.proofs.Common.{◌≡◌, ◌∙◌, ℕ, suc, ◌==◌, ◌+◌, ◌<◌, ◌≤◌, ◌^◌, Bool, true, false, List, [], ◌∷◌, ◌++◌, map, length, Option, Some, None, option_map, refl, sym, ap, arith, slice_set, slice_index_or}
+use Rattle.std.proofs.Common.{◌≡◌, ◌∙◌, ℕ, suc, ◌==◌, ◌+◌, ◌<◌, ◌≤◌, ◌^◌, Bool, true, false, List, [], ◌∷◌, ◌++◌, map, length, drop, is_none, is_some, not, Option, Some, None, option_map, refl, sym, ap, arith, slice_set, slice_index_or}
 use Rattle.std.specs.List.{find, range_with_len}
 use Rattle.std.specs.Option.{option_map_or}
-use Rattle.std.proofs.lemmas.List.{length-append, length-map, length-set, map-append}
+use Rattle.std.proofs.lemmas.List.{drop-map, length-append, length-map, length-set, map-append}
 use Rattle.sw_data.specs.declared.answers.Settlement.{Settlement}
 use Rattle.sw_rules.specs.Rows.{changed, is_task}
 use Rattle.sw_rules.specs.State.{AddAll}
 use Rattle.sw_ledgers.specs.declared.tasks.TaskRow.{TaskRow}
-use Rattle.sw_ledgers.specs.Tasks.{AreKept, has_task, row_of}
+use Rattle.sw_flags.proofs.Placing.{flags_set}
+use Rattle.sw_ledgers.specs.Tasks.{AreKept, IsKept, has_task, is_unsettled, row_of}
 use Rattle.sw_rules.proofs.Places.{changed_here, found_here, found_none, more_at_places, place_within, set_at_places}
 
 abbrev number : TaskRow → ℕ
@@ -51,15 +52,40 @@ numbered_from base (task ∷ tasks) placed =
 pub numbers_are_places : (tasks : List TaskRow) → AreKept tasks → map (λ (row : AddAll). row.number) (map row_of tasks) ≡ range_with_len 0 (length (map row_of tasks))
 numbers_are_places tasks kept = numbered_from 0 tasks (λ i d below. let is = kept.places i d below in omega (arith, is))
 
+-- ---- the addAlls that have not settled
+
+pub many_flags : (tasks : List TaskRow) (flags : List Bool) → IsKept tasks flags → length flags ≡ length tasks
+many_flags tasks flags kept = sym (ap length kept.unsettled) ∙ length-map tasks is_unsettled
+
+unsettled_of : (tasks : List TaskRow) → option_map row_of (find is_unsettled tasks) ≡ find (λ (row : AddAll). is_none row.settled) (map row_of tasks)
+unsettled_of [] = refl
+unsettled_of (task ∷ tasks) = grind (arith, unsettled_of tasks)
+
+pub next_found : (tasks : List TaskRow) (from : ℕ) (found : Option TaskRow) → found ≡ find is_unsettled (drop from tasks)
+    → option_map row_of found ≡ find (λ (row : AddAll). is_none row.settled) (drop from (map row_of tasks))
+next_found tasks from found is =
+    ap (option_map row_of) is
+    ∙ (unsettled_of (drop from tasks) ∙ sym (ap (find (λ (row : AddAll). is_none row.settled)) (drop-map row_of from tasks)))
+
 -- ---- one more addAll
 
 pub rows_more : (tasks : List TaskRow) (new : TaskRow) → map row_of (tasks ++ new ∷ []) ≡ map row_of tasks ++ row_of new ∷ []
 rows_more tasks new = map-append row_of tasks (new ∷ [])
 
-pub kept_more : (tasks : List TaskRow) (new : TaskRow) → AreKept tasks → number new + 1 < 2 ^ 32 → number new ≡ length tasks → AreKept (tasks ++ new ∷ [])
-kept_more tasks new kept few is = record {
-  places = more_at_places (λ place task. number task ≡ place) tasks new kept.places is;
-  many = omega (arith, is, few, length-append tasks (new ∷ []));
+no_value : (value : Option Settlement) (flag : Bool) → is_some value ≡ not flag → is_none value ≡ flag
+no_value None true is = refl
+no_value (Some value) false is = refl
+no_value None false is = absurd cc
+no_value (Some value) true is = absurd cc
+
+pub kept_more : (tasks : List TaskRow) (flags : List Bool) (new : TaskRow) (flag : Bool) → IsKept tasks flags → number new + 1 < 2 ^ 32
+    → number new ≡ length tasks → is_some new.settled ≡ not flag → IsKept (tasks ++ new ∷ []) (flags ++ flag ∷ [])
+kept_more tasks flags new flag kept few is told = record {
+  rows = record {
+    places = more_at_places (λ place task. number task ≡ place) tasks new kept.rows.places is;
+    many = omega (arith, is, few, length-append tasks (new ∷ []));
+  };
+  unsettled = map-append is_unsettled tasks (new ∷ []) ∙ (λ i. kept.unsettled i ++ no_value new.settled flag told i ∷ []);
 }
 
 -- ---- an addAll settles
@@ -76,9 +102,12 @@ settled_rows value tasks n d new kept below is =
     ap (λ task. map row_of (slice_set tasks n task)) is
     ∙ (ap (map row_of) (changed_here number (with_value value) tasks n d kept.places below) ∙ rows_changed value n tasks)
 
-pub kept_settled : (value : Settlement) (tasks : List TaskRow) (n : ℕ) (d new : TaskRow) → AreKept tasks → n < length tasks
-    → new ≡ with_value value (slice_index_or tasks n d) → AreKept (slice_set tasks n new)
-kept_settled value tasks n d new kept below is = record {
-  places = set_at_places (λ place task. number task ≡ place) tasks n new kept.places below (ap number is ∙ kept.places n d below);
-  many = omega (arith, kept.many, length-set tasks n new);
+pub kept_settled : (value : Settlement) (tasks : List TaskRow) (flags : List Bool) (n : ℕ) (d new : TaskRow) → IsKept tasks flags → n < length tasks
+    → new ≡ with_value value (slice_index_or tasks n d) → IsKept (slice_set tasks n new) (slice_set flags n false)
+kept_settled value tasks flags n d new kept below is = record {
+  rows = record {
+    places = set_at_places (λ place task. number task ≡ place) tasks n new kept.rows.places below (ap number is ∙ kept.rows.places n d below);
+    many = omega (arith, kept.rows.many, length-set tasks n new);
+  };
+  unsettled = flags_set is_unsettled tasks flags n new false kept.unsettled (sym (ap is_unsettled is));
 }

@@ -1,5 +1,5 @@
 -- The table of addAlls (own).
-use Rattle.std.specs.Prelude.{ℕ, ◌≡◌, ◌<◌, ◌^◌, Bool, false, List, find, length, slice_index_or}
+use Rattle.std.specs.Prelude.{ℕ, ◌≡◌, ◌<◌, ◌^◌, Bool, false, List, find, is_none, length, map, slice_index_or}
 use Rattle.std.specs.Option.{option_map_or}
 use Rattle.sw_rules.specs.Rows.{is_task}
 use Rattle.sw_rules.specs.State.{AddAll}
@@ -34,3 +34,12 @@ pub record FitsTask (new : AddAll) (table : Table) : Type 0 where
 pub record AreKept (tasks : List TaskRow) : Type 0 where
   pub places : (i : ℕ) (d : TaskRow) → i < length tasks → (slice_index_or tasks i d).number ≡ i
   pub many : length tasks < 2 ^ 32
+
+-- an addAll has not settled
+abbrev pub is_unsettled : TaskRow → Bool
+is_unsettled task = is_none task.settled
+
+-- besides, the flags tell which addAlls have not settled
+pub record IsKept (tasks : List TaskRow) (flags : List Bool) : Type 0 where
+  pub rows : AreKept tasks
+  pub unsettled : map is_unsettled tasks ≡ flags

@@ -1,6 +1,6 @@
 //! The addAlls, by their numbers.
 
-ghost use Rattle.std.specs.Prelude.{◌≡◌, ◌≤◌, ◌++◌, ◌∷◌, ◌-◌, [], true, find, length, is_none, map, Some, None, option_map, IfOk};
+ghost use Rattle.std.specs.Prelude.{◌≡◌, ◌≤◌, ◌++◌, ◌∷◌, ◌-◌, [], true, drop, find, length, is_none, map, Some, None, option_map, IfOk};
 ghost use Rattle.std.specs.List.{range_with_len};
 ghost use Rattle.std.specs.Option.{option_copied, option_map_or};
 ghost use Rattle.sw_rules.specs.Rows.{changed, is_task};
@@ -9,6 +9,7 @@ ghost use Rattle.sw_ledgers.specs.Tasks.{FitsTask, has_task, row_of};
 use std::alloc::Global;
 use std::marker::Model;
 use sw_data::{Items, NoMemory, Request, Settlement, Text, Who};
+use sw_flags::Flags;
 
 /// An addAll, with its value where it has settled.
 #[derive(Drop)]
@@ -27,21 +28,23 @@ pub struct TaskRow {
 #[derive(Drop)]
 pub struct Tasks {
     rows: Vec<TaskRow>,
+    // Which of them have not settled.
+    unsettled: Flags,
 }
 
 impl Model for Tasks {
-    ghost use Rattle.std.specs.Prelude.{◌-◌, map};
+    ghost use Rattle.std.specs.Prelude.{◌-◌, map, min};
     ghost use Rattle.std.specs.Vec.{vec_len, vec_capacity};
-    ghost use Rattle.sw_ledgers.specs.Tasks.{AreKept, Table, row_of};
+    ghost use Rattle.sw_ledgers.specs.Tasks.{IsKept, Table, row_of};
 
     ghost Value = { Table };
 
     ghost view = { λ tasks. record {
       rows = map row_of tasks.rows.items;
-      spare = vec_capacity tasks.rows - vec_len tasks.rows;
+      spare = min (vec_capacity tasks.rows - vec_len tasks.rows) tasks.unsettled.spare;
     } };
 
-    ghost invariant = { λ tasks. AreKept tasks.rows.items };
+    ghost invariant = { λ tasks. IsKept tasks.rows.items tasks.unsettled.flags };
 }
 
 /// A finished row of an addAll, which isn't in the table yet.
@@ -87,6 +90,7 @@ impl Tasks {
     {
         Tasks {
             rows: Vec::new(alloc),
+            unsettled: Flags::new(alloc),
         }
     }
 
@@ -105,6 +109,15 @@ impl Tasks {
         &self.rows
     }
 
+    /// Each addAll stands at its number.
+    #[tactic(auto, using(crate::proofs::Tasking::numbers_are_places))]
+    pub fn are_numbered(&self)
+        ensures { map (λ row. row.number) self.now.rows
+            ≡ range_with_len 0 (length self.now.rows) }
+    {
+        let _ = &self.rows;
+    }
+
     /// The row of an addAll. It takes no memory.
     #[tactic(auto, using(crate::proofs::Tasking::row_here, crate::proofs::Tasking::row_gone))]
     pub fn row(&self, task: u32) -> Option<&TaskRow>
@@ -116,6 +129,16 @@ impl Tasks {
         } else {
             None
         }
+    }
+
+    /// The first addAll at or behind a number that has not settled. It takes no memory, and time in the number of the
+    /// blocks of flags and in the length of two of them.
+    #[tactic(auto, using(crate::proofs::Tasking::next_found))]
+    pub fn next_unsettled(&self, from: u32) -> Option<&TaskRow>
+        ensures { option_map row_of (option_copied result)
+            ≡ find (λ row. is_none row.settled) (drop from self.now.rows) }
+    {
+        self.unsettled.first_row(&self.rows, from as usize)
     }
 
     /// Makes room for an addAll, and its row.
@@ -147,6 +170,7 @@ impl Tasks {
             _ => return Err(NoMemory),
         };
         self.rows.reserve(1)?;
+        self.unsettled.make_room()?;
         Ok(NewTask {
             row: TaskRow {
                 number,
@@ -171,12 +195,13 @@ impl Tasks {
         ensures number { result ≡ length self.old.rows }
     {
         let number = row.row.number;
+        self.unsettled.add(row.row.settled.is_none());
         self.rows.push_reserved(row.row);
         number
     }
 
     /// An addAll that has not settled gets its value, and it alone: its number is its place. It takes no memory.
-    #[tactic(auto, using(crate::proofs::Tasking::within, crate::proofs::Tasking::settled_rows, crate::proofs::Tasking::kept_settled))]
+    #[tactic(auto, using(crate::proofs::Tasking::within))]
     pub fn settle(&mut self, task: u32, value: Settlement)
         requires { has_task (λ row. is_none row.settled) task self.old.rows ≡ true }
         ensures rows { self.new ≡ record self.old {
@@ -185,6 +210,8 @@ impl Tasks {
         ensures places { map (λ row. row.number) self.old.rows
             ≡ range_with_len 0 (length self.old.rows) }
     {
-        self.rows[task as usize].settled = Some(value);
+        let place = task as usize;
+        self.rows[place].settled = Some(value);
+        self.unsettled.set(place, false);
     }
 }

@@ -8,14 +8,14 @@ fn draw(draws: &mut Draws, alloc: Global, address: &str) -> Result<u32, NoMemory
     Ok(draws.draw_put(row))
 }
 
-fn next(draws: &Draws, alloc: Global, address: &str) -> Result<u32, NoMemory> {
+fn next_draw(draws: &Draws, alloc: Global, address: &str) -> Result<u32, NoMemory> {
     Ok(draws.next(&Text::of(alloc, address)?))
 }
 
 #[test]
 fn fetches_are_numbered_by_address_without_fragment(rt: HostRuntime) -> Result<(), Fail> {
     let mut draws = Draws::new(rt.alloc());
-    assert_eq!(rt; next(&draws, rt.alloc(), "https://a.test/x")?, 0);
+    assert_eq!(rt; next_draw(&draws, rt.alloc(), "https://a.test/x")?, 0);
     for (address, number) in [
         ("https://a.test/x#f", 0),
         ("https://a.test/x", 1),
@@ -25,9 +25,9 @@ fn fetches_are_numbered_by_address_without_fragment(rt: HostRuntime) -> Result<(
     ] {
         assert_eq!(rt; draw(&mut draws, rt.alloc(), address)?, number);
     }
-    assert_eq!(rt; next(&draws, rt.alloc(), "https://a.test/x#h")?, 3);
-    assert_eq!(rt; next(&draws, rt.alloc(), "https://a.test/x?q")?, 1);
-    assert_eq!(rt; next(&draws, rt.alloc(), "https://a.test/y")?, 0);
+    assert_eq!(rt; next_draw(&draws, rt.alloc(), "https://a.test/x#h")?, 3);
+    assert_eq!(rt; next_draw(&draws, rt.alloc(), "https://a.test/x?q")?, 1);
+    assert_eq!(rt; next_draw(&draws, rt.alloc(), "https://a.test/y")?, 0);
     Ok(())
 }
 
@@ -58,8 +58,8 @@ fn the_fetches_of_an_add_all_are_drawn_in_order(rt: HostRuntime) -> Result<(), F
     let rows = draws.draw_rows(rt.alloc(), asked.as_slice())?;
     let numbers = draws.draw_all(rows);
     assert_eq!(rt; numbers.as_slice(), [0, 1, 1].as_slice());
-    assert_eq!(rt; next(&draws, rt.alloc(), "https://a.test/x")?, 2);
-    assert_eq!(rt; next(&draws, rt.alloc(), "https://a.test/y")?, 2);
+    assert_eq!(rt; next_draw(&draws, rt.alloc(), "https://a.test/x")?, 2);
+    assert_eq!(rt; next_draw(&draws, rt.alloc(), "https://a.test/y")?, 2);
     Ok(())
 }
 
@@ -147,6 +147,39 @@ fn an_add_all_settles_once(rt: HostRuntime) -> Result<(), Fail> {
         let row = tasks.row(task).ok_or("no addAll")?;
         assert!(rt; row.settled == value);
     }
+    Ok(())
+}
+
+// The number of the first addAll at or behind a number that has not settled.
+fn next(tasks: &Tasks, from: u32) -> Option<u32> {
+    Some(tasks.next_unsettled(from)?.number)
+}
+
+#[test]
+fn the_next_add_all_that_has_not_settled_is_found(rt: HostRuntime) -> Result<(), Fail> {
+    let mut tasks = Tasks::new(rt.alloc());
+    assert_eq!(rt; next(&tasks, 0), None);
+    for at in 0..300 {
+        let maker = Who::Lane { lane: 0, at };
+        make(&mut tasks, rt.alloc(), maker, &[])?;
+    }
+    for task in 0..298 {
+        if task != 40 {
+            settle(&mut tasks, task, Settlement::Done)?;
+        }
+    }
+    for (from, first) in [
+        (0, Some(40)),
+        (40, Some(40)),
+        (41, Some(298)),
+        (299, Some(299)),
+        (300, None),
+        (u32::MAX, None),
+    ] {
+        assert_eq!(rt; next(&tasks, from), first);
+    }
+    settle(&mut tasks, 298, Settlement::Done)?;
+    assert_eq!(rt; next(&tasks, 41), Some(299));
     Ok(())
 }
 

@@ -1,10 +1,9 @@
 -- Who stands first and who joined whom stay, where the queues and the lists stay.
 use Rattle.std.proofs.Common.{◌≡◌, ◌∙◌, ℕ, ◌<◌, Bool, true, false, List, length, set, Option, Some, None, option_map, slice_get, refl, sym, ap, arith, if◌then◌else◌}
-use Rattle.std.specs.Prelude.{◌&&◌, ◌||◌, ◌==◌, bytes_eq, is_none, is_some}
+use Rattle.std.specs.Prelude.{◌&&◌, ◌==◌, bytes_eq, is_some}
 use Rattle.std.specs.List.{find}
 use Rattle.std.specs.Cmp.Lexicographic.{bytes_decides}
 use Rattle.std.specs.Option.{option_map_or}
-use Rattle.std.proofs.lemmas.Bool.{and_parts}
 use Rattle.std.proofs.lemmas.Bool.Decides.{nat_tests}
 use Rattle.std.proofs.lemmas.List.{length-set, get_or-set_same}
 use Rattle.std.proofs.lemmas.Option.{slice_get-get_or, slice_get-map}
@@ -48,7 +47,7 @@ first_found rows are key scope row found =
 abbrev numbered : List JobRow → Job → Bool
 numbered rows job = option_map_or (λ n. n == job.number) (option_map number (first_job job.key job.scope rows)) false
 
-first_by : (rows : List JobRow) (row : JobRow) → is_first rows row ≡ numbered rows row.job
+pub first_by : (rows : List JobRow) (row : JobRow) → is_first rows row ≡ numbered rows row.job
 first_by rows row = by (first_job row.job.key row.job.scope rows)
   where
     by : (found : Option JobRow) → option_map_or (is_job (number row)) found false ≡ option_map_or (λ n. n == number row) (option_map number found) false

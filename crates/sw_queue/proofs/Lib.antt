@@ -11,3 +11,5 @@ pub mod Rooms
 pub mod Settling
 pub mod Heads
 pub mod Telling
+pub mod Marking
+pub mod Leaving

@@ -7,6 +7,7 @@ mod followers;
 mod index;
 mod line;
 mod queues;
+mod ready;
 mod scopes;
 #[cfg(test)]
 mod tests;

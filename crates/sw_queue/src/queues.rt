@@ -1,20 +1,22 @@
 //! The table of jobs, with the queue of each key and scope and the followers of each job.
 
-ghost use Rattle.std.specs.Prelude.{◌≡◌, ◌++◌, ◌∷◌, [], ◌+◌, ◌<◌, ◌≤◌, length, map, filter, true, not, ◌&&◌, find, is_none, is_some, Some, option_map, IfOk, OnOk, OnErr};
+ghost use Rattle.std.specs.Prelude.{◌≡◌, ◌++◌, ◌∷◌, [], ◌+◌, ◌<◌, ◌≤◌, length, map, filter, true, not, ◌&&◌, drop, find, is_none, is_some, Some, option_map, IfOk, IfSome, OnOk, OnErr};
 ghost use Rattle.std.specs.List.{All, flat_map, range_with_len};
 ghost use Rattle.std.specs.Option.{option_copied};
 ghost use Rattle.std.specs.Result.{result_ok};
 ghost use Rattle.sw_data.specs.declared.answers.Notice.TheVariants as notice;
 ghost use Rattle.sw_data.specs.declared.rows.JobPhase.TheVariants as job_phase;
 ghost use Rattle.sw_rules.specs.Jobs.{gets_value, is_equivalent, new_job_row};
-ghost use Rattle.sw_rules.specs.Rows.{changed, first_job, is_first, is_job, is_waiting, last_job};
+ghost use Rattle.sw_rules.specs.Rows.{changed, first_job, in_phase, is_evaluating, is_fetching, is_first, is_installing, is_job, is_waiting, last_job};
 ghost use Rattle.sw_queue.specs.Kept.{AreFrom, followers_of};
+ghost use Rattle.sw_queue.specs.Ready.{led_by, may_start};
 ghost use Rattle.sw_queue.specs.Tables.{FitsJob, FollowersStay, HasPlace, given, has_head, has_job, with_phase, is_under_way, joined_in, noted, ready_job, scheduled_as, settled_all, told_at, told_of};
 
 use crate::calls::{JobNotes, NewJob, NotReady, Scheduled};
 use crate::equivalent::is_equivalent;
 use crate::followers::Followers;
 use crate::index::Index;
+use crate::ready::Ready;
 use std::alloc::Global;
 use std::marker::Model;
 use sw_data::{Job, JobPhase, JobRow, NoMemory, Notice, Settlement, Text};
@@ -26,12 +28,13 @@ pub struct Queues {
     rows: Vec<JobRow>,
     followers: Followers,
     index: Index,
+    ready: Ready,
 }
 
 impl Model for Queues {
-    ghost use Rattle.std.specs.Prelude.{◌-◌};
+    ghost use Rattle.std.specs.Prelude.{◌-◌, min};
     ghost use Rattle.std.specs.Vec.{vec_len, vec_capacity};
-    ghost use Rattle.sw_queue.specs.Kept.{IsKept};
+    ghost use Rattle.sw_queue.specs.Ready.{IsIndexed};
     ghost use Rattle.sw_queue.specs.Tables.{Table, spares};
 
     ghost Value = { Table };
@@ -39,14 +42,15 @@ impl Model for Queues {
     ghost view = { λ queues. record {
       rows = queues.rows.items;
       room = record {
-        rows = vec_capacity queues.rows - vec_len queues.rows;
+        rows = min (vec_capacity queues.rows - vec_len queues.rows) queues.ready.spare;
         lists = queues.followers.spare;
         followers = queues.followers.spares;
         queues = spares queues.index;
       };
     } };
 
-    ghost invariant = { λ queues. IsKept queues.rows.items queues.followers.lists queues.index };
+    ghost invariant = { λ queues.
+        IsIndexed queues.rows.items queues.followers.lists queues.index queues.ready };
 }
 
 // The row of a job that was just scheduled.
@@ -70,6 +74,30 @@ fn is_waiting(phase: JobPhase) -> bool
     ensures { result ≡ is_waiting phase }
 {
     matches!(phase, JobPhase::Waiting)
+}
+
+// Whether a job may start: it joined no other, waits, and stands first in its line.
+fn may_start(row: &JobRow, index: &Index) -> bool
+    ensures { result ≡ may_start index.now row.now }
+{
+    row.leader.is_none()
+        && is_waiting(row.phase)
+        && match index.first(row.job.key.as_bytes(), row.job.scope.as_bytes()) {
+            Some(first) => first == row.job.number,
+            None => false,
+        }
+}
+
+// The job that has become the first of its line, where there is one, may start where it waits.
+fn lead(next: Option<u32>, rows: &[JobRow], index: &Index, ready: &mut Ready)
+    requires { IfSome next (λ number.
+        (number < length rows.now) × (number < length ready.old.starting)) }
+    ensures { ready.new ≡ led_by next index.now rows.now ready.old }
+{
+    if let Some(number) = next {
+        let place = number as usize;
+        ready.set_starting(place, may_start(&rows[place], index));
+    }
 }
 
 // The promise of a job settles, where it has not settled.
@@ -138,6 +166,7 @@ impl Queues {
             rows: Vec::new(alloc),
             followers: Followers::new(alloc),
             index: Index::new(alloc),
+            ready: Ready::new(alloc),
         }
     }
 
@@ -196,6 +225,36 @@ impl Queues {
         self.index.last(key.as_bytes(), scope.as_bytes())
     }
 
+    /// The first job that may start: it joined no other, waits, and stands first in its queue. It takes no memory, and time
+    /// in the number of the blocks of flags and in the length of two of them.
+    pub fn first_waiting(&self) -> Option<&JobRow>
+        ensures { option_copied result
+            ≡ find (λ row. in_phase is_waiting row && is_first self.now.rows row) self.now.rows }
+    {
+        self.ready.first_starting(&self.rows)
+    }
+
+    /// The first job at or behind a number whose fetch is in flight. It takes no memory, and time as `first_waiting` does.
+    pub fn next_fetching(&self, from: u32) -> Option<&JobRow>
+        ensures { option_copied result ≡ find (in_phase is_fetching) (drop from self.now.rows) }
+    {
+        self.ready.next_fetching(&self.rows, from)
+    }
+
+    /// The first job whose worker is to be evaluated. It takes no memory, and time as `first_waiting` does.
+    pub fn first_evaluating(&self) -> Option<&JobRow>
+        ensures { option_copied result ≡ find (in_phase is_evaluating) self.now.rows }
+    {
+        self.ready.first_evaluating(&self.rows)
+    }
+
+    /// The first job at or behind a number whose worker installs. It takes no memory, and time as `first_waiting` does.
+    pub fn next_installing(&self, from: u32) -> Option<&JobRow>
+        ensures { option_copied result ≡ find (in_phase is_installing) (drop from self.now.rows) }
+    {
+        self.ready.next_installing(&self.rows, from)
+    }
+
     // The job that a new job joins. It takes no memory.
     fn leader(&self, job: &Job) -> Option<u32>
         ensures { result ≡ joined_in self.now.rows job.now }
@@ -229,6 +288,7 @@ impl Queues {
             return Err(NotReady);
         }
         row.phase = JobPhase::Fetching;
+        self.ready.set_phase(number as usize, JobPhase::Fetching);
         Ok(number)
     }
 
@@ -247,6 +307,7 @@ impl Queues {
         row.fetch = notes.fetch;
         row.remembered = notes.remembered;
         row.worker = notes.worker;
+        self.ready.set_phase(job as usize, notes.phase);
     }
 
     /// The promises of a queued job and of the jobs that joined it get this value, where they have none. It takes no
@@ -286,7 +347,8 @@ impl Queues {
         );
     }
 
-    /// The first job of its queue, whose promise has settled, is done and leaves its queue. It takes no memory.
+    /// The first job of its queue, whose promise has settled, is done and leaves its queue, and the next one of it may
+    /// start. It takes no memory.
     pub fn finish(&mut self, job: u32)
         requires { has_head (λ row. is_some row.settled) job self.old.rows ≡ true }
         ensures done { self.new.rows
@@ -297,7 +359,10 @@ impl Queues {
         let gone = &self.rows[place].job;
         self.index
             .drop_first(gone.key.as_bytes(), gone.scope.as_bytes());
+        let next = self.index.first(gone.key.as_bytes(), gone.scope.as_bytes());
         self.rows[place].phase = JobPhase::Done;
+        self.ready.set_phase(place, JobPhase::Done);
+        lead(next, &self.rows, &self.index, &mut self.ready);
     }
 
     // Makes room for a job among the followers of the one that it joins, or in its queue.
@@ -326,6 +391,7 @@ impl Queues {
         let leader = self.make_place(alloc, &job)?;
         self.rows.reserve(1)?;
         self.followers.make_room()?;
+        self.ready.make_room()?;
         Ok(NewJob {
             row: new_row(job, leader),
             followers: Vec::new(alloc),
@@ -354,6 +420,7 @@ impl Queues {
             }
         };
         self.followers.begin(followers);
+        self.ready.add(may_start(&row, &self.index));
         self.rows.push_reserved(row);
         scheduled
     }

@@ -5,7 +5,9 @@ ghost use Rattle.sw_queue.specs.Tables.{has_head, has_job};
 use crate::{JobNotes, NotReady, Queues, Scheduled};
 use std::alloc::Global;
 use std::test::Fail;
-use sw_data::{Items, Job, JobKind, JobPhase, Kind, Mode, NoMemory, Notice, Settlement, Text};
+use sw_data::{
+    Items, Job, JobKind, JobPhase, JobRow, Kind, Mode, NoMemory, Notice, Settlement, Text,
+};
 use sw_rules::Notices;
 
 // A job of this number that imports a classic script.
@@ -310,6 +312,121 @@ fn many_other_jobs_run_in_turn(rt: HostRuntime) -> Result<(), Fail> {
     for number in 0..65536 {
         let ran = runs(&mut queues, &key, &scope, number);
         assert_eq!(rt; ran, true);
+    }
+    Ok(())
+}
+
+// Notes that the worker of a job is to be evaluated, where the job is the first of its queue and past waiting.
+fn evaluate(queues: &mut Queues, job: u32) -> bool {
+    let first = may_note(queues, job);
+    if first {
+        queues.note(
+            job,
+            JobNotes {
+                phase: JobPhase::Evaluating,
+                registration: None,
+                fetch: None,
+                remembered: None,
+                worker: None,
+            },
+        );
+    }
+    first
+}
+
+// The number of a job that was found.
+fn number(row: Option<&JobRow>) -> Option<u32> {
+    Some(row?.job.number)
+}
+
+// The number of the first job that waits, fetches, is to be evaluated, and installs.
+fn ready(queues: &Queues) -> [Option<u32>; 4] {
+    [
+        number(queues.first_waiting()),
+        number(queues.next_fetching(0)),
+        number(queues.first_evaluating()),
+        number(queues.next_installing(0)),
+    ]
+}
+
+#[test]
+fn a_job_is_found_in_each_phase(rt: HostRuntime) -> Result<(), Fail> {
+    let alloc = rt.alloc();
+    let mut queues = Queues::new(alloc);
+    assert_eq!(rt; ready(&queues), [None; 4]);
+    for script in ["/x", "/x", "/y"] {
+        let _ = schedule(alloc, &mut queues, JobKind::Register, "a", "/s/", script)?;
+    }
+    let key = Text::of(alloc, "a")?;
+    let scope = Text::of(alloc, "/s/")?;
+    assert_eq!(rt; ready(&queues), [Some(0), None, None, None]);
+    assert_eq!(rt; queues.start(&key, &scope), Ok(0));
+    assert_eq!(rt; ready(&queues), [None, Some(0), None, None]);
+    assert_eq!(rt; evaluate(&mut queues, 0), true);
+    assert_eq!(rt; ready(&queues), [None, None, Some(0), None]);
+    assert_eq!(rt; note(&mut queues, 0, Some(3)), true);
+    assert_eq!(rt; ready(&queues), [None, None, None, Some(0)]);
+    assert_eq!(rt; settle(&mut queues, 0, Settlement::Done), true);
+    assert_eq!(rt; ready(&queues), [None, None, None, Some(0)]);
+    assert_eq!(rt; finish(&mut queues, 0), true);
+    assert_eq!(rt; ready(&queues), [Some(2), None, None, None]);
+    Ok(())
+}
+
+// Schedules 600 jobs, each the only one of its queue.
+fn many_queues(alloc: Global) -> Result<Queues, NoMemory> {
+    let mut queues = Queues::new(alloc);
+    for at in 0..600_u32 {
+        let scope = format!(in alloc; "/{at}/")?;
+        let _ = schedule(
+            alloc,
+            &mut queues,
+            JobKind::Update,
+            "a",
+            scope.as_str(),
+            "/x",
+        )?;
+    }
+    Ok(queues)
+}
+
+// Starts a job, and tells whether it was the first of its queue and waited.
+fn start(alloc: Global, queues: &mut Queues, job: u32) -> Result<bool, NoMemory> {
+    let key = Text::of(alloc, "a")?;
+    let scope = format!(in alloc; "/{job}/")?;
+    let scope = Text::of(alloc, scope.as_str())?;
+    Ok(queues.start(&key, &scope) == Ok(job))
+}
+
+#[test]
+fn the_next_job_is_found_from_a_place_on(rt: HostRuntime) -> Result<(), Fail> {
+    let alloc = rt.alloc();
+    let mut queues = many_queues(alloc)?;
+    for job in [0, 1, 40, 256, 300, 599] {
+        let started = start(alloc, &mut queues, job)?;
+        assert_eq!(rt; started, true);
+    }
+    assert_eq!(rt; ready(&queues), [Some(2), Some(0), None, None]);
+    for (from, first) in [
+        (1, Some(1)),
+        (2, Some(40)),
+        (41, Some(256)),
+        (301, Some(599)),
+        (600, None),
+    ] {
+        assert_eq!(rt; number(queues.next_fetching(from)), first);
+    }
+    for job in [40, 300] {
+        assert_eq!(rt; note(&mut queues, job, None), true);
+    }
+    assert_eq!(rt; number(queues.next_fetching(2)), Some(256));
+    for (from, first) in [
+        (40, Some(40)),
+        (41, Some(300)),
+        (301, None),
+        (u32::MAX, None),
+    ] {
+        assert_eq!(rt; number(queues.next_installing(from)), first);
     }
     Ok(())
 }

@@ -1,9 +1,10 @@
 -- The rows of a table of registrations: how they are found, changed, added and counted.
 use Rattle.std.proofs.Common.{◌≡◌, ◌∙◌, ℕ, zero, suc, ◌+◌, ◌<◌, ◌≤◌, ◌^◌, Bool, true, false, not, ◌&&◌, List, [], ◌∷◌, ◌++◌, length, get_or, set, Option, Some, None, is_some, refl, sym, ap, arith, if◌then◌else◌, slice_set, slice_index_or}
 use Rattle.std.specs.Option.{option_map_or, option_or}
-use Rattle.std.proofs.lemmas.List.{length-append, length-set}
+use Rattle.std.proofs.lemmas.List.{length-append, length-map, length-set, map-append}
 use Rattle.sw_data.specs.declared.rows.RegistrationRow.{RegistrationRow}
 use Rattle.sw_rules.specs.Rows.{changed}
+use Rattle.sw_flags.proofs.Placing.{flags_set}
 use Rattle.sw_reg.specs.declared.edit.Edit.{Edit}
 use Rattle.sw_reg.specs.declared.edit.Edit.TheVariants as edit_of
 use Rattle.sw_reg.specs.Edits.{edited}
@@ -56,6 +57,10 @@ edited_first (edit_of.Waiting first) row has = by row.first has
     by None has = absurd cc
     by (Some n) has = refl
 
+-- there are as many flags as registrations
+pub many_flags : (rows : List RegistrationRow) (count : ℕ) (flags : List Bool) → IsKept rows count flags → length flags ≡ length rows
+many_flags rows count flags kept = sym (ap length kept.owed) ∙ length-map rows (λ row. row.owed)
+
 -- ---- the count
 
 abbrev one_if : Bool → ℕ
@@ -91,52 +96,57 @@ had_same false true keeps is = absurd cc
 had_same true new keeps is = keeps refl
 
 -- there is room to count one more
-pub countable : (rows : List RegistrationRow) (count n : ℕ) (old new : RegistrationRow) → IsKept rows count → n < length rows
-    → old ≡ slice_index_or rows n old → gets_first old new ≡ true → count + 1 < 2 ^ 32
-countable rows count n old new kept below is_at gets =
+pub countable : (rows : List RegistrationRow) (count : ℕ) (flags : List Bool) (n : ℕ) (old new : RegistrationRow) → IsKept rows count flags
+    → n < length rows → old ≡ slice_index_or rows n old → gets_first old new ≡ true → count + 1 < 2 ^ 32
+countable rows count flags n old new kept below is_at gets =
     let none = ap has_first (sym is_at) ∙ (had_none (has_first old) (has_first new) gets).0 in
     omega (arith, kept.many, kept.counted, firsts_below rows n old below none)
 
-set_kept : (edit : Edit) (rows : List RegistrationRow) (count more n : ℕ) (old new : RegistrationRow) → IsKept rows count → n < length rows
-    → old ≡ slice_index_or rows n old → new ≡ edited edit old → more ≡ firsts (slice_set rows n new) → IsKept (slice_set rows n new) more
-set_kept edit rows count more n old new kept below is_at is counted = record {
+set_kept : (edit : Edit) (rows : List RegistrationRow) (count more : ℕ) (flags : List Bool) (n : ℕ) (old new : RegistrationRow)
+    → IsKept rows count flags → n < length rows → old ≡ slice_index_or rows n old → new ≡ edited edit old → more ≡ firsts (slice_set rows n new)
+    → IsKept (slice_set rows n new) more (slice_set flags n new.owed)
+set_kept edit rows count more flags n old new kept below is_at is counted = record {
   places = set_at_places (λ place row. row.number ≡ place) rows n new kept.places below
       (ap number is ∙ edited_number edit old ∙ ap number is_at ∙ kept.places n old below);
   many = omega (arith, kept.many, length-set rows n new);
   counted = counted;
+  owed = flags_set (λ row. row.owed) rows flags n new new.owed kept.owed refl;
 }
 
 -- a registration that gets its first waiting worker is counted
-pub kept_first : (edit : Edit) (rows : List RegistrationRow) (count n : ℕ) (old new : RegistrationRow) → IsKept rows count → n < length rows
-    → old ≡ slice_index_or rows n old → new ≡ edited edit old → gets_first old new ≡ true → IsKept (slice_set rows n new) (count + 1)
-kept_first edit rows count n old new kept below is_at is gets =
+pub kept_first : (edit : Edit) (rows : List RegistrationRow) (count : ℕ) (flags : List Bool) (n : ℕ) (old new : RegistrationRow)
+    → IsKept rows count flags → n < length rows → old ≡ slice_index_or rows n old → new ≡ edited edit old → gets_first old new ≡ true
+    → IsKept (slice_set rows n new) (count + 1) (slice_set flags n new.owed)
+kept_first edit rows count flags n old new kept below is_at is gets =
     let sum = firsts_set rows n new old below in
     let counted = kept.counted in
     let had = had_none (has_first old) (has_first new) gets in
     let none = ap has_first (sym is_at) ∙ had.0 in
     let some = had.1 in
-    set_kept edit rows count (count + 1) n old new kept below is_at is (grind arith)
+    set_kept edit rows count (count + 1) flags n old new kept below is_at is (grind arith)
 
 -- each other one is counted as before
-pub kept_same : (edit : Edit) (rows : List RegistrationRow) (count n : ℕ) (old new : RegistrationRow) → IsKept rows count → n < length rows
-    → old ≡ slice_index_or rows n old → new ≡ edited edit old → gets_first old new ≡ false → IsKept (slice_set rows n new) count
-kept_same edit rows count n old new kept below is_at is gets =
+pub kept_same : (edit : Edit) (rows : List RegistrationRow) (count : ℕ) (flags : List Bool) (n : ℕ) (old new : RegistrationRow)
+    → IsKept rows count flags → n < length rows → old ≡ slice_index_or rows n old → new ≡ edited edit old → gets_first old new ≡ false
+    → IsKept (slice_set rows n new) count (slice_set flags n new.owed)
+kept_same edit rows count flags n old new kept below is_at is gets =
     let sum = firsts_set rows n new old below in
     let counted = kept.counted in
     let keeps : has_first old ≡ true → has_first new ≡ true = λ has. ap has_first is ∙ edited_first edit old has in
     let same = had_same (has_first old) (has_first new) keeps gets ∙ ap has_first is_at in
-    set_kept edit rows count count n old new kept below is_at is (grind arith)
+    set_kept edit rows count count flags n old new kept below is_at is (grind arith)
 
 -- ---- one more registration
 
-pub kept_more : (rows : List RegistrationRow) (count : ℕ) (new : RegistrationRow) → IsKept rows count → IsNew new
-    → new.number ≡ length rows → IsKept (rows ++ new ∷ []) count
-kept_more rows count new kept fresh is =
+pub kept_more : (rows : List RegistrationRow) (count : ℕ) (flags : List Bool) (new : RegistrationRow) → IsKept rows count flags → IsNew new
+    → new.number ≡ length rows → IsKept (rows ++ new ∷ []) count (flags ++ new.owed ∷ [])
+kept_more rows count flags new kept fresh is =
     let none : has_first new ≡ false = ap is_some fresh.first in
     record {
       places = more_at_places (λ place row. row.number ≡ place) rows new kept.places is;
       many = omega (arith, is, fresh.number, length-append rows (new ∷ []));
       counted = kept.counted ∙ sym (firsts_more rows new none);
+      owed = map-append (λ row. row.owed) rows (new ∷ []) ∙ ap (λ fs. fs ++ new.owed ∷ []) kept.owed;
     }
   where
     firsts_more : (rows : List RegistrationRow) (new : RegistrationRow) → has_first new ≡ false → firsts (rows ++ new ∷ []) ≡ firsts rows

@@ -1,6 +1,6 @@
 //! The table of registrations.
 
-ghost use Rattle.std.specs.Prelude.{◌≡◌, ◌++◌, ◌∷◌, [], ◌-◌, ◌≤◌, true, length, is_none, is_some, IfOk, OnOk, OnErr};
+ghost use Rattle.std.specs.Prelude.{◌≡◌, ◌++◌, ◌∷◌, [], ◌-◌, ◌≤◌, true, find, length, is_none, is_some, IfOk, OnOk, OnErr};
 ghost use Rattle.std.specs.Option.{option_copied};
 ghost use Rattle.sw_rules.specs.Rows.{changed};
 ghost use Rattle.sw_reg.specs.Edits.{cleared, edited, new_registration, with_active, with_installing, with_mode, with_owed, with_waiting, without_installing};
@@ -13,6 +13,7 @@ use crate::edit::{Edit, carry_out};
 use std::alloc::Global;
 use std::marker::Model;
 use sw_data::{Mode, NoMemory, RegistrationRow, Slot, Text};
+use sw_flags::Flags;
 
 /// The registrations in order of making, where a registration's number is its place.
 #[derive(Drop)]
@@ -20,10 +21,12 @@ pub struct Registrations {
     rows: Vec<RegistrationRow>,
     // How many of them have got a waiting worker.
     firsts: u32,
+    // Which of them are owed a Try Activate.
+    owed: Flags,
 }
 
 impl Model for Registrations {
-    ghost use Rattle.std.specs.Prelude.{◌-◌};
+    ghost use Rattle.std.specs.Prelude.{◌-◌, min};
     ghost use Rattle.std.specs.Vec.{vec_len, vec_capacity};
     ghost use Rattle.sw_reg.specs.Kept.{IsKept};
     ghost use Rattle.sw_reg.specs.Table.{Table};
@@ -32,10 +35,10 @@ impl Model for Registrations {
 
     ghost view = { λ r. record {
       rows = r.rows.items;
-      spare = vec_capacity r.rows - vec_len r.rows;
+      spare = min (vec_capacity r.rows - vec_len r.rows) r.owed.spare;
     } };
 
-    ghost invariant = { λ r. IsKept r.rows.items r.firsts };
+    ghost invariant = { λ r. IsKept r.rows.items r.firsts r.owed.flags };
 }
 
 /// A finished row of a registration, which isn't in the table yet.
@@ -72,6 +75,7 @@ impl Registrations {
         Registrations {
             rows: Vec::new(alloc),
             firsts: 0,
+            owed: Flags::new(alloc),
         }
     }
 
@@ -127,6 +131,14 @@ impl Registrations {
         }
     }
 
+    /// The first registration that is owed a Try Activate. It takes no memory, and time in the number of the blocks of
+    /// flags and in the length of two of them.
+    pub fn first_owed(&self) -> Option<&RegistrationRow>
+        ensures { option_copied result ≡ find (λ row. row.owed) self.now.rows }
+    {
+        self.owed.first_row(&self.rows, 0)
+    }
+
     /// Makes room for a registration, and its row.
     pub fn make_row(
         &mut self,
@@ -146,6 +158,7 @@ impl Registrations {
             _ => return Err(NoMemory),
         };
         self.rows.reserve(1)?;
+        self.owed.make_room()?;
         Ok(NewRegistration {
             row: RegistrationRow {
                 number,
@@ -172,6 +185,7 @@ impl Registrations {
         ensures number { result ≡ length self.old.rows }
     {
         let number = new.row.number;
+        self.owed.add(new.row.owed);
         self.rows.push_reserved(new.row);
         number
     }
@@ -202,7 +216,11 @@ impl Registrations {
           rows = changed (is_registration id) (edited edit) self.old.rows;
         } }
     {
-        if carry_out(&mut self.rows[id as usize], edit) {
+        let place = id as usize;
+        let row = &mut self.rows[place];
+        let is_counted = carry_out(row, edit);
+        self.owed.set(place, row.owed);
+        if is_counted {
             self.firsts += 1;
         }
     }

@@ -156,3 +156,36 @@ fn a_registration_gets_a_mode_and_is_owed_a_try(rt: HostRuntime) -> Result<(), F
     }
     Ok(())
 }
+
+// A registration is owed a Try Activate, or not, where it is there.
+fn owe(registrations: &mut Registrations, id: u32, owed: bool) -> Result<(), &'static str> {
+    if registrations.row(id).is_none() {
+        return Err("no registration");
+    }
+    registrations.owe(id, owed);
+    Ok(())
+}
+
+// The number of the first registration that is owed a Try Activate.
+fn first_owed(registrations: &Registrations) -> Option<u32> {
+    Some(registrations.first_owed()?.number)
+}
+
+#[test]
+fn the_first_registration_that_is_owed_a_try_is_found(rt: HostRuntime) -> Result<(), Fail> {
+    let mut registrations = Registrations::new(rt.alloc());
+    assert_eq!(rt; first_owed(&registrations), None);
+    for _ in 0..600_u32 {
+        make(&mut registrations, rt.alloc(), "https://a.test/")?;
+    }
+    assert_eq!(rt; first_owed(&registrations), None);
+    for id in [599, 256, 300, 7] {
+        owe(&mut registrations, id, true)?;
+    }
+    for first in [7, 256, 300, 599] {
+        assert_eq!(rt; first_owed(&registrations), Some(first));
+        owe(&mut registrations, first, false)?;
+    }
+    assert_eq!(rt; first_owed(&registrations), None);
+    Ok(())
+}

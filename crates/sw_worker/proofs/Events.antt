@@ -169,22 +169,24 @@ counted_ended counts entries n w d counted found k =
     let set = set_count counts w k (get_or counts w d - 1) below in
     grind (arith, nat_tests)
 
-pub kept_begun : (rows : List WorkerRow) (counts : List ℕ) (entries new : Entries) (n w d : ℕ) → IsKept rows counts entries → w < length counts
+pub kept_begun : (rows : List WorkerRow) (counts : List ℕ) (entries new : Entries) (flags : List Bool) (n w d : ℕ) → IsKept rows counts entries flags → w < length counts
     → is_pending n (events_of entries) ≡ false → new ≡ insert_entry nat_eq entries n w → IsDistinct nat_eq (keys_of new)
-    → IsKept rows (slice_set counts w (slice_index_or counts w d + 1)) new
-kept_begun rows counts entries new n w d kept below fresh is apart = record {
+    → IsKept rows (slice_set counts w (slice_index_or counts w d + 1)) new flags
+kept_begun rows counts entries new flags n w d kept below fresh is apart = record {
   workers = kept.workers;
   many = length-set counts w (slice_index_or counts w d + 1) ∙ kept.many;
   counted = subst (Counted (slice_set counts w (slice_index_or counts w d + 1))) (sym (is ∙ one_more n w entries fresh)) (counted_begun counts entries n w d kept.counted below);
   apart = apart;
+  activating = kept.activating;
 }
 
-pub kept_ended : (rows : List WorkerRow) (counts : List ℕ) (entries new : Entries) (n w d : ℕ) → IsKept rows counts entries → lookup (nat_eq n) entries ≡ Some w
+pub kept_ended : (rows : List WorkerRow) (counts : List ℕ) (entries new : Entries) (flags : List Bool) (n w d : ℕ) → IsKept rows counts entries flags → lookup (nat_eq n) entries ≡ Some w
     → new ≡ remove_entry (nat_eq n) entries → IsDistinct nat_eq (keys_of new)
-    → IsKept rows (slice_set counts w (slice_index_or counts w d - 1)) new
-kept_ended rows counts entries new n w d kept found is apart = record {
+    → IsKept rows (slice_set counts w (slice_index_or counts w d - 1)) new flags
+kept_ended rows counts entries new flags n w d kept found is apart = record {
   workers = kept.workers;
   many = length-set counts w (slice_index_or counts w d - 1) ∙ kept.many;
   counted = subst (Counted (slice_set counts w (slice_index_or counts w d - 1))) (sym is) (counted_ended counts entries n w d kept.counted found);
   apart = apart;
+  activating = kept.activating;
 }

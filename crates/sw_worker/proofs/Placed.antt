@@ -1,14 +1,15 @@
 -- The rows of a table of workers: how they are found, changed and added.
 use Rattle.std.proofs.Common.{◌≡◌, ◌∙◌, ℕ, zero, suc, ◌<◌, ◌≤◌, Bool, true, false, List, [], ◌∷◌, ◌++◌, length, get_or, Option, Some, None, IfSome, option_map, refl, sym, ap, subst, arith, slice_set, slice_index_or}
-use Rattle.std.proofs.lemmas.List.{length-append, length-set}
+use Rattle.std.proofs.lemmas.List.{length-append, length-map, length-set, map-append}
 use Rattle.sw_data.specs.declared.rows.HandlerRow.{HandlerRow}
 use Rattle.sw_data.specs.declared.rows.WorkerRow.{WorkerRow}
 use Rattle.sw_rules.specs.Rows.{changed}
+use Rattle.sw_flags.proofs.Placing.{flags_set}
 use Rattle.sw_worker.specs.declared.edit.Edit.{Edit}
 use Rattle.sw_worker.specs.declared.edit.Edit.TheVariants as edit_of
 use Rattle.sw_worker.specs.Edits.{allows, call_counted, edited, task_counted}
 use Rattle.sw_worker.specs.Kept.{AreWorkers, Counts, IsKept, StandsAt}
-use Rattle.sw_worker.specs.Table.{has_worker, is_worker, worker_at}
+use Rattle.sw_worker.specs.Table.{has_worker, is_worker, runs_activate, worker_at}
 use Rattle.sw_rules.proofs.Places.{changed_here, found_here, found_none, more_at_places, passes_here, place_within, set_at_places}
 
 abbrev number : WorkerRow → ℕ
@@ -68,10 +69,10 @@ pub row_edited : (edit : Edit) (rows : List WorkerRow) (n : ℕ) (d new : Worker
 row_edited edit rows n d new are below is =
     ap (slice_set rows n) is ∙ changed_here number (edited edit) rows n d (λ i e inside. (are i e inside).number) below
 
-pub kept_edited : (edit : Edit) (rows : List WorkerRow) (counts : List ℕ) (entries : List (ℕ × ℕ)) (n : ℕ) (d new : WorkerRow)
-    → IsKept rows counts entries → has_worker (allows edit) n rows ≡ true → new ≡ edited edit (slice_index_or rows n d)
-    → IsKept (slice_set rows n new) counts entries
-kept_edited edit rows counts entries n d new kept has is =
+pub kept_edited : (edit : Edit) (rows : List WorkerRow) (counts : List ℕ) (entries : List (ℕ × ℕ)) (flags : List Bool) (n : ℕ) (d new : WorkerRow)
+    → IsKept rows counts entries flags → has_worker (allows edit) n rows ≡ true → new ≡ edited edit (slice_index_or rows n d)
+    → IsKept (slice_set rows n new) counts entries (slice_set flags n (runs_activate new))
+kept_edited edit rows counts entries flags n d new kept has is =
     let below = within (allows edit) rows n kept.workers has in
     let old = kept.workers n d below in
     record {
@@ -82,7 +83,13 @@ kept_edited edit rows counts entries n d new kept has is =
       many = kept.many ∙ sym (length-set rows n new);
       counted = kept.counted;
       apart = kept.apart;
+      activating = flags_set runs_activate rows flags n new (runs_activate new) kept.activating refl;
     }
+
+-- there are as many flags as workers
+pub many_flags : (rows : List WorkerRow) (counts : List ℕ) (entries : List (ℕ × ℕ)) (flags : List Bool) → IsKept rows counts entries flags
+    → length flags ≡ length rows
+many_flags rows counts entries flags kept = sym (ap length kept.activating) ∙ length-map rows runs_activate
 
 -- ---- one more worker
 
@@ -92,11 +99,13 @@ more_counts [] (suc n) = refl
 more_counts (x ∷ xs) zero = refl
 more_counts (x ∷ xs) (suc n) = more_counts xs n
 
-pub kept_more : (rows : List WorkerRow) (counts : List ℕ) (entries : List (ℕ × ℕ)) (new : WorkerRow) → IsKept rows counts entries → Counts new
-    → new.number ≡ length rows → IsKept (rows ++ new ∷ []) (counts ++ 0 ∷ []) entries
-kept_more rows counts entries new kept fits is = record {
+pub kept_more : (rows : List WorkerRow) (counts : List ℕ) (entries : List (ℕ × ℕ)) (flags : List Bool) (new : WorkerRow)
+    → IsKept rows counts entries flags → Counts new → new.number ≡ length rows
+    → IsKept (rows ++ new ∷ []) (counts ++ 0 ∷ []) entries (flags ++ runs_activate new ∷ [])
+kept_more rows counts entries flags new kept fits is = record {
   workers = more_at_places StandsAt rows new kept.workers (record { number = is; counts = fits });
   many = omega (arith, kept.many, length-append rows (new ∷ []), length-append counts (0 ∷ []));
   counted = λ n. kept.counted n ∙ sym (more_counts counts n);
   apart = kept.apart;
+  activating = map-append runs_activate rows (new ∷ []) ∙ ap (λ fs. fs ++ runs_activate new ∷ []) kept.activating;
 }

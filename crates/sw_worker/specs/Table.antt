@@ -1,5 +1,5 @@
 -- The table of workers and of the fetch events that are pending on them, and what is found in it.
-use Rattle.std.specs.Prelude.{ℕ, Bool, true, false, ◌==◌, ◌||◌, nat_lt, List, find, filter, length, Option, is_none, is_some}
+use Rattle.std.specs.Prelude.{ℕ, Bool, true, false, ◌==◌, ◌||◌, nat_lt, not, List, find, filter, length, Option, is_none, is_some}
 use Rattle.std.specs.List.{list_any}
 use Rattle.std.specs.Option.{option_map_or}
 use Rattle.sw_data.specs.declared.recordings.Call.{Call}
@@ -9,6 +9,7 @@ use Rattle.sw_data.specs.declared.workers.Phase.{Phase}
 use Rattle.sw_data.specs.declared.workers.Phase.TheVariants as phase
 use Rattle.sw_data.specs.declared.workers.WorkerState.{WorkerState}
 use Rattle.sw_data.specs.declared.workers.WorkerState.TheVariants as worker_state
+use Rattle.sw_rules.specs.Rows.{is_install}
 use Rattle.sw_rules.specs.State.{FetchEvent}
 
 -- own: the rows of the workers, the fetch events that are pending, and for how many more of each there is room
@@ -61,6 +62,10 @@ is_idle row = is_none row.handler
 -- a handler of the worker runs
 abbrev pub is_running : WorkerRow → Bool
 is_running row = is_some row.handler
+
+-- a handler of phase activate of the worker runs
+abbrev pub runs_activate : WorkerRow → Bool
+runs_activate row = option_map_or (λ handler. not (is_install handler.phase)) row.handler false
 
 -- the calls of the handler of a phase
 abbrev pub calls_of : Phase → Handlers → List Call

@@ -272,3 +272,36 @@ fn many_events_begin_and_end(rt: HostRuntime) -> Result<(), Fail> {
     assert!(rt; workers.has_no_pending(0));
     Ok(())
 }
+
+// The number of the first worker at or behind a number on which a handler of phase activate runs.
+fn next_activating(workers: &Workers, from: u32) -> Option<u32> {
+    Some(workers.next_activating(from)?.number)
+}
+
+#[test]
+fn the_next_worker_that_runs_an_activate_handler_is_found(rt: HostRuntime) -> Result<(), Fail> {
+    let mut workers = Workers::new(rt.alloc());
+    assert_eq!(rt; next_activating(&workers, 0), None);
+    for _ in 0..600_u32 {
+        make(&mut workers, rt.alloc(), 0, 1)?;
+    }
+    for worker in [599, 256, 300, 7] {
+        start(&mut workers, worker, Phase::Activate)?;
+    }
+    start(&mut workers, 3, Phase::Install)?;
+    for (from, first) in [
+        (0, Some(7)),
+        (7, Some(7)),
+        (8, Some(256)),
+        (301, Some(599)),
+        (600, None),
+        (u32::MAX, None),
+    ] {
+        assert_eq!(rt; next_activating(&workers, from), first);
+    }
+    advance(&mut workers, 256, WorkerState::Installing)?;
+    assert_eq!(rt; next_activating(&workers, 8), Some(256));
+    end_handler(&mut workers, 256)?;
+    assert_eq!(rt; next_activating(&workers, 8), Some(300));
+    Ok(())
+}

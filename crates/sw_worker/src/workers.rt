@@ -1,11 +1,11 @@
 //! The table of workers and of the fetch events that are pending on them.
 
-ghost use Rattle.std.specs.Prelude.{◌≡◌, ◌++◌, ◌∷◌, [], ◌+◌, ◌-◌, ◌<◌, ◌≤◌, ◌^◌, ◌↔◌, true, false, not, length, option_map, IfOk, OnOk, OnErr, IsErr, IsErrOf, IsTrue, Some};
+ghost use Rattle.std.specs.Prelude.{◌≡◌, ◌++◌, ◌∷◌, [], ◌+◌, ◌-◌, ◌<◌, ◌≤◌, ◌^◌, ◌↔◌, true, false, not, drop, find, length, option_map, IfOk, OnOk, OnErr, IsErr, IsErrOf, IsTrue, Some};
 ghost use Rattle.std.specs.Option.{option_copied};
 ghost use Rattle.sw_rules.specs.Rows.{changed, is_number, without};
 ghost use Rattle.sw_worker.specs.Edits.{advanced, allows, call_counted, edited, ended, new_worker, skipping, started, task_counted, with_handler};
 ghost use Rattle.sw_worker.specs.Fits.{FitsEvent, FitsWorker};
-ghost use Rattle.sw_worker.specs.Table.{event_at, events_on, has_calls_left, has_pending, has_unsettled, has_worker, is_activated, is_event, is_idle, is_pending, is_running, is_there, is_worker, may_advance, may_follow, worker_at};
+ghost use Rattle.sw_worker.specs.Table.{event_at, events_on, has_calls_left, has_pending, has_unsettled, has_worker, is_activated, is_event, is_idle, is_pending, is_running, is_there, is_worker, may_advance, may_follow, runs_activate, worker_at};
 
 use crate::edit::{Edit, carry_out};
 use crate::made::{BeginFault, NewEvent, NewWorker, NoEvent, WrongState};
@@ -13,6 +13,7 @@ use indexmap::IndexMap;
 use std::alloc::Global;
 use std::marker::Model;
 use sw_data::{Bytes, Handlers, Kind, NoMemory, Phase, Text, WorkerRow, WorkerState};
+use sw_flags::Flags;
 
 /// The workers in order of making, where a worker's number is its place, and the fetch events that are pending, in order
 /// of beginning.
@@ -23,6 +24,8 @@ pub struct Workers {
     counts: Vec<u64>,
     // The worker of each fetch event that is pending.
     events: IndexMap<u32, u32>,
+    // On which of them a handler of phase activate runs.
+    activating: Flags,
 }
 
 impl Model for Workers {
@@ -37,12 +40,14 @@ impl Model for Workers {
     ghost view = { λ w. record {
       rows = w.rows.items;
       events = events_of w.events.entries;
-      spare_rows =
-          min (vec_capacity w.rows - vec_len w.rows) (vec_capacity w.counts - vec_len w.counts);
+      spare_rows = min
+          (min (vec_capacity w.rows - vec_len w.rows) (vec_capacity w.counts - vec_len w.counts))
+          w.activating.spare;
       spare_events = spare w.events;
     } };
 
-    ghost invariant = { λ w. IsKept w.rows.items w.counts.items w.events.entries };
+    ghost invariant = { λ w.
+        IsKept w.rows.items w.counts.items w.events.entries w.activating.flags };
 }
 
 // Whether a worker may go from one state to another.
@@ -70,6 +75,16 @@ fn is_number(number: Option<u32>, other: u32) -> bool
     }
 }
 
+// Whether a handler of phase activate of a worker runs.
+fn runs_activate(row: &WorkerRow) -> bool
+    ensures { result ≡ runs_activate row.now }
+{
+    match row.handler {
+        Some(handler) => handler.phase == Phase::Activate,
+        None => false,
+    }
+}
+
 // Whether the calls of each handler can be counted.
 fn are_countable(handlers: &Handlers) -> bool
     ensures { IsTrue result
@@ -89,6 +104,7 @@ impl Workers {
             rows: Vec::new(alloc),
             counts: Vec::new(alloc),
             events: IndexMap::new(alloc),
+            activating: Flags::new(alloc),
         }
     }
 
@@ -182,6 +198,14 @@ impl Workers {
         }
     }
 
+    /// The first worker at or behind a number on which a handler of phase activate runs. It takes no memory, and time in
+    /// the number of the blocks of flags and in the length of two of them.
+    pub fn next_activating(&self, from: u32) -> Option<&WorkerRow>
+        ensures { option_copied result ≡ find runs_activate (drop from self.now.rows) }
+    {
+        self.activating.first_row(&self.rows, from as usize)
+    }
+
     /// Makes room for a worker, and its row.
     pub fn make_row(
         &mut self,
@@ -207,6 +231,7 @@ impl Workers {
         }
         self.rows.reserve(1)?;
         self.counts.reserve(1)?;
+        self.activating.make_room()?;
         let script = Text::of(alloc, script.as_str())?;
         Ok(NewWorker {
             row: WorkerRow {
@@ -235,6 +260,7 @@ impl Workers {
         ensures number { result ≡ length self.old.rows }
     {
         let number = new.row.number;
+        self.activating.add(runs_activate(&new.row));
         self.rows.push_reserved(new.row);
         self.counts.push_reserved(0);
         number
@@ -266,14 +292,17 @@ impl Workers {
     }
 
     // Carries an edit out on the row of a worker. It takes no memory.
-    #[tactic(auto, using(crate::proofs::Placed::row_edited, crate::proofs::Placed::kept_edited, crate::proofs::Placed::within, crate::proofs::Placed::passes))]
+    #[tactic(auto, using(crate::proofs::Placed::row_edited, crate::proofs::Placed::within, crate::proofs::Placed::passes))]
     fn edit(&mut self, worker: u32, edit: Edit)
         requires { has_worker (allows edit) worker self.old.rows ≡ true }
         ensures { self.new ≡ record self.old {
           rows = changed (is_worker worker) (edited edit) self.old.rows;
         } }
     {
-        carry_out(&mut self.rows[worker as usize], edit);
+        let place = worker as usize;
+        let row = &mut self.rows[place];
+        carry_out(row, edit);
+        self.activating.set(place, runs_activate(row));
     }
 
     /// A worker goes on to a state. It takes no memory.
@@ -390,7 +419,7 @@ impl Workers {
     }
 
     /// A fetch event ends; the answer is its worker. It takes no memory.
-    #[tactic(auto, using(crate::proofs::Events::ended, crate::proofs::Events::kept_ended, crate::proofs::Events::count_there, crate::proofs::Events::worker_within, crate::proofs::Events::found_event, crate::proofs::Events::found_pending, crate::proofs::Events::none_pending, crate::proofs::Events::none_ended))]
+    #[tactic(auto, using(crate::proofs::Events::ended, crate::proofs::Events::count_there, crate::proofs::Events::worker_within, crate::proofs::Events::found_event, crate::proofs::Events::found_pending, crate::proofs::Events::none_pending, crate::proofs::Events::none_ended))]
     pub fn end(&mut self, event: u32) -> Result<u32, NoEvent>
         ensures no_event { IsErr result ↔ (is_pending event self.old.events ≡ false) }
         ensures worker { IfOk result (λ worker. event_at event self.old.events

@@ -15,5 +15,5 @@ returns-in_default-clause-place c =
 pub make_room_at-requires : goal.make_room_at-requires
 make_room_at-requires c =
     let joined = ap (λ (t : Table). joined_in t.rows c.args.job.now) c.self.view_is ∙ (sym c.leader.ensures ∙ c.in-Some.is) in
-    let below = joined_below c.self.inside.rows.items c.self.invariant.numbers c.args.job.now c.in-Some.leader joined in
-    omega (arith, below, c.self.invariant.count)
+    let below = joined_below c.self.inside.rows.items c.self.invariant.kept.numbers c.args.job.now c.in-Some.leader joined in
+    omega (arith, below, c.self.invariant.kept.count)

@@ -10,5 +10,5 @@ pub returns : goal.returns
 returns c =
     got c.deref.result.now c.args.job c.get.result c.get.ensures.lookup.0 c.get.ensures.lookup.1
     ∙ ap (λ (rows : List JobRow). slice_get rows c.args.job) c.deref.ensures.value
-    ∙ row_found _ _ _ c.self.invariant c.args.job
+    ∙ row_found _ _ _ c.self.invariant.kept c.args.job
     ∙ ap (λ (table : Table). find (is_job c.args.job) table.rows) c.self.view_is

@@ -13,17 +13,17 @@ use Rattle.sw_queue.proofs.queues.Queues.tell_settled.Goals as goal
 
 pub index-requires : goal.index-requires
 index-requires c =
-    let below = passing_below _ c.self.invariant.numbers _ c.args.job
+    let below = passing_below _ c.self.invariant.kept.numbers _ c.args.job
     (subst (λ (t : Table). has_job (λ row. is_none row.leader) c.args.job t.rows ≡ true) (sym c.self.view_is) c.requires.there) in
     omega (arith, below, c.self.inside.rows.ok)
 
 pub tell_rows-requires-clause-jobs : goal.tell_rows-requires-clause-jobs
 tell_rows-requires-clause-jobs c =
     let rows = c.self.inside.rows.items in
-    let own = c.at.ensures ∙ c.self.invariant.followers c.args.job in
+    let own = c.at.ensures ∙ c.self.invariant.kept.followers c.args.job in
     subst (λ (all : List JobRow). All (λ job. job < length all) c.at.result.now) (sym c.as_slice.ensures.value)
     (subst (λ (jobs : List ℕ). All (λ job. job < length rows) jobs) (sym own)
-    (followers_below rows c.self.invariant.numbers c.args.job))
+    (followers_below rows c.self.invariant.kept.numbers c.args.job))
 
 pub returns-clause-told : goal.returns-clause-told
 returns-clause-told c =
@@ -31,7 +31,7 @@ returns-clause-told c =
     let value = c.args.value in
     let job = c.args.job in
     let before = c.args.notices.now.rows in
-    let kept = c.self.invariant in
+    let kept = c.self.invariant.kept in
     let own = c.at.ensures ∙ kept.followers job in
     let below = passing_below rows kept.numbers _ job
     (subst (λ (t : Table). has_job (λ row. is_none row.leader) job t.rows ≡ true) (sym c.self.view_is) c.requires.there) in
