@@ -1,5 +1,5 @@
 -- What may happen next of lanes and of the host, by the tables.
-use Rattle.std.proofs.Common.{◌≡◌, ◌∙◌, ℕ, Bool, true, false, not, [], Option, Some, None, option_and_then, option_map, slice_get, refl, sym, ap, subst, if◌then◌else◌}
+use Rattle.std.proofs.Common.{◌≡◌, ◌∙◌, ℕ, Bool, true, false, not, Option, Some, None, option_and_then, option_map, refl, sym, ap, subst, if◌then◌else◌}
 use Rattle.std.specs.Prelude.{is_some}
 use Rattle.std.specs.Option.{option_map_or}
 use Rattle.sw_client.specs.Table as clients
@@ -11,15 +11,12 @@ use Rattle.sw_data.specs.declared.rows.ClientRow.{ClientRow}
 use Rattle.sw_data.specs.declared.rows.WorkerRow.{WorkerRow}
 use Rattle.sw_data.specs.declared.workers.WorkerState.{WorkerState}
 use Rattle.sw_data.specs.declared.workers.WorkerState.TheVariants as worker_state
-use Rattle.sw_lane.proofs.Finding.{find_first}
-use Rattle.sw_lane.specs.Picked.{task_left}
 use Rattle.sw_pages.specs.Acts.{outcome_of}
 use Rattle.sw_pages.specs.declared.worked.Worked.{Worked}
 use Rattle.sw_reg.specs.Table as registrations
 use Rattle.sw_rules.specs.Clients as rules
 use Rattle.sw_rules.specs.Rows.{client_row, event_row, is_activating, worker_row}
 use Rattle.sw_rules.specs.State.{State}
-use Rattle.sw_rules.specs.Tasks.{ready_tasks}
 use Rattle.sw_rules.specs.Told.{answered}
 use Rattle.sw_scope.specs.Scopes.{Scopes}
 use Rattle.sw_tables.proofs.Lookups.{worker_shown}
@@ -81,6 +78,3 @@ pub begins : (state : State) (client event : ℕ) (row : ClientRow) (worker : �
 begins state client event row worker here own =
     subst (λ (o : Option ClientRow). is_some (rules.begin_on state event (worker_row state worker)) ≡ is_some (elim o [ None ↦ Some (answered state answer.NoClient) | Some row ↦ rules.begin_on state event (option_and_then (worker_row state) row.controller) ])) (sym here)
     (ap (λ w. is_some (rules.begin_on state event (option_and_then (worker_row state) w))) (sym own))
-
-pub none_taken : (state : State) → task_left state [] ≡ slice_get (ready_tasks state) 0
-none_taken state = find_first (λ ready. true) (λ ready. refl) (ready_tasks state)

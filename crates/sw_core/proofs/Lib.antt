@@ -7,6 +7,7 @@ pub mod Busy
 pub mod Calling
 pub mod Changing
 pub mod Coherence
+pub mod Counting
 pub mod Doing
 pub mod FetchLists
 pub mod Fetching
@@ -14,13 +15,16 @@ pub mod FirstPreload
 pub mod Given
 pub mod Going
 pub mod Handling
+pub mod InFlight
 pub mod Keeping
+pub mod Left
 pub mod OnCaches
 pub mod Others
 pub mod Preload
 pub mod Ready
 pub mod ReadyAny
 pub mod Same
+pub mod Searching
 pub mod Settling
 pub mod Starting
 pub mod TaskEvents

@@ -1,7 +1,6 @@
 -- The ready tasks of a host: the first of each kind is the first row that passes.
-use Rattle.std.proofs.Common.{◌≡◌, ◌∙◌, ℕ, Bool, List, [], ◌∷◌, ◌++◌, map, filter, Option, Some, None, option_map, slice_get, refl, sym, ap}
+use Rattle.std.proofs.Common.{◌≡◌, ◌∙◌, ℕ, Bool, List, map, filter, Option, Some, None, option_map, slice_get, refl, ap}
 use Rattle.std.specs.Prelude.{find, is_none}
-use Rattle.std.specs.Option.{option_or}
 use Rattle.std.proofs.lemmas.Option.{slice_get-map}
 use Rattle.sw_core.specs.Hosted.{Hosted, rest_of, state_of}
 use Rattle.sw_data.specs.declared.histories.Task.{Task}
@@ -13,15 +12,15 @@ use Rattle.sw_ledgers.specs.declared.tasks.TaskRow.{TaskRow}
 use Rattle.sw_ledgers.specs.Tasks.{row_of}
 use Rattle.sw_queue.proofs.Places.{find-filter}
 use Rattle.sw_rules.specs.Registering.{may_run}
-use Rattle.sw_rules.specs.Rows.{in_phase, is_evaluating, is_fetching}
-use Rattle.sw_rules.specs.State.{State, AddAll, Registration, Worker}
-use Rattle.sw_rules.specs.Tasks.{activates, add_all_fetches, evaluations, installs, may_activate, may_install, ready_tasks, runs, script_fetches, try_activates}
+use Rattle.sw_rules.specs.Rows.{in_phase, is_evaluating}
+use Rattle.sw_rules.specs.State.{AddAll, Registration, Worker}
+use Rattle.sw_rules.specs.Tasks.{activates, evaluations, installs, may_activate, may_install, runs, try_activates}
 use Rattle.sw_tables.proofs.Rows.{find_map}
 use Rattle.sw_tables.specs.Lent.{shown_registration, shown_worker}
 
 -- ---- the first of each kind
 
-twice : {X Y Z : Type 0} (f : Y → Z) (g : X → Y) (o : Option X) → option_map f (option_map g o) ≡ option_map (λ x. f (g x)) o
+pub twice : {X Y Z : Type 0} (f : Y → Z) (g : X → Y) (o : Option X) → option_map f (option_map g o) ≡ option_map (λ x. f (g x)) o
 twice f g None = refl
 twice f g (Some x) = refl
 
@@ -44,40 +43,17 @@ first_shown f test show xs =
     first_of f test (map show xs)
     ∙ (ap (option_map f) (find_map test show xs) ∙ twice f show (find (λ x. test (show x)) xs))
 
-first_run : (host : Hosted) → slice_get (runs (state_of host)) 0
+pub first_run : (host : Hosted) → slice_get (runs (state_of host)) 0
     ≡ option_map (λ (row : JobRow). task.Run row.job.number) (find (λ row. may_run (state_of host) row) host.queues.rows)
 first_run host = first_job task.Run (may_run (state_of host)) host.queues.rows
-
-pub run_found : (host : Hosted) (o : Option JobRow) → o ≡ find (λ row. may_run (state_of host) row) host.queues.rows
-    → option_map (λ (row : JobRow). task.Run row.job.number) o ≡ slice_get (runs (state_of host)) 0
-run_found host o is = ap (option_map (λ (row : JobRow). task.Run row.job.number)) is ∙ sym (first_run host)
-
-pub first_fetch : (host : Hosted) → slice_get (script_fetches (state_of host)) 0
-    ≡ option_map (λ (row : JobRow). task.Fetch row.job.number) (find (in_phase is_fetching) host.queues.rows)
-first_fetch host = first_job task.Fetch (in_phase is_fetching) host.queues.rows
-
-pub unsettled_found : (rows : List TaskRow) → find (λ (row : AddAll). is_none row.settled) (map row_of rows)
-    ≡ option_map row_of (find (λ (row : TaskRow). is_none row.settled) rows)
-unsettled_found rows = find_map (λ (row : AddAll). is_none row.settled) row_of rows
-
-pub first_fetch_all : (host : Hosted) → slice_get (add_all_fetches (state_of host)) 0
-    ≡ option_map task.FetchAll (option_map (λ (row : AddAll). row.number) (find (λ (row : AddAll). is_none row.settled) host.tasks.rows))
-first_fetch_all host =
-    let found = find (λ (row : AddAll). is_none row.settled) host.tasks.rows in
-    first_of (λ (row : AddAll). task.FetchAll row.number) (λ (row : AddAll). is_none row.settled) host.tasks.rows
-    ∙ sym (twice task.FetchAll (λ (row : AddAll). row.number) found)
 
 pub first_evaluate : (host : Hosted) → slice_get (evaluations (state_of host)) 0
     ≡ option_map (λ (row : JobRow). task.Evaluate row.job.number) (find (in_phase is_evaluating) host.queues.rows)
 first_evaluate host = first_job task.Evaluate (in_phase is_evaluating) host.queues.rows
 
-first_install : (host : Hosted) → slice_get (installs (state_of host)) 0
+pub first_install : (host : Hosted) → slice_get (installs (state_of host)) 0
     ≡ option_map (λ (row : JobRow). task.Install row.job.number) (find (λ row. may_install (state_of host) row) host.queues.rows)
 first_install host = first_job task.Install (may_install (state_of host)) host.queues.rows
-
-pub install_found : (host : Hosted) (o : Option JobRow) → o ≡ find (λ row. may_install (state_of host) row) host.queues.rows
-    → option_map (λ (row : JobRow). task.Install row.job.number) o ≡ slice_get (installs (state_of host)) 0
-install_found host o is = ap (option_map (λ (row : JobRow). task.Install row.job.number)) is ∙ sym (first_install host)
 
 pub first_try_activate : (host : Hosted) → slice_get (try_activates (state_of host)) 0
     ≡ option_map (λ (row : RegistrationRow). task.TryActivate row.number) (find (λ (row : RegistrationRow). row.owed) host.registrations.rows)
@@ -90,29 +66,10 @@ pub first_activate : (host : Hosted) → slice_get (activates (state_of host)) 0
 first_activate host =
     first_shown (λ (row : Worker). task.Activate row.number) (may_activate (state_of host)) shown_worker host.workers.rows
 
--- ---- the first of all
+-- ---- addAlls, by the rows of their table
 
-first_both : {X : Type 0} (xs ys : List X) → slice_get (xs ++ ys) 0 ≡ option_or (slice_get xs 0) (slice_get ys 0)
-first_both [] ys = refl
-first_both (x ∷ xs) ys = refl
-
--- one more list behind
-behind : {X : Type 0} (xs ys : List X) (o : Option X) → slice_get xs 0 ≡ o → slice_get (xs ++ ys) 0 ≡ option_or o (slice_get ys 0)
-behind xs ys o is = first_both xs ys ∙ ap (λ p. option_or p (slice_get ys 0)) is
-
-or_assoc : {X : Type 0} (o a b c : Option X) → option_or (option_or (option_or o a) b) c ≡ option_or o (option_or (option_or a b) c)
-or_assoc None a b c = refl
-or_assoc (Some x) a b c = refl
-
-pub first_ready : (state : State) → slice_get (ready_tasks state) 0
-    ≡ option_or
-    (option_or (option_or (option_or (slice_get (runs state) 0) (slice_get (script_fetches state) 0)) (slice_get (add_all_fetches state) 0)) (slice_get (evaluations state) 0))
-    (option_or (option_or (slice_get (installs state) 0) (slice_get (try_activates state) 0)) (slice_get (activates state) 0))
-first_ready state =
-    let second = first_both (runs state) (script_fetches state) in
-    let third = behind (runs state ++ script_fetches state) (add_all_fetches state) _ second in
-    let fourth = behind (runs state ++ script_fetches state ++ add_all_fetches state) (evaluations state) _ third in
-    let fifth = behind (runs state ++ script_fetches state ++ add_all_fetches state ++ evaluations state) (installs state) _ fourth in
-    let sixth = behind (runs state ++ script_fetches state ++ add_all_fetches state ++ evaluations state ++ installs state) (try_activates state) _ fifth in
-    behind (runs state ++ script_fetches state ++ add_all_fetches state ++ evaluations state ++ installs state ++ try_activates state) (activates state) _ sixth
-    ∙ or_assoc _ (slice_get (installs state) 0) (slice_get (try_activates state) 0) (slice_get (activates state) 0)
+pub number_behind : (rows : List TaskRow) (place : ℕ) → option_map (λ (row : AddAll). row.number) (slice_get (map row_of rows) place)
+    ≡ option_map (λ (row : TaskRow). row.number) (slice_get rows place)
+number_behind rows place =
+    ap (option_map (λ (row : AddAll). row.number)) (slice_get-map row_of rows place)
+    ∙ twice (λ (row : AddAll). row.number) row_of (slice_get rows place)

@@ -5,7 +5,7 @@ use Rattle.std.specs.List.{list_any}
 use Rattle.std.specs.Option.{option_map_or}
 use Rattle.std.proofs.lemmas.Bool.Decides.{nat_tests}
 use Rattle.sw_core.proofs.ReadyAny.{ready_activate, ready_install}
-use Rattle.sw_core.specs.Fetching.{is_fetch}
+use Rattle.sw_lane.specs.Picked.{is_fetch}
 use Rattle.sw_core.specs.Hosted.{Hosted, state_of}
 use Rattle.sw_data.specs.declared.events.Event.{Event}
 use Rattle.sw_data.specs.declared.events.Event.TheVariants as event

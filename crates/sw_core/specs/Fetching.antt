@@ -1,17 +1,11 @@
 -- The fetches of a task.
-use Rattle.std.specs.Prelude.{ℕ, Bool, true, false, List, [], ◌∷◌, map, zip}
+use Rattle.std.specs.Prelude.{ℕ, List, [], ◌∷◌, map, zip}
 use Rattle.std.specs.Option.{option_map_or}
 use Rattle.sw_data.specs.declared.histories.Task.{Task}
 use Rattle.sw_data.specs.declared.histories.Task.TheVariants as task
 use Rattle.sw_data.specs.declared.rows.JobRow.{JobRow}
 use Rattle.sw_rules.specs.Rows.{job_row, task_row}
 use Rattle.sw_rules.specs.State.{State, AddAll}
-
--- own: a task is one that ends fetches
-abbrev pub is_fetch : Task → Bool
-is_fetch (task.Fetch job) = true
-is_fetch (task.FetchAll number) = true
-is_fetch _ = false
 
 -- own: the script and the drawn number of a job's fetch, where it is drawn
 abbrev pub fetches_of_job : JobRow → List (List ℕ × ℕ)

@@ -1,5 +1,6 @@
 pub mod Called
 pub mod Fetching
+pub mod Flying
 pub mod Free
 pub mod Hosted
 pub mod Keeping

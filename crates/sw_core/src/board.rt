@@ -1,13 +1,16 @@
 //! A host as the board that lanes are picked by.
 
-ghost use Rattle.std.specs.Prelude.{◌≡◌, ℕ, is_some};
+ghost use Rattle.std.specs.Prelude.{◌≡◌, ◌<◌, ◌^◌, ℕ, true, is_some, length};
+ghost use Rattle.std.specs.List.{list_all};
 ghost use Rattle.sw_core.specs.Hosted.{state_of};
 ghost use Rattle.sw_data.specs.declared.events.Who.TheVariants as maker;
+ghost use Rattle.sw_lane.specs.Picked.{in_flight, is_fetch};
 ghost use Rattle.sw_rules.specs.Clients as rules;
 ghost use Rattle.sw_rules.specs.Rows.{worker_row};
 ghost use Rattle.sw_tables.specs.Parts.{is_activating};
 
 use crate::core_tables::Core;
+use crate::flights::many_in_flight;
 use sw_data::{Action, Task, WorkerState};
 use sw_lane::Board;
 use sw_pages::{await_promise, ready};
@@ -67,29 +70,38 @@ impl Core {
     }
 }
 
-impl Board for Core {
-    ghost use Rattle.std.specs.Prelude.{[]};
+/// A host as the board that lanes are picked by, while passes have these fetches in flight.
+#[derive(Clone, Copy)]
+pub struct CoreBoard<'a> {
+    pub core: &'a Core,
+    pub flights: &'a [Option<Task>],
+    ghost fetches: { list_all is_fetch (in_flight flights.now) ≡ true },
+    ghost few: { length flights.now < 2 ^ 32 },
+}
+
+impl Board for CoreBoard<'_> {
     ghost use Rattle.sw_core.specs.Hosted.{state_of};
+    ghost use Rattle.sw_lane.specs.Picked as lane;
 
-    ghost state = { λ core. state_of core };
+    ghost state = { λ board. state_of board.core.now };
 
-    ghost in_flight = { λ core. [] };
+    ghost in_flight = { λ board. lane.in_flight board.flights.now };
 
     #[tactic(auto, unfolding(sw_rules::specs::Step::step, sw_data::specs::Events::event_of_action))]
     fn lane_ready(&self, lane: u32, action: &Action) -> bool {
         match action {
-            Action::Await { of } => self.has_settled(lane, *of),
-            Action::Ready { client } => self.is_ready(*client),
-            Action::Begin { client, .. } => self.may_begin(*client),
+            Action::Await { of } => self.core.has_settled(lane, *of),
+            Action::Ready { client } => self.core.is_ready(*client),
+            Action::Begin { client, .. } => self.core.may_begin(*client),
             _ => true,
         }
     }
 
     fn next_task(&self) -> Option<Task> {
-        Core::next_task(self)
+        self.core.next_task(self.flights)
     }
 
     fn in_flight(&self) -> u32 {
-        0
+        many_in_flight(self.flights)
     }
 }

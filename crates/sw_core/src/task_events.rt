@@ -3,7 +3,7 @@
 ghost use Rattle.std.specs.Prelude.{◌≡◌, true, not, is_some, None, Some, IfOk, IfSome, option_and_then, option_map, slice_get, if◌then◌else◌};
 ghost use Rattle.std.specs.List.{list_any};
 ghost use Rattle.std.specs.Option.{option_copied};
-ghost use Rattle.sw_core.specs.Fetching.{is_fetch};
+ghost use Rattle.sw_lane.specs.Picked.{is_fetch};
 ghost use Rattle.sw_core.specs.Hosted.{state_of};
 ghost use Rattle.sw_data.specs.declared.events.Event.TheVariants as event;
 ghost use Rattle.sw_data.specs.declared.events.Who.TheVariants as maker;

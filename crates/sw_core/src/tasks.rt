@@ -1,63 +1,25 @@
-//! What may happen next: the ready tasks of a host.
+//! What may happen next: the ready tasks of a host that aren't in flight.
 
-ghost use Rattle.std.specs.Prelude.{◌≡◌, false, ◌&&◌, find, is_none, slice_get, option_and_then, option_map};
-ghost use Rattle.std.specs.Option.{option_copied, option_map_or, option_or};
-ghost use Rattle.sw_core.specs.Free.{free_of};
+ghost use Rattle.std.specs.Prelude.{◌≡◌, true, false, find, slice_get, option_and_then, option_map};
+ghost use Rattle.std.specs.List.{list_all};
+ghost use Rattle.std.specs.Option.{option_map_or, option_or};
+ghost use Rattle.sw_core.specs.Flying.{add_all_left, fetch_left, left_of};
+ghost use Rattle.sw_core.specs.Free.{activates, free_of};
 ghost use Rattle.sw_core.specs.Hosted.{state_of};
-ghost use Rattle.sw_rules.specs.Registering.{may_run};
-ghost use Rattle.sw_rules.specs.Rows.{free_handler, in_phase, is_evaluating, is_fetching, is_first, is_install, is_installing, is_waiting};
+ghost use Rattle.sw_data.specs.declared.histories.Task.TheVariants as task;
+ghost use Rattle.sw_lane.specs.Picked.{in_flight, is_fetch, task_left};
+ghost use Rattle.sw_rules.specs.Rows.{free_handler, is_install};
 ghost use Rattle.sw_rules.specs.Tasks as rules;
 ghost use Rattle.sw_tables.specs.Lent.{shown_handler, shown_worker};
+ghost use Rattle.sw_tables.specs.Linked.{ArePlaces};
 
+use crate::behind::{job_behind, task_behind, worker_behind};
 use crate::core_tables::Core;
-use sw_data::{HandlerRow, JobPhase, JobRow, Phase, RegistrationRow, Task, WorkerRow};
-use sw_ledgers::{TaskRow, Tasks};
+use crate::flights::is_in_flight;
+use sw_data::{HandlerRow, Phase, Task, WorkerRow};
+use sw_ledgers::Tasks;
 use sw_queue::Queues;
-
-// Whether a job stands first in its queue.
-fn is_first(row: &JobRow, queues: &Queues) -> bool
-    ensures { result ≡ is_first queues.now.rows row.now }
-{
-    match queues.first(&row.job.key, &row.job.scope) {
-        Some(first) => first == row.job.number,
-        None => false,
-    }
-}
-
-// Whether a job may run: it joined no other, waits, and stands first in its queue.
-pub(crate) fn may_run(row: &JobRow, queues: &Queues) -> bool
-    ensures { result ≡ (in_phase is_waiting row.now && is_first queues.now.rows row.now) }
-{
-    row.leader.is_none() && row.phase == JobPhase::Waiting && is_first(row, queues)
-}
-
-// Whether the fetch of a job is in flight.
-pub(crate) fn is_fetching(row: &JobRow) -> bool
-    ensures { result ≡ in_phase is_fetching row.now }
-{
-    row.leader.is_none() && row.phase == JobPhase::Fetching
-}
-
-// Whether the worker of a job is to be evaluated.
-pub(crate) fn is_evaluating(row: &JobRow) -> bool
-    ensures { result ≡ in_phase is_evaluating row.now }
-{
-    row.leader.is_none() && row.phase == JobPhase::Evaluating
-}
-
-// Whether the worker of a job installs.
-fn is_installing(row: &JobRow) -> bool
-    ensures { result ≡ in_phase is_installing row.now }
-{
-    row.leader.is_none() && row.phase == JobPhase::Installing
-}
-
-// Whether an addAll has not settled.
-pub(crate) fn is_unsettled(row: &TaskRow) -> bool
-    ensures { result ≡ is_none row.now.settled }
-{
-    row.settled.is_none()
-}
+use sw_worker::Workers;
 
 // The handler of a worker that runs, where none of its addAlls is unsettled.
 fn free_of(row: &WorkerRow) -> Option<HandlerRow>
@@ -75,41 +37,70 @@ fn free_of(row: &WorkerRow) -> Option<HandlerRow>
     }
 }
 
-// The row of the first job whose fetch is in flight.
-fn fetching_row(rows: &[JobRow]) -> Option<&JobRow>
-    ensures { option_copied result ≡ find (in_phase is_fetching) rows.now }
+// The fetch of the first job that fetches and isn't in flight.
+fn script_fetch(queues: &Queues, flights: &[Option<Task>]) -> Option<Task>
+    ensures { result ≡ option_map (λ row. task.Fetch row.job.number)
+        (find (fetch_left (in_flight flights.now)) queues.now.rows) }
 {
-    rows.iter().find(|row| is_fetching(row))
+    queues.are_numbered();
+    let mut from = 0;
+    while let Some(row) = queues.next_fetching(from) {
+        let fetch = Task::Fetch(row.job.number);
+        if !is_in_flight(flights, fetch) {
+            return Some(fetch);
+        }
+        from = job_behind(queues, row.job.number)?;
+    }
+    None
 }
 
-// The row of the first job whose worker is to be evaluated.
-fn evaluating_row(rows: &[JobRow]) -> Option<&JobRow>
-    ensures { option_copied result ≡ find (in_phase is_evaluating) rows.now }
+// The fetches of the first addAll that has not settled and isn't in flight.
+fn add_all_fetch(tasks: &Tasks, flights: &[Option<Task>]) -> Option<Task>
+    ensures { result ≡ option_map (λ row. task.FetchAll row.number)
+        (find (add_all_left (in_flight flights.now)) tasks.now.rows) }
 {
-    rows.iter().find(|row| is_evaluating(row))
+    tasks.are_numbered();
+    let mut from = 0;
+    while let Some(row) = tasks.next_unsettled(from) {
+        let fetches = Task::FetchAll(row.number);
+        if !is_in_flight(flights, fetches) {
+            return Some(fetches);
+        }
+        from = task_behind(tasks, row.number)?;
+    }
+    None
 }
 
-// The row of the first addAll that has not settled.
-fn unsettled_row(rows: &[TaskRow]) -> Option<&TaskRow>
-    ensures { option_copied result ≡ find (λ row. is_none row.settled) rows.now }
+// The first job whose install handler may go on.
+fn installing(core: &Core, queues: &Queues) -> Option<Task>
+    ensures { result ≡ option_map (λ row. task.Install row.job.number)
+        (find (rules.may_install (state_of core.now)) queues.now.rows) }
 {
-    rows.iter().find(|row| is_unsettled(row))
+    queues.are_numbered();
+    let mut from = 0;
+    while let Some(row) = queues.next_installing(from) {
+        if core.goes_on(row.worker) {
+            return Some(Task::Install(row.job.number));
+        }
+        from = job_behind(queues, row.job.number)?;
+    }
+    None
 }
 
-// The first addAll that has not settled.
-#[tactic(auto, using(crate::proofs::Ready::unsettled_found))]
-fn first_unsettled(tasks: &Tasks) -> Option<u32>
-    ensures { result
-        ≡ option_map (λ row. row.number) (find (λ row. is_none row.settled) tasks.now.rows) }
+// The first worker whose activate handler runs and may go on.
+fn activating(core: &Core, workers: &Workers) -> Option<Task>
+    requires { ArePlaces (λ row. row.number) workers.now.rows }
+    ensures { result ≡ option_map (λ row. task.Activate row.number)
+        (find (activates (state_of core.now)) workers.now.rows) }
 {
-    Some(unsettled_row(tasks.rows())?.number)
-}
-
-// The row of the first registration that is owed a Try Activate.
-fn owed_row(rows: &[RegistrationRow]) -> Option<&RegistrationRow>
-    ensures { option_copied result ≡ find (λ row. row.owed) rows.now }
-{
-    rows.iter().find(|row| row.owed)
+    let mut from = 0;
+    while let Some(row) = workers.next_activating(from) {
+        if core.may_activate(row) {
+            return Some(Task::Activate(row.number));
+        }
+        from = worker_behind(workers, row.number)?;
+    }
+    None
 }
 
 impl Core {
@@ -135,15 +126,8 @@ impl Core {
         }
     }
 
-    // Whether the install handler of the worker that a job made may go on.
-    pub(crate) fn may_install(&self, row: &JobRow) -> bool
-        ensures { result ≡ rules.may_install (state_of self.now) row.now }
-    {
-        is_installing(row) && self.goes_on(row.worker)
-    }
-
     // Whether the activate handler of a worker may go on.
-    pub(crate) fn may_activate(&self, row: &WorkerRow) -> bool
+    fn may_activate(&self, row: &WorkerRow) -> bool
         ensures { result ≡ rules.may_activate (state_of self.now) (shown_worker row.now) }
     {
         match self.free_handler(row.number) {
@@ -152,63 +136,29 @@ impl Core {
         }
     }
 
-    // Whether a job may run.
-    fn may_run(&self, row: &JobRow) -> bool
-        ensures { result ≡ may_run (state_of self.now) row.now }
-    {
-        may_run(row, &self.queues)
-    }
-
-    // The row of the first job that may run.
-    fn waiting_row(&self) -> Option<&JobRow>
-        ensures { option_copied result
-            ≡ find (λ row. may_run (state_of self.now) row) self.now.queues.rows }
-    {
-        self.queues.rows().iter().find(|row| self.may_run(row))
-    }
-
-    // The row of the first job whose install handler may go on.
-    fn installing_row(&self) -> Option<&JobRow>
-        ensures { option_copied result
-            ≡ find (λ row. rules.may_install (state_of self.now) row) self.now.queues.rows }
-    {
-        self.queues.rows().iter().find(|row| self.may_install(row))
-    }
-
-    // The row of the first worker whose activate handler may go on.
-    fn activating_row(&self) -> Option<&WorkerRow>
-        ensures { option_copied result
-            ≡ find (λ row. rules.may_activate (state_of self.now) (shown_worker row))
-            self.now.workers.rows }
-    {
-        self.workers
-            .rows()
-            .iter()
-            .find(|row| self.may_activate(row))
-    }
-
     // The first job that may run.
-    #[tactic(auto, using(crate::proofs::Ready::run_found))]
     fn first_run(&self) -> Option<Task>
         ensures { result ≡ slice_get (rules.runs (state_of self.now)) 0 }
     {
-        Some(Task::Run(self.waiting_row()?.job.number))
+        Some(Task::Run(self.queues.first_waiting()?.job.number))
     }
 
-    // The first job whose fetch is in flight.
-    #[tactic(auto, using(crate::proofs::Ready::first_fetch))]
-    fn first_fetch(&self) -> Option<Task>
-        ensures { result ≡ slice_get (rules.script_fetches (state_of self.now)) 0 }
+    // The first fetch of a job that isn't in flight.
+    #[tactic(auto, using(crate::proofs::Left::job_left))]
+    fn next_fetch(&self, flights: &[Option<Task>]) -> Option<Task>
+        ensures { result
+            ≡ left_of (in_flight flights.now) (rules.script_fetches (state_of self.now)) }
     {
-        Some(Task::Fetch(fetching_row(self.queues.rows())?.job.number))
+        script_fetch(&self.queues, flights)
     }
 
-    // The first addAll whose fetches are in flight.
-    #[tactic(auto, using(crate::proofs::Ready::first_fetch_all))]
-    fn first_fetch_all(&self) -> Option<Task>
-        ensures { result ≡ slice_get (rules.add_all_fetches (state_of self.now)) 0 }
+    // The first addAll's fetches that aren't in flight.
+    #[tactic(auto, using(crate::proofs::Left::task_left_of))]
+    fn next_fetch_all(&self, flights: &[Option<Task>]) -> Option<Task>
+        ensures { result
+            ≡ left_of (in_flight flights.now) (rules.add_all_fetches (state_of self.now)) }
     {
-        Some(Task::FetchAll(first_unsettled(&self.tasks)?))
+        add_all_fetch(&self.tasks, flights)
     }
 
     // The first job whose worker is to be evaluated.
@@ -216,15 +166,14 @@ impl Core {
     fn first_evaluate(&self) -> Option<Task>
         ensures { result ≡ slice_get (rules.evaluations (state_of self.now)) 0 }
     {
-        Some(Task::Evaluate(evaluating_row(self.queues.rows())?.job.number))
+        Some(Task::Evaluate(self.queues.first_evaluating()?.job.number))
     }
 
     // The first job whose install handler may go on.
-    #[tactic(auto, using(crate::proofs::Ready::install_found))]
     fn first_install(&self) -> Option<Task>
         ensures { result ≡ slice_get (rules.installs (state_of self.now)) 0 }
     {
-        Some(Task::Install(self.installing_row()?.job.number))
+        installing(self, &self.queues)
     }
 
     // The first registration that is owed a Try Activate.
@@ -232,30 +181,29 @@ impl Core {
     fn first_try_activate(&self) -> Option<Task>
         ensures { result ≡ slice_get (rules.try_activates (state_of self.now)) 0 }
     {
-        Some(Task::TryActivate(owed_row(self.registrations.rows())?.number))
+        Some(Task::TryActivate(self.registrations.first_owed()?.number))
     }
 
     // The first worker whose activate handler may go on.
-    #[tactic(auto, using(crate::proofs::Ready::first_activate))]
     fn first_activate(&self) -> Option<Task>
         ensures { result ≡ slice_get (rules.activates (state_of self.now)) 0 }
     {
-        Some(Task::Activate(self.activating_row()?.number))
+        activating(self, &self.workers)
     }
 
-    // The first task that goes on with a job or an addAll: a run, a fetch, or an evaluation.
-    fn first_of_jobs(&self) -> Option<Task>
+    // The first task that goes on with a job or an addAll: a run, a fetch that isn't in flight, or an evaluation.
+    fn next_of_jobs(&self, flights: &[Option<Task>]) -> Option<Task>
         ensures { result ≡ option_or (option_or (option_or
             (slice_get (rules.runs (state_of self.now)) 0)
-            (slice_get (rules.script_fetches (state_of self.now)) 0))
-            (slice_get (rules.add_all_fetches (state_of self.now)) 0))
+            (left_of (in_flight flights.now) (rules.script_fetches (state_of self.now))))
+            (left_of (in_flight flights.now) (rules.add_all_fetches (state_of self.now))))
             (slice_get (rules.evaluations (state_of self.now)) 0) }
     {
         match self.first_run() {
             Some(task) => Some(task),
-            None => match self.first_fetch() {
+            None => match self.next_fetch(flights) {
                 Some(task) => Some(task),
-                None => match self.first_fetch_all() {
+                None => match self.next_fetch_all(flights) {
                     Some(task) => Some(task),
                     None => self.first_evaluate(),
                 },
@@ -279,12 +227,13 @@ impl Core {
         }
     }
 
-    /// The first ready task. It takes no memory, and time in the number of all rows.
-    #[tactic(auto, using(crate::proofs::Ready::first_ready))]
-    pub fn next_task(&self) -> Option<Task>
-        ensures { result ≡ slice_get (rules.ready_tasks (state_of self.now)) 0 }
+    /// The first ready task that isn't one of the fetches in flight. It takes no memory, and time in the blocks of flags
+    /// of the tables and in the rows that are ready but for what is in flight or for a handler that can't go on.
+    pub fn next_task(&self, flights: &[Option<Task>]) -> Option<Task>
+        requires { list_all is_fetch (in_flight flights.now) ≡ true }
+        ensures { result ≡ task_left (state_of self.now) (in_flight flights.now) }
     {
-        match self.first_of_jobs() {
+        match self.next_of_jobs(flights) {
             Some(task) => Some(task),
             None => self.first_of_workers(),
         }

@@ -16,7 +16,8 @@ ghost use Rattle.sw_store.specs.Stores.{IsSameTwin};
 use crate::ends::Stop;
 use crate::next::next_event;
 use std::alloc::Global;
-use sw_data::{Event, NoMemory};
+use sw_core::{Core, CoreBoard};
+use sw_data::{Event, NoMemory, Task};
 use sw_lane::{Lanes, Pick, Work};
 use sw_net::Net;
 use sw_store::{StageError, Store};
@@ -88,6 +89,17 @@ fn take_up(
     }
 }
 
+// What is picked where nothing is in flight.
+fn pick(core: &Core, lanes: &Lanes) -> Pick
+    ensures { result ≡ picks.picked (state_of core.now) [] lanes.now }
+{
+    let flights: [Option<Task>; 0] = [];
+    lanes.pick(&CoreBoard {
+        core,
+        flights: &flights,
+    })
+}
+
 // What comes next happens, and waits, until the group is full, or nothing may happen.
 #[tactic(auto, using(crate::proofs::GroupLemmas::never_idle))]
 fn fill(alloc: Global, store: &mut Store, lanes: &mut Lanes, net: &Net) -> Stop
@@ -107,7 +119,7 @@ fn fill(alloc: Global, store: &mut Store, lanes: &mut Lanes, net: &Net) -> Stop
         if store.waiting() >= SIXTEEN {
             return Stop::Sixteen;
         }
-        match lanes.pick(store.core()) {
+        match pick(store.core(), lanes) {
             Pick::Work(picked) => match take_up(alloc, store, lanes, net, picked) {
                 Ok(()) => {}
                 Err(stop) => return stop,

@@ -6,7 +6,7 @@ use Rattle.sw_pool.proofs.filling.fill.Goals as goal
 
 pub take_up-requires-clause-picked : goal.take_up-requires-clause-picked
 take_up-requires-clause-picked c =
-    picked_by c.core.result.now c.events.store.core c.events.lanes (pick.Work c.in-Work.picked) c.core.ensures c.in-Work.ensures.pick
+    picked_by c.core.result.now c.events.store.core c.events.lanes (pick.Work c.in-Work.picked) c.core.ensures c.in-Work.ensures
 
 pub events-preserved : goal.events-preserved
 events-preserved c = record {
@@ -25,11 +25,11 @@ returns-in-Err-clause-goes_on c = λ recording base history same goes.
 pub returns-in-Stalled-clause-goes_on : goal.returns-in-Stalled-clause-goes_on
 returns-in-Stalled-clause-goes_on c = λ recording base history same goes. (
   c.events.invariant.goes_on recording base history same goes,
-  picked_by c.core.result.now c.events.store.core c.events.lanes (pick.Stalled c.in-Stalled.lane) c.core.ensures c.in-Stalled.ensures.pick,
+  picked_by c.core.result.now c.events.store.core c.events.lanes (pick.Stalled c.in-Stalled.lane) c.core.ensures c.in-Stalled.ensures,
 )
 
 pub returns-in-Done-clause-goes_on : goal.returns-in-Done-clause-goes_on
 returns-in-Done-clause-goes_on c = λ recording base history same goes. (
   c.events.invariant.goes_on recording base history same goes,
-  picked_by c.core.result.now c.events.store.core c.events.lanes pick.Done c.core.ensures c.in-Done.ensures.pick,
+  picked_by c.core.result.now c.events.store.core c.events.lanes pick.Done c.core.ensures c.in-Done.ensures,
 )

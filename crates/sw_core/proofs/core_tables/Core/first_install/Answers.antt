@@ -1,15 +1,13 @@
-use Rattle.std.proofs.Common.{arith}
-use Rattle.std.proofs.lemmas.Grind.{common_steps}
-use Rattle.std.specs.Option.{option_copied}
-use Rattle.sw_core.proofs.Ready.{install_found}
+use Rattle.std.proofs.Common.{◌∙◌, List, find, option_map, sym, ap}
+use Rattle.sw_core.proofs.Ready.{first_install}
+use Rattle.sw_core.specs.Hosted.{Hosted, state_of}
+use Rattle.sw_data.specs.declared.histories.Task.TheVariants as task
+use Rattle.sw_data.specs.declared.rows.JobRow.{JobRow}
+use Rattle.sw_rules.specs.Tasks.{may_install}
 use Rattle.sw_core.proofs.core_tables.Core.first_install.Goals as goal
-
-pub returns-in_err-installing_row : goal.returns-in_err-installing_row
-returns-in_err-installing_row c =
-    let is = install_found c.args.self.now (option_copied c.installing_row.result) c.installing_row.ensures in
-    grind (arith, common_steps, is)
 
 pub returns : goal.returns
 returns c =
-    let is = install_found c.args.self.now (option_copied c.installing_row.result) c.installing_row.ensures in
-    grind (arith, common_steps, is)
+    c.installing.ensures
+    ∙ (ap (λ (rows : List JobRow). option_map (λ (row : JobRow). task.Install row.job.number) (find (may_install (state_of c.args.self.now)) rows))
+    (ap (λ (h : Hosted). h.queues.rows) c.self.view_is) ∙ sym (first_install c.args.self.now))
