@@ -2,3 +2,4 @@ pub mod EndLemmas
 pub mod StandLemmas
 pub mod StoringLemmas
 pub mod TextLemmas
+pub mod WordLemmas

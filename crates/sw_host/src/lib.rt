@@ -15,3 +15,5 @@ pub use top::{Outcome, run};
 mod crash_tests;
 #[cfg(test)]
 mod tests;
+#[cfg(test)]
+mod worker_tests;

@@ -32,6 +32,8 @@ pub enum Status {
     Full,
     /// The current part of the disk begins with the header of a format already.
     AlreadyFormatted,
+    /// A worker has made all the turns that a worker makes, and nothing else has ended the run.
+    Spent,
     /// The words aren't built yet.
     NotYet,
 }
@@ -55,12 +57,13 @@ impl Status {
             Status::TooLarge => 10,
             Status::Full => 11,
             Status::AlreadyFormatted => 12,
+            Status::Spent => 13,
             Status::NotYet => 14,
         }
     }
 
-    // The text that a refusal of its own prints. Done and Stalled print a transcript or the command's text, a bad line
-    // its number and cause, and a bad journal its offset; want of memory and a write fault print nothing.
+    // The text that a refusal of its own prints. Done, Stalled and Spent print a transcript or the command's text,
+    // a bad line its number and cause, and a bad journal its offset; want of memory and a write fault print nothing.
     pub(crate) fn refusal(self) -> &'static str
         ensures { result.now ≡ refusal_text self }
     {
@@ -78,7 +81,8 @@ impl Status {
             | Status::BadLine
             | Status::WriteFault
             | Status::BadJournal
-            | Status::Stalled => "",
+            | Status::Stalled
+            | Status::Spent => "",
         }
     }
 }

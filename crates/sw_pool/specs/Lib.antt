@@ -1,6 +1,1 @@
-pub mod Ends
-pub mod Groups
-pub mod Machines
-pub mod Playing
-pub mod Settling
-pub mod Surviving
+pub mod Yards
