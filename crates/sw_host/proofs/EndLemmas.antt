@@ -13,9 +13,9 @@ use Rattle.sw_host.specs.declared.statuses.Status.TheVariants as status
 use Rattle.sw_host.specs.Stands.{EndsAs, IsLeftAfter, IsReportOf, RefusesDisk, ReplaysOn, last_of, status_of}
 use Rattle.sw_journal.specs.Quiet.{IsQuiet}
 use Rattle.sw_kept.specs.Stored.{Bad, Unformatted, stored}
-use Rattle.sw_turns.specs.declared.ends.DriveEnd.{DriveEnd}
-use Rattle.sw_turns.specs.declared.ends.DriveEnd.TheVariants as drive_end
-use Rattle.sw_turns.specs.Ends.{Ended}
+use Rattle.sw_pool.specs.declared.ends.DriveEnd.{DriveEnd}
+use Rattle.sw_pool.specs.declared.ends.DriveEnd.TheVariants as drive_end
+use Rattle.sw_pool.specs.Ends.{Ended}
 use Rattle.sw_print.specs.Transcript.{transcript}
 use Rattle.sw_store.specs.declared.errors.OpenError.{OpenError}
 use Rattle.sw_store.specs.declared.errors.OpenError.TheVariants as error
@@ -30,33 +30,25 @@ some_status (drive_end.Stalled lane) some is = absurd cc
 some_status (drive_end.DiskFault refused) some is = absurd cc
 some_status (drive_end.Full happened from needed) some is = absurd cc
 some_status drive_end.NoMemory some is = some refl
-some_status drive_end.Spent some is = absurd cc
 
-module _ {D : Type 0} (disk : Ghosts D) (start now : D) (workers : ℕ) (recording : Recording) where
-  run_ends : (base : Kept) (history : List Entry) (ended : DriveEnd) (report : Report) → Ended disk start now workers recording base history ended
-      → report.status ≡ status_of ended → (ended ≡ drive_end.NoMemory → ⊥) → report.text ≡ transcript history (last_of ended)
-      → EndsAs disk start now workers recording report.status report.text
-  run_ends base history ended report run is some prints = record {
+module _ {D : Type 0} (disk : Ghosts D) (start now : D) (recording : Recording) where
+  -- the status and the text of a run
+  pub ends_as : (base : Kept) (history printed : List Entry) (ended : DriveEnd) (outcome : Status) (text : List ℕ)
+      → Ended disk start now recording base history ended → printed ≡ history → outcome ≡ status_of ended → (ended ≡ drive_end.NoMemory → ⊥)
+      → text ≡ transcript printed (last_of ended) → EndsAs disk start now recording outcome text
+  ends_as base history printed ended outcome text run same is some prints = record {
     base = base;
     history = history;
     ended = ended;
     run = run;
     ends = is;
     some = λ none. some_status ended some (sym is ∙ none);
-    printed = prints;
+    printed = prints ∙ ap (λ (entries : List Entry). transcript entries (last_of ended)) same;
   }
-
-  -- the status and the text of a run
-  pub ends_as : {E : Type 0} (base : Kept) (history : List Entry) (ended : DriveEnd) (result : Result Report E) → Ended disk start now workers recording base history ended
-      → IfOk result (λ report. report.status ≡ status_of ended) → IfOk result (λ report. ended ≡ drive_end.NoMemory → ⊥)
-      → IfOk result (λ report. report.text ≡ transcript history (last_of ended))
-      → IfOk result (λ report. EndsAs disk start now workers recording report.status report.text)
-  ends_as base history ended (Ok report) run is some prints = run_ends base history ended report run is some prints
-  ends_as base history ended (Err why) run is some prints = tt
 
   -- what a run leaves whose text found no memory
   pub left_by_run : {T E : Type 0} (result : Result T E) (base : Kept) (history : List Entry) (ended : DriveEnd)
-      → Ended disk start now workers recording base history ended → OnErr result (IsLeftAfter disk start now workers recording)
+      → Ended disk start now recording base history ended → OnErr result (IsLeftAfter disk start now recording)
   left_by_run (Ok value) base history ended run = tt
   left_by_run (Err why) base history ended run = inr (base, history, ended, run)
 
@@ -83,12 +75,12 @@ refuses disk old new opened (error.Full from needed) report was unformatted bad 
     by_report (RefusesDisk disk old new) report _ is (refl, unopened)
 
 -- the report of a disk that was not opened
-pub refused : {T D E : Type 0} (disk : Ghosts D) (old new : D) (workers : ℕ) (recording : Recording) (opened : Result T OpenError) (why : OpenError) (result : Result Report E) → opened ≡ Err why
+pub refused : {T D E : Type 0} (disk : Ghosts D) (old new : D) (recording : Recording) (opened : Result T OpenError) (why : OpenError) (result : Result Report E) → opened ≡ Err why
     → (IsErrOf opened error.NotFormatted → IsQuiet disk old new × ForTold (disk.seen old) (λ image. stored image ≡ Unformatted))
     → ((offset : ℕ) → IsErrOf opened (error.BadJournal offset) → IsQuiet disk old new × ForTold (disk.seen old) (λ image. stored image ≡ Bad offset))
     → (IsErrOf opened error.DiskFault → Rose (disk.faults old) (disk.faults new))
     → IsUnopened disk old new
-    → IfOk result (λ report. IsReportOf why report) → IfOk result (λ report. ReplaysOn disk old new workers recording report.status report.text)
-refused disk old new workers recording opened why (Err none_left) was unformatted bad fault unopened is = tt
-refused disk old new workers recording opened why (Ok report) was unformatted bad fault unopened is =
+    → IfOk result (λ report. IsReportOf why report) → IfOk result (λ report. ReplaysOn disk old new recording report.status report.text)
+refused disk old new recording opened why (Err none_left) was unformatted bad fault unopened is = tt
+refused disk old new recording opened why (Ok report) was unformatted bad fault unopened is =
     inr (refuses disk old new opened why report was unformatted bad fault unopened is)

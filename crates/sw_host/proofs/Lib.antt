@@ -2,4 +2,3 @@ pub mod EndLemmas
 pub mod StandLemmas
 pub mod StoringLemmas
 pub mod TextLemmas
-pub mod WordLemmas

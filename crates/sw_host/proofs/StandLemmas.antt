@@ -1,4 +1,4 @@
--- A recording that was run has ended as its status says.
+-- Whatever stalled has run its recording.
 use Rattle.std.proofs.Common.{◌≡◌, inl, inr, ℕ, List, Option, Result, Ok, Err, refl, subst}
 use Rattle.sw_data.specs.declared.recordings.Recording.{Recording}
 use Rattle.sw_disk.specs.declared.disk.Disk.{Ghosts}
@@ -6,143 +6,49 @@ use Rattle.sw_host.specs.declared.command.Command.{Command}
 use Rattle.sw_host.specs.declared.command.Command.TheVariants as command
 use Rattle.sw_host.specs.declared.statuses.Status.{Status}
 use Rattle.sw_host.specs.declared.statuses.Status.TheVariants as status
-use Rattle.sw_host.specs.Stands.{Formats, HasEnded, IsRead, RefusedAs, RefusesDisk, ReplaysSource, ReportedAs, Shows, Stands, status_of}
-use Rattle.sw_turns.specs.declared.ends.DriveEnd.{DriveEnd}
-use Rattle.sw_turns.specs.declared.ends.DriveEnd.TheVariants as drive_end
+use Rattle.sw_host.specs.Stands.{HasEnded, IsRead, ReportedAs, Stands, status_of}
+use Rattle.sw_pool.specs.declared.ends.DriveEnd.{DriveEnd}
+use Rattle.sw_pool.specs.declared.ends.DriveEnd.TheVariants as drive_end
 use Rattle.sw_record.specs.declared.error.RecordingError.{RecordingError}
 use Rattle.sw_record.specs.declared.error.RecordingError.TheVariants as error
 use Rattle.sw_record.specs.Grammar.{recording_of}
 
--- own: statuses that of all recordings only those that were run have
-abbrev IsOfRun : Status → Type 0
-IsOfRun status.Done = Unit {0}
-IsOfRun status.Stalled = Unit {0}
-IsOfRun status.Spent = Unit {0}
-IsOfRun _ = ⊥
-
--- own: statuses that no other command has
-abbrev IsOfRunAlone : Status → Type 0
-IsOfRunAlone status.Stalled = Unit {0}
-IsOfRunAlone status.Spent = Unit {0}
-IsOfRunAlone _ = ⊥
-
 module _ {D : Type 0} (disk : Ghosts D) (old new : D) (left : Option (List ℕ)) (text : List ℕ) where
-  -- own: so many workers have run a recording to this status
-  abbrev HasRun : ℕ → Status → Type 0
-  HasRun workers outcome = (ended : DriveEnd) × (outcome ≡ status_of ended) × HasEnded disk old new workers left ended text
+  -- own: a recording was run until nothing might happen
+  abbrev HasStalled : Type 0
+  HasStalled = (lane : ℕ) × HasEnded disk old new left (drive_end.Stalled lane) text
 
-  unrefused : (outcome : Status) → IsOfRun outcome → RefusesDisk disk old new outcome text → ⊥
-  unrefused status.Done run refused = refused
-  unrefused status.Stalled run refused = refused
-  unrefused status.Spent run refused = refused
-  unrefused _ run refused = absurd run
+  stalled_by : (ended : DriveEnd) → status.Stalled ≡ status_of ended → HasEnded disk old new left ended text → HasStalled
+  stalled_by drive_end.Done is run = absurd cc
+  stalled_by (drive_end.Stalled lane) is run = (lane, run)
+  stalled_by (drive_end.DiskFault refused) is run = absurd cc
+  stalled_by (drive_end.Full happened from needed) is run = absurd cc
+  stalled_by drive_end.NoMemory is run = absurd cc
 
-  unread : (why : RecordingError) (outcome : Status) → IsOfRun outcome → RefusedAs why outcome text → ⊥
-  unread error.NoMemory outcome run refused = refused
-  unread (error.BadLine line cause) status.BadLine run refused = absurd run
-  unread (error.BadLine line cause) _ run refused = refused
-  unread (error.TooLarge line passed) status.TooLarge run refused = absurd run
-  unread (error.TooLarge line passed) _ run refused = refused
+  reported : (bytes : List ℕ) → IsRead left bytes → (what : Result Recording RecordingError) → recording_of bytes ≡ what → ReportedAs disk old new what status.Stalled text → HasStalled
+  reported bytes read (Ok recording) is (inl run) = stalled_by run.ended run.ends (record {
+    bytes = bytes;
+    recording = recording;
+    base = run.base;
+    history = run.history;
+    is_read = read;
+    is_recording = is;
+    run = run.run;
+    printed = run.printed;
+  })
+  reported bytes read (Ok recording) is (inr refused) = absurd refused
+  reported bytes read (Err error.NoMemory) is refused = absurd refused.0
+  reported bytes read (Err (error.BadLine line why)) is refused = absurd refused.0
+  reported bytes read (Err (error.TooLarge line passed)) is refused = absurd refused.0
 
-  reported : (workers : ℕ) (outcome : Status) → IsOfRun outcome → (bytes : List ℕ) → IsRead left bytes → (what : Result Recording RecordingError)
-      → recording_of bytes ≡ what → ReportedAs disk old new workers what outcome text → HasRun workers outcome
-  reported workers outcome of_run bytes read (Ok recording) is (inl run) = (
-    run.ended,
-    run.ends,
-    record {
-      bytes = bytes;
-      recording = recording;
-      base = run.base;
-      history = run.history;
-      is_read = read;
-      is_recording = is;
-      run = run.run;
-      printed = run.printed;
-    },
-  )
-  reported workers outcome of_run bytes read (Ok recording) is (inr refused) = absurd (unrefused outcome of_run refused)
-  reported workers outcome of_run bytes read (Err why) is refused = absurd (unread why outcome of_run refused.0)
+  stands : (before now : ℕ) (wanted : Command) → Stands disk old new left before now wanted status.Stalled text → HasStalled
+  stands before now command.Init is = absurd is
+  stands before now command.Replay (inl (bytes, read, is)) = reported bytes read (recording_of bytes) refl is
+  stands before now command.Replay (inr (inl is)) = absurd (cc (is.0))
+  stands before now command.Replay (inr (inr is)) = absurd (cc (is.0))
+  stands before now command.Show is = absurd is
+  stands before now command.Numbered is = absurd (cc (is.0))
+  stands before now command.Unknown is = absurd (cc (is.0))
 
-  replayed : (workers before now : ℕ) (outcome : Status) → IsOfRun outcome → ReplaysSource disk old new workers left before now outcome text → HasRun workers outcome
-  replayed workers before now outcome of_run (inl (bytes, read, is)) = reported workers outcome of_run bytes read (recording_of bytes) refl is
-  replayed workers before now outcome of_run (inr (inl is)) = absurd (subst IsOfRun is.0 of_run)
-  replayed workers before now outcome of_run (inr (inr is)) = absurd (subst IsOfRun is.0 of_run)
-
-  unformatted : (outcome : Status) → IsOfRunAlone outcome → Formats disk old new outcome text → ⊥
-  unformatted status.Stalled alone is = is
-  unformatted status.Spent alone is = is
-  unformatted _ alone is = absurd alone
-
-  unshown : (outcome : Status) → IsOfRunAlone outcome → Shows disk old new outcome text → ⊥
-  unshown status.Stalled alone is = is
-  unshown status.Spent alone is = is
-  unshown _ alone is = absurd alone
-
-  is_of_run : (outcome : Status) → IsOfRunAlone outcome → IsOfRun outcome
-  is_of_run status.Stalled alone = tt
-  is_of_run status.Spent alone = tt
-  is_of_run _ alone = absurd alone
-
-  -- own: words asked for a recording, and so many workers have run it to this status
-  abbrev HasReplayed : Command → Status → Type 0
-  HasReplayed wanted outcome = (workers : ℕ) × (wanted ≡ command.Replay workers) × HasRun workers outcome
-
-  asked : (before now : ℕ) (wanted : Command) (outcome : Status) → IsOfRunAlone outcome → Stands disk old new left before now wanted outcome text → HasReplayed wanted outcome
-  asked before now command.Init outcome alone is = absurd (unformatted outcome alone is)
-  asked before now (command.Replay workers) outcome alone is =
-      (workers, refl, replayed workers before now outcome (is_of_run outcome alone) is)
-  asked before now command.Show outcome alone is = absurd (unshown outcome alone is)
-  asked before now command.Numbered outcome alone is = absurd (subst IsOfRunAlone is.0 alone)
-  asked before now command.Unknown outcome alone is = absurd (subst IsOfRunAlone is.0 alone)
-
-  -- ---- each end
-
-  done_by : (workers : ℕ) (ended : DriveEnd) → status.Done ≡ status_of ended → HasEnded disk old new workers left ended text → HasEnded disk old new workers left drive_end.Done text
-  done_by workers drive_end.Done is run = run
-  done_by workers (drive_end.Stalled lane) is run = absurd cc
-  done_by workers (drive_end.DiskFault refused) is run = absurd cc
-  done_by workers (drive_end.Full happened from needed) is run = absurd cc
-  done_by workers drive_end.NoMemory is run = absurd cc
-  done_by workers drive_end.Spent is run = absurd cc
-
-  stalled_by : (workers : ℕ) (ended : DriveEnd) → status.Stalled ≡ status_of ended → HasEnded disk old new workers left ended text
-      → (lane : ℕ) × HasEnded disk old new workers left (drive_end.Stalled lane) text
-  stalled_by workers drive_end.Done is run = absurd cc
-  stalled_by workers (drive_end.Stalled lane) is run = (lane, run)
-  stalled_by workers (drive_end.DiskFault refused) is run = absurd cc
-  stalled_by workers (drive_end.Full happened from needed) is run = absurd cc
-  stalled_by workers drive_end.NoMemory is run = absurd cc
-  stalled_by workers drive_end.Spent is run = absurd cc
-
-  spent_by : (workers : ℕ) (ended : DriveEnd) → status.Spent ≡ status_of ended → HasEnded disk old new workers left ended text → HasEnded disk old new workers left drive_end.Spent text
-  spent_by workers drive_end.Done is run = absurd cc
-  spent_by workers (drive_end.Stalled lane) is run = absurd cc
-  spent_by workers (drive_end.DiskFault refused) is run = absurd cc
-  spent_by workers (drive_end.Full happened from needed) is run = absurd cc
-  spent_by workers drive_end.NoMemory is run = absurd cc
-  spent_by workers drive_end.Spent is run = run
-
-  -- what stands is that of this status
-  by_status : (before now : ℕ) (wanted : Command) (outcome known : Status) → outcome ≡ known
-      → Stands disk old new left before now wanted outcome text → Stands disk old new left before now wanted known text
-  by_status before now wanted outcome known is stood =
-      subst (λ (s : Status). Stands disk old new left before now wanted s text) is stood
-
-  pub has_done : (before now : ℕ) (wanted : Command) (outcome : Status) (workers : ℕ) → outcome ≡ status.Done → wanted ≡ command.Replay workers
-      → Stands disk old new left before now wanted outcome text → HasEnded disk old new workers left drive_end.Done text
-  has_done before now wanted outcome workers is wants stood =
-      let asked_for = subst (λ (c : Command). Stands disk old new left before now c status.Done text) wants (by_status before now wanted outcome status.Done is stood) in
-      let run = replayed workers before now status.Done tt asked_for in
-      done_by workers run.0 run.1 run.2
-
-  pub has_stalled : (before now : ℕ) (wanted : Command) (outcome : Status) → outcome ≡ status.Stalled → Stands disk old new left before now wanted outcome text
-      → (workers : ℕ) × (wanted ≡ command.Replay workers) × ((lane : ℕ) × HasEnded disk old new workers left (drive_end.Stalled lane) text)
-  has_stalled before now wanted outcome is stood =
-      let run = asked before now wanted status.Stalled tt (by_status before now wanted outcome status.Stalled is stood) in
-      (run.0, run.1, stalled_by run.0 run.2.0 run.2.1 run.2.2)
-
-  pub has_spent : (before now : ℕ) (wanted : Command) (outcome : Status) → outcome ≡ status.Spent → Stands disk old new left before now wanted outcome text
-      → (workers : ℕ) × (wanted ≡ command.Replay workers) × HasEnded disk old new workers left drive_end.Spent text
-  has_spent before now wanted outcome is stood =
-      let run = asked before now wanted status.Spent tt (by_status before now wanted outcome status.Spent is stood) in
-      (run.0, run.1, spent_by run.0 run.2.0 run.2.1 run.2.2)
+  pub has_stalled : (before now : ℕ) (wanted : Command) (outcome : Status) → outcome ≡ status.Stalled → Stands disk old new left before now wanted outcome text → HasStalled
+  has_stalled before now wanted outcome is stood = stands before now wanted (subst (λ (s : Status). Stands disk old new left before now wanted s text) is stood)

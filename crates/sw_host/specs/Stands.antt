@@ -21,9 +21,9 @@ use Rattle.sw_journal.specs.Format.{format_of}
 use Rattle.sw_journal.specs.Init.{first_bytes}
 use Rattle.sw_journal.specs.Quiet.{IsQuiet}
 use Rattle.sw_kept.specs.Stored.{Bad, HasKept, Unformatted, stored}
-use Rattle.sw_turns.specs.Ends.{Ended}
-use Rattle.sw_turns.specs.declared.ends.DriveEnd.{DriveEnd}
-use Rattle.sw_turns.specs.declared.ends.DriveEnd.TheVariants as drive_end
+use Rattle.sw_pool.specs.Ends.{Ended}
+use Rattle.sw_pool.specs.declared.ends.DriveEnd.{DriveEnd}
+use Rattle.sw_pool.specs.declared.ends.DriveEnd.TheVariants as drive_end
 use Rattle.sw_print.specs.Showing.{shown}
 use Rattle.sw_print.specs.Transcript.{transcript}
 use Rattle.sw_record.specs.declared.error.RecordingError.{RecordingError}
@@ -44,7 +44,6 @@ abbrev pub last_of : DriveEnd → End
 last_of (drive_end.Stalled lane) = end.Stalled lane
 last_of (drive_end.DiskFault refused) = end.Disk (map (λ entry. entry.event) refused.items)
 last_of (drive_end.Full happened from needed) = end.Full happened
-last_of drive_end.Spent = end.Spent
 last_of _ = end.Done
 
 -- the status of a run
@@ -54,16 +53,14 @@ status_of (drive_end.Stalled lane) = status.Stalled
 status_of (drive_end.DiskFault refused) = status.DiskFault
 status_of (drive_end.Full happened from needed) = status.Full
 status_of drive_end.NoMemory = status.NoMemory
-status_of drive_end.Spent = status.Spent
 
--- own: a recording is run by so many workers on a disk to this status, and the text is the transcript of its history: one that is
--- legal, follows the recording, and with one worker is the one that the pick order fixes, of which a crash at any moment leaves a
--- prefix
-pub record EndsAs {D : Type 0} (disk : Ghosts D) (old new : D) (workers : ℕ) (recording : Recording) (outcome : Status) (text : List ℕ) : Type 0 where
+-- own: a recording is run on a disk to this status, and the text is the transcript of its history: one that is legal, follows the
+-- recording, and is the one that the pick order fixes, of which a crash at any moment leaves a prefix
+pub record EndsAs {D : Type 0} (disk : Ghosts D) (old new : D) (recording : Recording) (outcome : Status) (text : List ℕ) : Type 0 where
   pub base : Kept
   pub history : List Entry
   pub ended : DriveEnd
-  pub run : Ended disk old new workers recording base history ended
+  pub run : Ended disk old new recording base history ended
   pub ends : outcome ≡ status_of ended
   pub some : outcome ≢ status.NoMemory
   pub printed : text ≡ transcript history (last_of ended)
@@ -91,10 +88,10 @@ IsReportOf open_error.NotFormatted report = report ≡ record { status = status.
 IsReportOf (open_error.BadJournal offset) report = report ≡ record { status = status.BadJournal; text = bad_journal_text offset }
 IsReportOf (open_error.Full from needed) report = report ≡ record { status = status.Full; text = refusal_text status.Full }
 
--- own: a recording is replayed by so many workers on a disk with this status and text: it is run, or the disk is refused
-abbrev pub ReplaysOn : {D : Type 0} → Ghosts D → (old new : D) → ℕ → Recording → Status → List ℕ → Type 0
-ReplaysOn disk old new workers recording outcome text =
-    EndsAs disk old new workers recording outcome text ⊎ RefusesDisk disk old new outcome text
+-- own: a recording is replayed on a disk with this status and text: it is run, or the disk is refused
+abbrev pub ReplaysOn : {D : Type 0} → Ghosts D → (old new : D) → Recording → Status → List ℕ → Type 0
+ReplaysOn disk old new recording outcome text =
+    EndsAs disk old new recording outcome text ⊎ RefusesDisk disk old new outcome text
 
 -- ---- bytes that were read
 
@@ -107,13 +104,13 @@ RefusedAs (error.TooLarge line passed) status.TooLarge text = text ≡ refusals.
 RefusedAs (error.TooLarge line passed) _ text = ⊥
 
 -- what was read is reported with this status and text; a disk on which no recording is run is left alone
-abbrev pub ReportedAs : {D : Type 0} → Ghosts D → (old new : D) → ℕ → Result Recording RecordingError → Status → List ℕ → Type 0
-ReportedAs disk old new workers (Ok recording) outcome text = ReplaysOn disk old new workers recording outcome text
-ReportedAs disk old new workers (Err why) outcome text = RefusedAs why outcome text × (new ≡ old)
+abbrev pub ReportedAs : {D : Type 0} → Ghosts D → (old new : D) → Result Recording RecordingError → Status → List ℕ → Type 0
+ReportedAs disk old new (Ok recording) outcome text = ReplaysOn disk old new recording outcome text
+ReportedAs disk old new (Err why) outcome text = RefusedAs why outcome text × (new ≡ old)
 
--- bytes are replayed by so many workers on a disk with this status and text
-abbrev pub Replays : {D : Type 0} → Ghosts D → (old new : D) → ℕ → List ℕ → Status → List ℕ → Type 0
-Replays disk old new workers bytes outcome text = ReportedAs disk old new workers (recording_of bytes) outcome text
+-- bytes are replayed on a disk with this status and text
+abbrev pub Replays : {D : Type 0} → Ghosts D → (old new : D) → List ℕ → Status → List ℕ → Type 0
+Replays disk old new bytes outcome text = ReportedAs disk old new (recording_of bytes) outcome text
 
 -- the source had these bytes left, no more than a recording may have
 pub record IsRead (left : Option (List ℕ)) (bytes : List ℕ) : Type 0 where
@@ -127,9 +124,9 @@ IsPastLimit left = (bytes : List ℕ) × Tells left bytes × (RECORDING_LIMIT < 
 -- ---- the commands
 
 -- own: a recording was read and reported; or it was not read, and its disk is left alone
-abbrev pub ReplaysSource : {D : Type 0} → Ghosts D → (old new : D) → ℕ → Option (List ℕ) → (before now : ℕ) → Status → List ℕ → Type 0
-ReplaysSource disk old new workers left before now outcome text =
-    ((bytes : List ℕ) × IsRead left bytes × Replays disk old new workers bytes outcome text)
+abbrev pub ReplaysSource : {D : Type 0} → Ghosts D → (old new : D) → Option (List ℕ) → (before now : ℕ) → Status → List ℕ → Type 0
+ReplaysSource disk old new left before now outcome text =
+    ((bytes : List ℕ) × IsRead left bytes × Replays disk old new bytes outcome text)
     ⊎ (((outcome ≡ status.ReadFault) × Rose before now × (text ≡ refusal_text status.ReadFault) × (new ≡ old))
     ⊎ ((outcome ≡ status.TooLarge) × IsPastLimit left × (text ≡ refusal_text status.TooLarge) × (new ≡ old)))
 
@@ -177,7 +174,6 @@ HasReadAll status.NotFormatted = Unit {0}
 HasReadAll status.BadJournal = Unit {0}
 HasReadAll status.Stalled = Unit {0}
 HasReadAll status.Full = Unit {0}
-HasReadAll status.Spent = Unit {0}
 HasReadAll _ = ⊥
 
 -- own: words of which nothing is done
@@ -188,40 +184,37 @@ IsNothing old new wanted outcome text = (outcome ≡ wanted) × (text ≡ refusa
 -- now, and the disk went from old to new
 abbrev pub Stands : {D : Type 0} → Ghosts D → (old new : D) → Option (List ℕ) → (before now : ℕ) → Command → Status → List ℕ → Type 0
 Stands disk old new left before now command.Init outcome text = Formats disk old new outcome text
-Stands disk old new left before now (command.Replay workers) outcome text =
-    ReplaysSource disk old new workers left before now outcome text
+Stands disk old new left before now command.Replay outcome text = ReplaysSource disk old new left before now outcome text
 Stands disk old new left before now command.Show outcome text = Shows disk old new outcome text
 Stands disk old new left before now command.Numbered outcome text = IsNothing old new status.NotYet outcome text
 Stands disk old new left before now command.Unknown outcome text = IsNothing old new status.BadWords outcome text
 
 -- own: where there was no memory, a recording has left a disk that was not opened to its end, or on which some run was made
-abbrev pub IsLeftAfter : {D : Type 0} → Ghosts D → (old new : D) → ℕ → Recording → Type 0
-IsLeftAfter disk old new workers recording =
-    IsUnopened disk old new
-    ⊎ ((base : Kept) × (history : List Entry) × (ended : DriveEnd) × Ended disk old new workers recording base history ended)
+abbrev pub IsLeftAfter : {D : Type 0} → Ghosts D → (old new : D) → Recording → Type 0
+IsLeftAfter disk old new recording =
+    IsUnopened disk old new ⊎ ((base : Kept) × (history : List Entry) × (ended : DriveEnd) × Ended disk old new recording base history ended)
 
 -- own: the same of bytes: the disk is left alone, or they are a recording
-abbrev pub LeavesAfterBytes : {D : Type 0} → Ghosts D → (old new : D) → ℕ → List ℕ → Type 0
-LeavesAfterBytes disk old new workers bytes =
-    (new ≡ old) ⊎ ((recording : Recording) × (recording_of bytes ≡ Ok recording) × IsLeftAfter disk old new workers recording)
+abbrev pub LeavesAfterBytes : {D : Type 0} → Ghosts D → (old new : D) → List ℕ → Type 0
+LeavesAfterBytes disk old new bytes =
+    (new ≡ old) ⊎ ((recording : Recording) × (recording_of bytes ≡ Ok recording) × IsLeftAfter disk old new recording)
 
 -- own: what is left of the disk where there was no memory
 abbrev pub LeavesWithoutMemory : {D : Type 0} → Ghosts D → (old new : D) → Option (List ℕ) → Command → Type 0
 LeavesWithoutMemory disk old new left command.Init = Unit {0}
-LeavesWithoutMemory disk old new left (command.Replay workers) =
-    (new ≡ old) ⊎ ((bytes : List ℕ) × IsRead left bytes × LeavesAfterBytes disk old new workers bytes)
+LeavesWithoutMemory disk old new left command.Replay =
+    (new ≡ old) ⊎ ((bytes : List ℕ) × IsRead left bytes × LeavesAfterBytes disk old new bytes)
 LeavesWithoutMemory disk old new left command.Show = IsQuiet disk old new
 LeavesWithoutMemory disk old new left command.Numbered = new ≡ old
 LeavesWithoutMemory disk old new left command.Unknown = new ≡ old
 
--- own: the source's bytes are a recording, which so many workers ran on the disk to this end, and the text is the transcript of its
--- history
-pub record HasEnded {D : Type 0} (disk : Ghosts D) (old new : D) (workers : ℕ) (left : Option (List ℕ)) (ended : DriveEnd) (text : List ℕ) : Type 0 where
+-- own: the source's bytes are a recording, which was run on the disk to this end, and the text is the transcript of its history
+pub record HasEnded {D : Type 0} (disk : Ghosts D) (old new : D) (left : Option (List ℕ)) (ended : DriveEnd) (text : List ℕ) : Type 0 where
   pub bytes : List ℕ
   pub recording : Recording
   pub base : Kept
   pub history : List Entry
   pub is_read : IsRead left bytes
   pub is_recording : recording_of bytes ≡ Ok recording
-  pub run : Ended disk old new workers recording base history ended
+  pub run : Ended disk old new recording base history ended
   pub printed : text ≡ transcript history (last_of ended)

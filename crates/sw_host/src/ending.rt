@@ -1,6 +1,6 @@
 //! The report of a recording that is run to its end.
 
-ghost use Rattle.std.specs.Prelude.{◌≡◌, ◌≢◌, ◌<◌, ◌≤◌, ◌^◌, map, IfOk, OnErr};
+ghost use Rattle.std.specs.Prelude.{◌≡◌, ◌≢◌, ◌^◌, map, IfOk, OnErr};
 ghost use Rattle.sw_host.specs.Stands.{EndsAs, IsLeftAfter, IsReportOf, ReplaysOn, last_of, status_of};
 ghost use Rattle.sw_print.specs.Transcript.{transcript};
 ghost use Rattle.sw_store.specs.Opened.{HasOpened, IsFresh};
@@ -9,16 +9,11 @@ use crate::report::{Report, bad_journal, refused};
 use crate::statuses::Status;
 use crate::storing::LIMIT;
 use std::alloc::Global;
-use std::snapshot::Snapshot;
-use std::sync::Wait;
-use std::thread::Threads;
 use sw_data::{End, Entry, Event, Items, NoMemory, Recording, Text};
 use sw_disk::Disk;
-use sw_net::Gate;
-use sw_pool::{Worked, work};
+use sw_pool::{DriveEnd, Yard};
 use sw_print::print_history;
 use sw_store::{OpenError, Store};
-use sw_turns::{DriveEnd, Progress};
 
 // The events of entries.
 fn events_of(alloc: Global, entries: Vec<Entry>) -> Result<Items<Event>, NoMemory>
@@ -42,7 +37,6 @@ fn last_of(alloc: Global, end: DriveEnd) -> Result<End, NoMemory>
         DriveEnd::DiskFault(entries) => Ok(End::Disk(events_of(alloc, entries)?)),
         DriveEnd::Full { event, .. } => Ok(End::Full(event)),
         DriveEnd::NoMemory => Err(NoMemory),
-        DriveEnd::Spent => Ok(End::Spent),
     }
 }
 
@@ -56,7 +50,6 @@ fn status_of(end: &DriveEnd) -> Status
         DriveEnd::DiskFault(_) => Status::DiskFault,
         DriveEnd::Full { .. } => Status::Full,
         DriveEnd::NoMemory => Status::NoMemory,
-        DriveEnd::Spent => Status::Spent,
     }
 }
 
@@ -71,50 +64,26 @@ fn text_of(alloc: Global, history: &[Entry], end: DriveEnd) -> Result<Text, NoMe
     text
 }
 
-// The report of a run.
-fn printed(alloc: Global, history: Vec<Entry>, end: DriveEnd) -> Result<Report, NoMemory>
-    ensures status { IfOk result (λ report. report.status ≡ status_of end) }
-    ensures some { IfOk result (λ report. end ≢ DriveEnd.NoMemory) }
-    ensures text { IfOk result (λ report. report.text ≡ transcript history.items (last_of end)) }
-{
-    let status = status_of(&end);
-    let text = text_of(alloc, &history, end)?;
-    Ok(Report { status, text })
-}
-
-// The report of a recording that is run on a disk that was opened, which was so at the start.
-fn run_on<R: Threads + Wait + Sync, D: Disk + Send, G: Gate + Sync>(
-    rt: &R,
+// The report of a recording that is run on a disk that was opened.
+fn run_on<D: Disk>(
     alloc: Global,
     store: Store,
     recording: Recording,
-    workers: u32,
-    start: Snapshot<D>,
-    disk: D,
-    gate: &G,
-) -> (Result<Report, NoMemory>, D)
-    requires some { 0 < workers }
-    requires few { workers ≤ 16 }
+    disk: &mut D,
+) -> Result<Report, NoMemory>
     requires fresh { IsFresh (2 ^ 32) store }
-    requires opened { HasOpened D.Disk start.value disk store }
-    ensures ends { IfOk result.0 (λ report.
-        EndsAs D.Disk start.value result.1 workers recording report.status report.text) }
-    ensures left { OnErr result.0 (IsLeftAfter D.Disk start.value result.1 workers recording) }
+    requires opened { (start : D) × HasOpened D.Disk start disk.old store }
+    ensures ends { (start : D) → HasOpened D.Disk start disk.old store
+        → IfOk result (λ report. EndsAs D.Disk start disk.new recording report.status report.text) }
+    ensures left { (start : D) → HasOpened D.Disk start disk.old store
+        → OnErr result (IsLeftAfter D.Disk start disk.new recording) }
 {
-    let known = Snapshot::of(&recording);
-    let base = Snapshot::of(store.base());
-    match Progress::new(alloc, store, recording, &disk, workers) {
-        Ok(progress) => {
-            let Worked {
-                disk,
-                progress,
-                end,
-            } = work(rt, alloc, disk, progress, workers, known, base, start, gate);
-            let history = progress.into_history();
-            (printed(alloc, history, end), disk)
-        }
-        Err(NoMemory) => (Err(NoMemory), disk),
-    }
+    let mut yard = Yard::new(alloc, store, recording, disk)?;
+    let end = yard.drive(alloc, disk);
+    let status = status_of(&end);
+    let history = yard.into_history();
+    let text = text_of(alloc, &history, end)?;
+    Ok(Report { status, text })
 }
 
 // The report of a disk that was not opened; the recording is let go here, where that costs the check little.
@@ -131,24 +100,18 @@ fn unopened(alloc: Global, recording: Recording, error: OpenError) -> Result<Rep
     }
 }
 
-/// The report of a recording that is run by so many workers on a disk.
-pub(crate) fn run_to_end<R: Threads + Wait + Sync, D: Disk + Send, G: Gate + Sync>(
-    rt: &R,
+/// The report of a recording that is run on a disk.
+pub(crate) fn run_to_end<D: Disk>(
     alloc: Global,
     recording: Recording,
-    workers: u32,
-    mut disk: D,
-    gate: &G,
-) -> (Result<Report, NoMemory>, D)
-    requires some { 0 < workers }
-    requires few { workers ≤ 16 }
-    ensures replays { IfOk result.0 (λ report.
-        ReplaysOn D.Disk disk result.1 workers recording report.status report.text) }
-    ensures left { OnErr result.0 (IsLeftAfter D.Disk disk result.1 workers recording) }
+    disk: &mut D,
+) -> Result<Report, NoMemory>
+    ensures replays { IfOk result (λ report.
+        ReplaysOn D.Disk disk.old disk.new recording report.status report.text) }
+    ensures left { OnErr result (IsLeftAfter D.Disk disk.old disk.new recording) }
 {
-    let start = Snapshot::of(&disk);
-    match Store::reopen(alloc, &mut disk, LIMIT) {
-        Ok(store) => run_on(rt, alloc, store, recording, workers, start, disk, gate),
-        Err(error) => (unopened(alloc, recording, error), disk),
+    match Store::reopen(alloc, disk, LIMIT) {
+        Ok(store) => run_on(alloc, store, recording, disk),
+        Err(error) => unopened(alloc, recording, error),
     }
 }

@@ -15,5 +15,3 @@ pub use top::{Outcome, run};
 mod crash_tests;
 #[cfg(test)]
 mod tests;
-#[cfg(test)]
-mod worker_tests;

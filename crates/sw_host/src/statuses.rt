@@ -32,8 +32,6 @@ pub enum Status {
     Full,
     /// The current part of the disk begins with the header of a format already.
     AlreadyFormatted,
-    /// A worker has made all the turns that a worker makes, and nothing else has ended the run.
-    Spent,
     /// The words aren't built yet.
     NotYet,
 }
@@ -57,13 +55,12 @@ impl Status {
             Status::TooLarge => 10,
             Status::Full => 11,
             Status::AlreadyFormatted => 12,
-            Status::Spent => 13,
             Status::NotYet => 14,
         }
     }
 
-    // The text that a refusal of its own prints. Done, Stalled and Spent print a transcript or the command's text,
-    // a bad line its number and cause, and a bad journal its offset; want of memory and a write fault print nothing.
+    // The text that a refusal of its own prints. Done and Stalled print a transcript or the command's text, a bad line
+    // its number and cause, and a bad journal its offset; want of memory and a write fault print nothing.
     pub(crate) fn refusal(self) -> &'static str
         ensures { result.now ≡ refusal_text self }
     {
@@ -81,8 +78,7 @@ impl Status {
             | Status::BadLine
             | Status::WriteFault
             | Status::BadJournal
-            | Status::Stalled
-            | Status::Spent => "",
+            | Status::Stalled => "",
         }
     }
 }

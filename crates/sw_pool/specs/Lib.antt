@@ -1,1 +1,6 @@
-pub mod Yards
+pub mod Ends
+pub mod Groups
+pub mod Machines
+pub mod Playing
+pub mod Settling
+pub mod Surviving

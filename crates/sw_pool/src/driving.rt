@@ -1,68 +1,37 @@
-//! A worker at work.
+//! A recording is worked on to its end.
 
-ghost use Rattle.std.specs.Prelude.{◌≡◌, ◌≢◌, ◌^◌};
-ghost use Rattle.sw_lock.specs.Passes.{IsPassOf, number, opened_of, seen, turns};
-ghost use Rattle.sw_pool.specs.Yards.{IsEndSeen};
-ghost use Rattle.sw_pool.specs.declared.ends.Brief.TheVariants as brief;
+ghost use Rattle.std.specs.Prelude.{◌≡◌, None};
+ghost use Rattle.sw_data.specs.declared.recordings.Recording.{Recording};
+ghost use Rattle.sw_data.specs.declared.storage.Kept.{Kept};
+ghost use Rattle.sw_pool.specs.Ends.{Ended};
+ghost use Rattle.sw_pool.specs.Groups.{IsUnderWay};
+ghost use Rattle.sw_pool.specs.Settling.{IsDriven};
+ghost use Rattle.sw_pool.specs.Surviving.{IsAtWork};
+ghost use Rattle.sw_store.specs.Stores.{IsQuiet};
 
-use crate::ends::{Brief, Nothing, Turned};
+use crate::ends::DriveEnd;
 use crate::yard::Yard;
-use std::sync::Wait;
-use std::thread::yield_now;
-use sw_data::Text;
+use std::alloc::Global;
 use sw_disk::Disk;
-use sw_lock::{Pass, Shared, Spent};
-use sw_net::Gate;
 
-// Passes the gate once for each of the fetches.
-fn pass_gate<G: Gate>(gate: &G, fetches: Vec<(Text, u32)>) {
-    for (address, number) in &fetches {
-        gate.pass(address, *number);
-    }
-    drop(fetches);
-}
-
-// How often an idle worker looks for entries of others before its next turn.
-const LOOKS: u32 = 1000;
-
-// Waits until other passes have made entries, for so many looks.
-fn rest<D: Disk>(lock: &Shared<Yard<D>>, pass: &mut Pass<Yard<D>>)
-    requires { IsPassOf lock.now pass.old }
-    ensures pass { IsPassOf lock.now pass.new }
-    ensures number { number pass.new ≡ number pass.old }
-{
-    let known = lock.look(pass);
-    for _ in 0..LOOKS {
-        yield_now();
-        if lock.look(pass) != known {
-            return;
+impl Yard {
+    /// Works on the recording to its end.
+    pub fn drive<D: Disk>(&mut self, alloc: Global, disk: &mut D) -> DriveEnd
+        requires driven { IsDriven D.Disk disk.old self.old.net self.old.history.items
+            self.old.lanes self.old.store None }
+        requires quiet { IsQuiet self.old.store }
+        ensures { (recording : Recording) (base : Kept) (start : D)
+            → recording.fetches ≡ self.old.net
+            → IsAtWork D.Disk start disk.old base self.old.history.items self.old.store
+            → IsUnderWay recording base self.old.history.items self.old.lanes self.old.store
+            → Ended D.Disk start disk.new recording base self.new.history.items result }
+    {
+        let mut held = None;
+        'turns: loop {
+            match self.turn(alloc, disk, held) {
+                Ok(next) => held = next,
+                Err(end) => return end,
+            }
         }
     }
-}
-
-/// Makes turns until the work has ended, or the pass has made 2^40 of them. What the pass takes up passes the gate before
-/// its next turn.
-pub fn drive<R: Wait, D: Disk, G: Gate>(
-    rt: &R,
-    lock: &Shared<Yard<D>>,
-    pass: &mut Pass<Yard<D>>,
-    gate: &G,
-) -> Brief
-    requires { IsPassOf lock.now pass.old }
-    ensures pass { IsPassOf lock.now pass.new }
-    ensures number { number pass.new ≡ number pass.old }
-    ensures spent { result ≡ brief.Spent → turns pass.new ≡ 2 ^ 40 }
-    ensures end { result ≢ brief.Spent
-        → IsEndSeen (opened_of lock.now).origin (seen pass.new) result }
-{
-    'turns: for _ in rt.forever() {
-        match lock.turn(rt, pass, Nothing) {
-            Ok(Turned::Entered) => {}
-            Ok(Turned::Fetch { task: _, fetches }) => pass_gate(gate, fetches),
-            Ok(Turned::Idle) => rest(lock, pass),
-            Ok(Turned::Ended(brief)) => return brief,
-            Err(Spent) => return Brief::Spent,
-        }
-    }
-    unreachable!()
 }

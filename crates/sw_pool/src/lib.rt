@@ -1,12 +1,16 @@
-//! Workers on one host: they take turns with it under a lock, and pass a gate with what they fetch outside of it.
+//! A host at work on a recording: what comes next happens, in groups whose changes are written before their entries are
+//! the history's.
 #![tactic(auto)]
 
+mod acting;
 mod driving;
 mod ends;
-mod working;
+mod fetching;
+mod filling;
+mod next;
+mod settling;
+mod turning;
 mod yard;
 
-pub use driving::drive;
-pub use ends::{Brief, Nothing, Turned};
-pub use working::{Worked, work};
+pub use ends::DriveEnd;
 pub use yard::Yard;

@@ -1,152 +1,116 @@
-//! The value that workers take turns with.
+//! A host, the lanes and the network of a recording, and what has happened.
 
-ghost use Rattle.std.specs.Prelude.{◌≡◌, ◌<◌, None, length};
-ghost use Rattle.sw_lock.specs.Entries.{ThenOwn};
-ghost use Rattle.sw_pool.specs.Yards.{HasStepped, Stands};
-ghost use Rattle.sw_turns.specs.Turns.{IsGoing};
+ghost use Rattle.std.specs.Prelude.{◌≡◌, ◌^◌, ◌∷◌, [], IfOk};
+ghost use Rattle.sw_lane.specs.Recorded.{AreLanesOf};
+ghost use Rattle.sw_pool.specs.Groups.{IsUnderWay};
+ghost use Rattle.sw_pool.specs.Playing.{opening_of};
+ghost use Rattle.sw_pool.specs.Surviving.{IsAtWork};
+ghost use Rattle.sw_store.specs.Opened.{HasOpened, IsFresh};
 
-use crate::ends::{Nothing, Turned, brief_of, shown};
 use std::alloc::Global;
-use std::marker::Model;
-use std::snapshot::Snapshot;
-use sw_data::{Entry, Kept, Recording};
+use sw_data::{Answer, Entry, Event, Items, Kept, NoMemory, Recording, Who};
 use sw_disk::Disk;
-use sw_lock::Logged;
-use sw_turns::{DriveEnd, Progress};
+use sw_lane::Lanes;
+use sw_net::Net;
+use sw_store::Store;
 
-/// A host at work on a recording, on its disk, and how the work has ended, if it has. Of the run it knows the recording, the
-/// content and the disk at the opening, in proofs alone.
-pub struct Yard<D: Disk> {
-    pub(crate) alloc: Global,
-    pub(crate) disk: D,
-    pub(crate) progress: Progress,
-    pub(crate) end: Option<DriveEnd>,
-    pub(crate) passes: u32,
-    pub(crate) recording: Snapshot<Recording>,
-    pub(crate) base: Snapshot<Kept>,
-    pub(crate) start: Snapshot<D>,
+/// A host at work on a recording. Its disk is handed to each call that needs it.
+#[derive(Drop)]
+pub struct Yard {
+    pub(crate) store: Store,
+    pub(crate) lanes: Lanes,
+    pub(crate) net: Net,
+    pub(crate) history: Vec<Entry>,
 }
 
-impl<D: Disk> Model for Yard<D> {
-    ghost use Rattle.sw_pool.specs.Yards.{IsYard, YardState, yard_of};
-
-    ghost Value = { YardState D };
-
-    ghost view = { λ yard.
-        yard_of yard.passes yard.recording.value yard.base.value yard.start.value yard.disk yard.progress yard.end };
-
-    ghost invariant = { λ yard. IsYard D.Disk
-        (yard_of yard.passes yard.recording.value yard.base.value yard.start.value yard.disk yard.progress yard.end) };
+// The entry of the restart from a content, acknowledged at this clock.
+fn opening(alloc: Global, base: &Kept, clock: u64) -> Result<Entry, NoMemory>
+    ensures { IfOk result (λ entry. entry ≡ opening_of base.now clock) }
+{
+    let Ok(registrations) = u32::try_from(base.registrations.as_slice().len()) else {
+        return Err(NoMemory);
+    };
+    let Ok(caches) = u32::try_from(base.caches.as_slice().len()) else {
+        return Err(NoMemory);
+    };
+    Ok(Entry {
+        pass: 0,
+        who: Who::Host,
+        event: Event::Restarted { who: Who::Host },
+        answer: Answer::Restarted {
+            registrations,
+            caches,
+        },
+        notices: Items::new(alloc),
+        stamp: clock,
+    })
 }
 
-impl<D: Disk> Yard<D> {
-    /// A host at whose work a recording is under way.
-    pub(crate) fn new(
+// The history of the restart from a content.
+fn begun(alloc: Global, base: &Kept, clock: u64) -> Result<Vec<Entry>, NoMemory>
+    ensures { IfOk result (λ history. history.items ≡ opening_of base.now clock ∷ []) }
+{
+    let mut history = Vec::new(alloc);
+    history.push(opening(alloc, base, clock)?)?;
+    Ok(history)
+}
+
+// The lanes and the network of a recording, and the history of the restart.
+fn set_out(
+    alloc: Global,
+    recording: Recording,
+    base: &Kept,
+    clock: u64,
+) -> Result<(Lanes, Net, Vec<Entry>), NoMemory>
+    ensures lanes { IfOk result (λ made. AreLanesOf recording [] made.0) }
+    ensures net { IfOk result (λ made. made.1 ≡ recording.fetches) }
+    ensures history { IfOk result (λ made. made.2.items ≡ opening_of base.now clock ∷ []) }
+{
+    let net = Net::new(alloc, recording.fetches)?;
+    let lanes = Lanes::new(alloc, recording.lanes)?;
+    let history = begun(alloc, base, clock)?;
+    Ok((lanes, net, history))
+}
+
+// A host for whose work there is no memory. A store that a larger function would drop itself at an early end costs the
+// check minutes.
+fn unmade(store: Store) -> NoMemory {
+    drop(store);
+    NoMemory
+}
+
+impl Yard {
+    /// A host that was just opened, and a recording of which nothing has happened.
+    pub fn new<D: Disk>(
         alloc: Global,
-        disk: D,
-        progress: Progress,
-        passes: u32,
-        recording: Snapshot<Recording>,
-        base: Snapshot<Kept>,
-        start: Snapshot<D>,
-    ) -> Yard<D>
-        requires passes { length progress.flights.items ≡ passes }
-        requires going { IsGoing D.Disk start.value disk recording.value base.value progress }
-        ensures origin { result.origin ≡ record {
-          passes = passes;
-          recording = recording.value;
-          base = base.value;
-          start = start.value;
-        } }
-        ensures disk { result.disk ≡ disk }
-        ensures progress { result.progress ≡ progress }
-        ensures end { result.end ≡ None }
+        store: Store,
+        recording: Recording,
+        disk: &D,
+    ) -> Result<Yard, NoMemory>
+        requires { IsFresh (2 ^ 32) store }
+        ensures net { IfOk result (λ yard. yard.net ≡ recording.fetches) }
+        ensures store { IfOk result (λ yard. yard.store ≡ store) }
+        ensures under_way { IfOk result (λ yard.
+            IsUnderWay recording store.base yard.history.items yard.lanes yard.store) }
+        ensures at_work { IfOk result (λ yard. (start : D)
+            → HasOpened D.Disk start disk.now store
+            → IsAtWork D.Disk start disk.now store.base yard.history.items yard.store) }
     {
-        Yard {
-            alloc,
-            disk,
-            progress,
-            end: None,
-            passes,
-            recording,
-            base,
-            start,
+        match set_out(alloc, recording, store.base(), disk.clock()) {
+            Ok((lanes, net, history)) => Ok(Yard {
+                store,
+                lanes,
+                net,
+                history,
+            }),
+            Err(NoMemory) => Err(unmade(store)),
         }
     }
 
-    /// The disk, what has happened, and how the work has ended, if it has. It takes no memory.
-    pub(crate) fn into_parts(self) -> (D, Progress, Option<DriveEnd>)
-        ensures disk { result.0 ≡ self.disk }
-        ensures progress { result.1 ≡ self.progress }
-        ensures end { result.2 ≡ self.end }
-        ensures stands { Stands D.Disk result.0 self.origin result.1 result.2 }
-        ensures passes { length result.1.flights.items ≡ self.origin.passes }
+    /// What has happened.
+    pub fn into_history(self) -> Vec<Entry>
+        ensures { result.items ≡ self.history.items }
     {
-        let Yard {
-            alloc: _,
-            disk,
-            progress,
-            end,
-            passes: _,
-            recording,
-            base,
-            start,
-        } = self;
-        drop(recording);
-        drop(base);
-        drop(start);
-        (disk, progress, end)
-    }
-
-    // A turn of a pass while the work has not ended.
-    fn turn(&mut self, pass: u32) -> Turned
-        requires pass { pass < self.old.origin.passes }
-        requires going { self.old.end ≡ None }
-        ensures origin { self.new.origin ≡ self.old.origin }
-        ensures log { ThenOwn (λ entry. entry.pass) pass self.old.progress.history.items
-            self.new.progress.history.items }
-        ensures stepped { HasStepped self.old pass self.new result }
-    {
-        match self.progress.turn(self.alloc, &mut self.disk, pass) {
-            Ok(turn) => shown(turn),
-            Err(end) => {
-                let brief = brief_of(&end);
-                self.end = Some(end);
-                Turned::Ended(brief)
-            }
-        }
-    }
-}
-
-impl<D: Disk> Logged for Yard<D> {
-    ghost use Rattle.sw_pool.specs.Yards.{HasStepped, Origin};
-
-    type Entry = Entry;
-
-    type Given = Nothing;
-
-    type Out = Turned;
-
-    ghost Base = { Origin D };
-
-    ghost base = { λ yard. yard.origin };
-
-    ghost passes = { λ origin. origin.passes };
-
-    ghost log = { λ yard. yard.progress.history.items };
-
-    ghost maker = { λ entry. entry.pass };
-
-    ghost steps = { λ before given pass after answer. HasStepped before pass after answer };
-
-    fn step(&mut self, _given: Nothing, pass: u32) -> Turned {
-        match &self.end {
-            Some(end) => Turned::Ended(brief_of(end)),
-            None => self.turn(pass),
-        }
-    }
-
-    fn entries(&self) -> u64 {
-        self.progress.history().len() as u64
+        self.history
     }
 }
