@@ -6,6 +6,9 @@ use crate::logged::Logged;
 use crate::view::View;
 use atomic_table::Seat;
 
+// A pass makes no more turns than these.
+pub(crate) const MOST_TURNS: u64 = 1 << 40;
+
 /// The right to make turns, for one thread at a time. It knows what of the history it has seen.
 pub struct Pass<T: Logged> {
     pub(crate) seat: Seat<Option<T>, View<T, T::Entry>>,
@@ -18,6 +21,16 @@ pub struct Pass<T: Logged> {
 }
 
 impl<T: Logged> Pass<T> {
+    ghost use Rattle.std.specs.Prelude.{◌==◌};
+    ghost use Rattle.sw_lock.specs.Passes.{turns};
+
+    /// Whether the pass has made all the turns that a pass makes.
+    pub fn is_spent(&self) -> bool
+        ensures { result ≡ (turns self.now == 2 ^ 40) }
+    {
+        self.turns >= MOST_TURNS
+    }
+
     pub(crate) fn into_seat(self) -> Seat<Option<T>, View<T, T::Entry>>
         ensures { result ≡ self.seat }
     {

@@ -7,7 +7,7 @@ ghost use Rattle.sw_lock.specs.Passes.{number, seen, known, turns, opened_of, Is
 
 use crate::lock::{Shared, Spent};
 use crate::logged::Logged;
-use crate::pass::Pass;
+use crate::pass::{MOST_TURNS, Pass};
 use crate::rule::{Count, Draw, Look, PassOn, See};
 use crate::view::View;
 use atomic_table::Seat;
@@ -21,9 +21,6 @@ const ENTRIES: usize = 0;
 const NEXT: usize = 1;
 
 const SERVED: usize = 2;
-
-// A pass makes no more turns than these.
-const MOST_TURNS: u64 = 1 << 40;
 
 // Looks at the served word before a waiting thread begins to yield, and before it parks.
 const SPINS: u32 = 64;

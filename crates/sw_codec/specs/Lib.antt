@@ -1,4 +1,0 @@
-pub mod Laws
-pub mod Outcome
-pub mod Reading
-pub mod Spelling

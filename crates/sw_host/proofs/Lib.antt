@@ -1,4 +1,0 @@
-pub mod EndLemmas
-pub mod StandLemmas
-pub mod StoringLemmas
-pub mod TextLemmas

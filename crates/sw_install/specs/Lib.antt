@@ -1,4 +1,0 @@
-pub mod Answers
-pub mod Underway
-pub mod Fetches
-pub mod Runs

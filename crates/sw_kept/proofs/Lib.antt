@@ -1,4 +1,0 @@
-pub mod Appended
-pub mod Checkpoints
-pub mod Contents
-pub mod Opened

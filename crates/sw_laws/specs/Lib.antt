@@ -1,3 +1,0 @@
-pub mod Coherent
-pub mod Laws
-pub mod Naming

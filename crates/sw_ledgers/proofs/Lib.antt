@@ -1,5 +1,0 @@
-pub mod Drawing
-pub mod Results
-pub mod Promising
-pub mod Tasking
-pub mod Preloading

@@ -1,4 +1,0 @@
-pub mod Drawn
-pub mod Promised
-pub mod Tasks
-pub mod Preloaded

@@ -1,2 +1,0 @@
-pub mod VaryLemmas
-pub mod ValueLemmas

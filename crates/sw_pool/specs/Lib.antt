@@ -1,6 +1,0 @@
-pub mod Ends
-pub mod Groups
-pub mod Machines
-pub mod Playing
-pub mod Settling
-pub mod Surviving

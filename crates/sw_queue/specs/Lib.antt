@@ -1,4 +1,0 @@
-pub mod Lines
-pub mod Kept
-pub mod Tables
-pub mod Ready

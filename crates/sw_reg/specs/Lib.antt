@@ -1,4 +1,0 @@
-pub mod Table
-pub mod Edits
-pub mod Fits
-pub mod Kept

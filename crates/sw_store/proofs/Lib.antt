@@ -1,4 +1,0 @@
-pub mod Appends
-pub mod Happened
-pub mod Reopening
-pub mod Spelled

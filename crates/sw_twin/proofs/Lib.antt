@@ -1,6 +1,0 @@
-mod Adding
-mod Changing
-mod Checkpoints
-mod Leading
-mod Spelling
-mod Standing

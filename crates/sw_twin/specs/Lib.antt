@@ -1,4 +1,0 @@
-pub mod Current
-pub mod Going
-pub mod Init
-pub mod Twin

@@ -1,3 +1,0 @@
-pub mod AgainLemmas
-pub mod KeyLemmas
-pub mod ResolvedLemmas
