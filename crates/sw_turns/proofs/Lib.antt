@@ -1,0 +1,12 @@
+pub mod BeginLemmas
+pub mod ChangeLemmas
+pub mod EndLemmas
+pub mod FetchLemmas
+pub mod FlightLemmas
+pub mod GroupLemmas
+pub mod NextLemmas
+pub mod PaceLemmas
+pub mod ReadyLemmas
+pub mod SettleLemmas
+pub mod SurvivalLemmas
+pub mod TurnLemmas

@@ -1,0 +1,138 @@
+-- A group begins with the event of the fetch that the pass has taken up, where it has.
+use Rattle.std.proofs.Common.{◌≡◌, ◌∙◌, inr, ℕ, zero, suc, List, [], ◌∷◌, length, Option, Some, None, slice_get, slice_set, refl, sym, ap, subst, arith}
+use Rattle.std.proofs.lemmas.List.{length-set}
+use Rattle.std.specs.Option.{IfSome}
+use Rattle.sw_core.specs.Hosted.{Hosted, state_of}
+use Rattle.sw_data.specs.declared.events.Event.{Event}
+use Rattle.sw_data.specs.declared.histories.Entry.{Entry}
+use Rattle.sw_data.specs.declared.histories.Task.{Task}
+use Rattle.sw_lane.specs.Picked.{in_flight, picked}
+use Rattle.sw_lane.specs.declared.picks.Pick.TheVariants as pick
+use Rattle.sw_lock.specs.Entries.{ThenOwn}
+use Rattle.sw_turns.specs.Flights.{Flies, Spares}
+use Rattle.sw_turns.specs.Groups.{IsTaken, IsUnderWay, Stops}
+use Rattle.sw_turns.specs.Machines.{IsEventOf}
+use Rattle.sw_turns.specs.Playing.{ComesNext}
+use Rattle.sw_turns.specs.declared.ends.Stop.{Stop}
+use Rattle.sw_turns.specs.declared.ends.Stop.TheVariants as stop
+use Rattle.sw_turns.proofs.FlightLemmas.{free_due, set_else, set_there}
+use Rattle.sw_turns.proofs.GroupLemmas.{first_waits, further_own, taken_up}
+use Rattle.sw_turns.proofs.filling.begin.Goals as goal
+
+-- what stays where a pass lays down what it has taken up
+same_else : (old middle new : List (Option Task)) (pass other : ℕ) → (middle ≡ slice_set old pass None) × (new ≡ middle) → (other ≡ pass → ⊥) → slice_get new other ≡ slice_get old other
+same_else old middle new pass other is apart =
+    ap (λ (all : List (Option Task)). slice_get all other) (is.1 ∙ is.0) ∙ set_else old pass other None apart
+
+-- what a pass lays down and takes up leaves the others alone
+others_stay : (old middle new : List (Option Task)) (pass other : ℕ) (stopped : Stop) → middle ≡ slice_set old pass None → IsTaken pass middle new stopped → (other ≡ pass → ⊥)
+    → slice_get new other ≡ slice_get old other
+others_stay old middle new pass other (stop.Fetch flown fetches) landed taken apart =
+    ap (λ (all : List (Option Task)). slice_get all other) taken ∙ set_else middle pass other (Some flown) apart
+    ∙ ap (λ (all : List (Option Task)). slice_get all other) landed ∙ set_else old pass other None apart
+others_stay old middle new pass other stop.Whole landed taken apart = same_else old middle new pass other (landed, taken) apart
+others_stay old middle new pass other (stop.NoRoom happened) landed taken apart = same_else old middle new pass other (landed, taken) apart
+others_stay old middle new pass other stop.Idle landed taken apart = same_else old middle new pass other (landed, taken) apart
+others_stay old middle new pass other stop.Done landed taken apart = same_else old middle new pass other (landed, taken) apart
+others_stay old middle new pass other (stop.Stalled lane) landed taken apart = same_else old middle new pass other (landed, taken) apart
+others_stay old middle new pass other (stop.Full happened from needed) landed taken apart = same_else old middle new pass other (landed, taken) apart
+others_stay old middle new pass other stop.NoMemory landed taken apart = same_else old middle new pass other (landed, taken) apart
+
+-- a place that gets what it has
+set_again : {X : Type 0} (xs : List X) (i : ℕ) (x : X) → slice_get xs i ≡ Some x → slice_set xs i x ≡ xs
+set_again [] i x is = refl
+set_again (y ∷ ys) zero x is = let same : y ≡ x = cc in ap (λ (z : _). z ∷ ys) (sym same)
+set_again (y ∷ ys) (suc i) x is = ap (λ (zs : List _). y ∷ zs) (set_again ys i x is)
+
+got : {X : Type 0} (o : Option X) (x : X) (P : X → Type 0) → o ≡ Some x → IfSome o P → P x
+got o x P is holds = subst (λ (one : Option _). IfSome one P) is holds
+
+none_of_them : {X : Type 0} (xs : List X) → length xs ≡ 0 → xs ≡ []
+none_of_them [] is = refl
+none_of_them (x ∷ xs) is = absurd cc
+
+-- ---- with the event of the fetch
+
+pub returns-in-Ok-clause-goes_on : goal.returns-in-Ok-clause-goes_on
+returns-in-Ok-clause-goes_on c = λ recording base history same goes.
+    let before : List (Option Task) = c.args.flights.now in
+    let len : length c.landing.new.flights ≡ length before = ap length c.in-Ok-Some.ensures.landed ∙ length-set before c.args.pass None in
+    subst (λ (workers : ℕ). Stops workers recording base history c.fill.new.lanes c.fill.new.flights c.fill.new.store c.fill.result) len
+    (c.fill.ensures.goes_on recording base history same
+    (subst (λ (workers : ℕ). IsUnderWay workers recording base history c.args.lanes.now c.enter.new.store) (sym len)
+    (c.in-Ok.ensures.goes_on (length before) recording base history c.args.lanes.now c.landing.new.flights c.requires.pass
+    (taken_up (length before) c.args.net.now c.args.lanes.now c.args.lanes.now c.args.store.now c.in-Ok-Some.event
+    (subst (λ (host : Hosted). ComesNext (length before) c.args.net.now c.args.lanes.now c.args.lanes.now (state_of host) c.in-Ok-Some.event) c.core.ensures
+    (got c.in-Ok-Some.field-0 c.in-Ok-Some.event (ComesNext (length before) c.args.net.now c.args.lanes.now c.args.lanes.now (state_of c.core.result.now)) c.in-Ok-Some.field-0-is c.in-Ok-Some.ensures.next))
+    recording base history same goes))))
+
+pub returns-in-Ok-clause-others : goal.returns-in-Ok-clause-others
+returns-in-Ok-clause-others c = λ other apart.
+    others_stay c.args.flights.now c.landing.new.flights c.fill.new.flights c.args.pass other c.fill.result c.in-Ok-Some.ensures.landed c.fill.ensures.taken apart
+
+pub returns-in-Ok-clause-own : goal.returns-in-Ok-clause-own
+returns-in-Ok-clause-own c =
+    subst (λ (none : List Entry). ThenOwn (λ (entry : Entry). entry.pass) c.args.pass none c.fill.new.store.staged) c.requires.none
+    (further_own c.args.pass c.args.store.now.staged c.enter.new.store.staged c.fill.new.store.staged c.in-Ok.ensures.own c.fill.ensures.own)
+
+pub returns-in-Ok-clause-first : goal.returns-in-Ok-clause-first
+returns-in-Ok-clause-first c = λ flown flies.
+    let first = c.in-Ok.ensures.entry in
+    let gives = subst (λ (host : Hosted). IsEventOf c.args.net.now (state_of host) flown c.in-Ok-Some.event) c.core.ensures (got c.in-Ok-Some.field-0 c.in-Ok-Some.event (λ (event : Event). (flown : Task) → Flies c.args.flights.now c.args.pass flown → IsEventOf c.args.net.now (state_of c.core.result.now) flown event)
+    c.in-Ok-Some.field-0-is c.in-Ok-Some.ensures.event flown flies) in
+    inr (
+      first.0,
+      first_waits c.args.pass c.args.store.now.staged c.enter.new.store.staged c.fill.new.store.staged first.0 c.requires.none first.2 c.fill.ensures.own,
+      subst (λ (happened : Event). IsEventOf c.args.net.now (state_of c.args.store.now.core) flown happened) (sym first.1) gives,
+    )
+
+-- ---- that event was refused
+
+pub returns-in-Err-enter-clause-goes_on : goal.returns-in-Err-enter-clause-goes_on
+returns-in-Err-enter-clause-goes_on c = λ recording base history same goes.
+    let before : List (Option Task) = c.args.flights.now in
+    c.in-Err-enter.ensures.goes_on (length before) recording base history c.args.lanes.now c.landing.new.flights c.requires.pass
+    (taken_up (length before) c.args.net.now c.args.lanes.now c.args.lanes.now c.args.store.now c.in-Ok-Some.event
+    (subst (λ (host : Hosted). ComesNext (length before) c.args.net.now c.args.lanes.now c.args.lanes.now (state_of host) c.in-Ok-Some.event) c.core.ensures
+    (got c.in-Ok-Some.field-0 c.in-Ok-Some.event (ComesNext (length before) c.args.net.now c.args.lanes.now c.args.lanes.now (state_of c.core.result.now)) c.in-Ok-Some.field-0-is c.in-Ok-Some.ensures.next))
+    recording base history same goes)
+
+pub returns-in-Err-enter-clause-due : goal.returns-in-Err-enter-clause-due
+returns-in-Err-enter-clause-due c =
+    free_due (state_of c.enter.new.store.core) c.args.lanes.now c.landing.new.flights c.args.pass
+    (ap (λ (all : List (Option Task)). slice_get all c.args.pass) c.in-Ok-Some.ensures.landed ∙ set_there c.args.flights.now c.args.pass None c.requires.pass)
+
+pub returns-in-Err-enter-clause-others : goal.returns-in-Err-enter-clause-others
+returns-in-Err-enter-clause-others c = λ other apart.
+    same_else c.args.flights.now c.landing.new.flights c.landing.new.flights c.args.pass other (c.in-Ok-Some.ensures.landed, refl) apart
+
+pub returns-in-Err-enter-clause-leaves : goal.returns-in-Err-enter-clause-leaves
+returns-in-Err-enter-clause-leaves c =
+    c.in-Err-enter.ensures.leaves (state_of c.enter.new.store.core) c.landing.new.flights
+    (ap (λ (all : List (Option Task)). slice_get all c.args.pass) c.in-Ok-Some.ensures.landed ∙ set_there c.args.flights.now c.args.pass None c.requires.pass)
+    (got c.in-Ok-Some.field-0 c.in-Ok-Some.event (λ (event : Event). Spares event c.landing.new.flights) c.in-Ok-Some.field-0-is c.in-Ok-Some.ensures.spares)
+
+-- ---- without one
+
+pub returns-in-Ok-None-clause-goes_on : goal.returns-in-Ok-None-clause-goes_on
+returns-in-Ok-None-clause-goes_on c = λ recording base history same goes.
+    let before : List (Option Task) = c.args.flights.now in
+    let len : length c.landing.new.flights ≡ length before = ap length c.in-Ok-None.ensures.landed ∙ length-set before c.args.pass None in
+    subst (λ (workers : ℕ). Stops workers recording base history c.fill-in-Ok-None.new.lanes c.fill-in-Ok-None.new.flights c.fill-in-Ok-None.new.store c.fill-in-Ok-None.result) len
+    (c.fill-in-Ok-None.ensures.goes_on recording base history same
+    (subst (λ (workers : ℕ). IsUnderWay workers recording base history c.args.lanes.now c.args.store.now) (sym len) goes))
+
+pub returns-in-Ok-None-clause-others : goal.returns-in-Ok-None-clause-others
+returns-in-Ok-None-clause-others c = λ other apart.
+    others_stay c.args.flights.now c.landing.new.flights c.fill-in-Ok-None.new.flights c.args.pass other c.fill-in-Ok-None.result
+    c.in-Ok-None.ensures.landed c.fill-in-Ok-None.ensures.taken apart
+
+pub returns-in-Ok-None-clause-idle : goal.returns-in-Ok-None-clause-idle
+returns-in-Ok-None-clause-idle c =
+    let free : slice_get c.args.flights.now c.args.pass ≡ Some None = c.in-Ok-None.ensures.none.0 c.in-Ok-None.field-0-is in
+    let same : c.landing.new.flights ≡ c.args.flights.now = c.in-Ok-None.ensures.landed ∙ set_again c.args.flights.now c.args.pass None free in
+    let IsIdle : List (Option Task) → Type 0 = λ flights. picked (state_of c.args.store.now.core) (in_flight flights) c.args.lanes.now ≡ pick.Idle in (
+      λ both. (free, subst IsIdle same (c.fill-in-Ok-None.ensures.idle both.0 (ap length both.1 ∙ sym (ap length c.requires.none)))),
+      λ both. (let at = c.fill-in-Ok-None.ensures.at_once (omega (arith, ap length c.requires.none)) (subst IsIdle (sym same) both.1) in
+          (at.0, none_of_them c.fill-in-Ok-None.new.store.staged (at.1 ∙ ap length c.requires.none))),
+    )

@@ -1,0 +1,117 @@
+-- What waits grows by what is picked, until none may join.
+use Rattle.std.proofs.Common.{◌≡◌, ◌∙◌, ℕ, List, length, Option, sym, ap, subst, arith, slice_get}
+use Rattle.sw_core.specs.Hosted.{state_of}
+use Rattle.sw_data.specs.declared.histories.Task.{Task}
+use Rattle.sw_lane.specs.Picked.{in_flight}
+use Rattle.sw_lane.specs.declared.picks.Pick.TheVariants as pick
+use Rattle.sw_turns.specs.Groups.{IsByPick, IsTaken, IsUnderWay, Stops}
+use Rattle.sw_turns.proofs.FlightLemmas.{free_due}
+use Rattle.sw_turns.proofs.GroupLemmas.{further_own, picked_by, same_twins}
+use Rattle.sw_turns.proofs.filling.fill.Goals as goal
+
+pub take_up-requires-clause-free : goal.take_up-requires-clause-free
+take_up-requires-clause-free c = ap (λ (all : List (Option Task)). slice_get all c.args.pass) c.events.invariant.same ∙ c.requires.free
+
+pub take_up-requires-clause-picked : goal.take_up-requires-clause-picked
+take_up-requires-clause-picked c =
+    picked_by c.core.result.now c.events.store.core (in_flight c.events.flights) c.events.lanes (pick.Work c.in-Work.picked) c.core.ensures c.in-Work.ensures
+
+pub events-preserved : goal.events-preserved
+events-preserved c =
+    let was = c.events.invariant in
+    let joined = c.in-Ok.ensures in
+    record {
+      sound = joined.coherent;
+      same = joined.ok ∙ was.same;
+      flying = joined.flights;
+      since = joined.since;
+      few = omega (arith, joined.more, c.waiting.ensures, c.if-waiting-ge-SIXTEEN.false);
+      more = omega (arith, joined.more, was.more);
+      still = λ same. absurd (omega (arith, same, joined.more, was.more));
+      idle = λ is.
+          let now : pick.Work c.in-Work.picked ≡ pick.Idle =
+          sym (picked_by c.core.result.now c.events.store.core (in_flight c.events.flights) c.events.lanes (pick.Work c.in-Work.picked) c.core.ensures c.in-Work.ensures)
+          ∙ was.still (was.idle is) ∙ is in
+          absurd cc;
+      twin = same_twins c.args.store.now.twin c.events.store.twin c.take_up.new.store.twin was.twin joined.twin;
+      own = further_own c.args.pass c.args.store.now.staged c.events.store.staged c.take_up.new.store.staged was.own joined.own;
+      goes_on = λ recording base history same goes.
+          subst (λ (workers : ℕ). IsUnderWay workers recording base history c.take_up.new.lanes c.take_up.new.store) (ap length was.same)
+          (joined.goes_on recording base history same
+          (subst (λ (workers : ℕ). IsUnderWay workers recording base history c.events.lanes c.events.store) (sym (ap length was.same)) (was.goes_on recording base history same goes)));
+    }
+
+-- ---- the pick takes up something, or stops the group
+
+pub returns-in-Err-clause-goes_on : goal.returns-in-Err-clause-goes_on
+returns-in-Err-clause-goes_on c = λ recording base history same goes.
+    let alike : length c.events.flights ≡ length c.args.flights.now = ap length c.events.invariant.same in
+    subst (λ (workers : ℕ). Stops workers recording base history c.take_up.new.lanes c.take_up.new.flights c.take_up.new.store c.in-Err.stop) alike
+    (c.in-Err.ensures.goes_on recording base history same
+    (subst (λ (workers : ℕ). IsUnderWay workers recording base history c.events.lanes c.events.store) (sym alike) (c.events.invariant.goes_on recording base history same goes)))
+
+pub returns-in-Err-clause-twin : goal.returns-in-Err-clause-twin
+returns-in-Err-clause-twin c = same_twins c.args.store.now.twin c.events.store.twin c.take_up.new.store.twin c.events.invariant.twin c.in-Err.ensures.twin
+
+pub returns-in-Err-clause-own : goal.returns-in-Err-clause-own
+returns-in-Err-clause-own c = further_own c.args.pass c.args.store.now.staged c.events.store.staged c.take_up.new.store.staged c.events.invariant.own c.in-Err.ensures.own
+
+pub returns-in-Err-clause-taken : goal.returns-in-Err-clause-taken
+returns-in-Err-clause-taken c =
+    subst (λ (before : List (Option Task)). IsTaken c.args.pass before c.take_up.new.flights c.in-Err.stop) c.events.invariant.same c.in-Err.ensures.taken
+
+pub returns-in-Err-clause-idle : goal.returns-in-Err-clause-idle
+returns-in-Err-clause-idle c = λ is same. absurd (subst IsByPick is c.in-Err.ensures.kind)
+
+pub returns-in-Err-clause-at_once : goal.returns-in-Err-clause-at_once
+returns-in-Err-clause-at_once c = λ few is.
+    let now : pick.Work c.in-Work.picked ≡ pick.Idle =
+    sym (picked_by c.core.result.now c.events.store.core (in_flight c.events.flights) c.events.lanes (pick.Work c.in-Work.picked) c.core.ensures c.in-Work.ensures)
+    ∙ c.events.invariant.still (c.events.invariant.idle is) ∙ is in
+    absurd cc
+
+pub returns-in-Idle-clause-due : goal.returns-in-Idle-clause-due
+returns-in-Idle-clause-due c =
+    free_due (state_of c.events.store.core) c.events.lanes c.events.flights c.args.pass
+    (ap (λ (all : List (Option Task)). slice_get all c.args.pass) c.events.invariant.same ∙ c.requires.free)
+
+pub returns-in-Idle-clause-idle : goal.returns-in-Idle-clause-idle
+returns-in-Idle-clause-idle c = λ is same.
+    sym (c.events.invariant.still same)
+    ∙ picked_by c.core.result.now c.events.store.core (in_flight c.events.flights) c.events.lanes pick.Idle c.core.ensures c.in-Idle.ensures
+
+pub returns-in-Stalled-clause-goes_on : goal.returns-in-Stalled-clause-goes_on
+returns-in-Stalled-clause-goes_on c = λ recording base history same goes. (
+  c.events.invariant.goes_on recording base history same goes,
+  picked_by c.core.result.now c.events.store.core (in_flight c.events.flights) c.events.lanes (pick.Stalled c.in-Stalled.lane) c.core.ensures c.in-Stalled.ensures,
+)
+
+pub returns-in-Stalled-clause-due : goal.returns-in-Stalled-clause-due
+returns-in-Stalled-clause-due c =
+    free_due (state_of c.events.store.core) c.events.lanes c.events.flights c.args.pass
+    (ap (λ (all : List (Option Task)). slice_get all c.args.pass) c.events.invariant.same ∙ c.requires.free)
+
+pub returns-in-Stalled-clause-at_once : goal.returns-in-Stalled-clause-at_once
+returns-in-Stalled-clause-at_once c = λ few is.
+    let now : pick.Stalled c.in-Stalled.lane ≡ pick.Idle =
+    sym (picked_by c.core.result.now c.events.store.core (in_flight c.events.flights) c.events.lanes (pick.Stalled c.in-Stalled.lane) c.core.ensures c.in-Stalled.ensures)
+    ∙ c.events.invariant.still (c.events.invariant.idle is) ∙ is in
+    absurd cc
+
+pub returns-in-Done-clause-goes_on : goal.returns-in-Done-clause-goes_on
+returns-in-Done-clause-goes_on c = λ recording base history same goes. (
+  c.events.invariant.goes_on recording base history same goes,
+  picked_by c.core.result.now c.events.store.core (in_flight c.events.flights) c.events.lanes pick.Done c.core.ensures c.in-Done.ensures,
+)
+
+pub returns-in-Done-clause-due : goal.returns-in-Done-clause-due
+returns-in-Done-clause-due c =
+    free_due (state_of c.events.store.core) c.events.lanes c.events.flights c.args.pass
+    (ap (λ (all : List (Option Task)). slice_get all c.args.pass) c.events.invariant.same ∙ c.requires.free)
+
+pub returns-in-Done-clause-at_once : goal.returns-in-Done-clause-at_once
+returns-in-Done-clause-at_once c = λ few is.
+    let now : pick.Done ≡ pick.Idle =
+    sym (picked_by c.core.result.now c.events.store.core (in_flight c.events.flights) c.events.lanes pick.Done c.core.ensures c.in-Done.ensures)
+    ∙ c.events.invariant.still (c.events.invariant.idle is) ∙ is in
+    absurd cc

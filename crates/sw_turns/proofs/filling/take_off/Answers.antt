@@ -1,0 +1,24 @@
+-- What was picked is taken up, or there was no memory for its fetches.
+use Rattle.std.proofs.Common.{◌∙◌, Some, None, ap}
+use Rattle.std.proofs.lemmas.Option.{slice_get_within}
+use Rattle.sw_core.specs.Fetching.{fetches_of}
+use Rattle.sw_core.specs.Hosted.{Hosted, state_of}
+use Rattle.sw_turns.proofs.FlightLemmas.{free_due, set_there, taken_due, taken_fly}
+use Rattle.sw_turns.proofs.filling.take_off.Goals as goal
+
+pub returns-in-Ok-clause-flights : goal.returns-in-Ok-clause-flights
+returns-in-Ok-clause-flights c =
+    taken_fly (state_of c.args.store.now.core) c.args.flights.now c.requires.flights c.args.pass c.args.task c.requires.free c.requires.fetch c.args.lanes.now c.requires.picked
+
+pub returns-in-Ok-clause-due : goal.returns-in-Ok-clause-due
+returns-in-Ok-clause-due c =
+    taken_due (state_of c.args.store.now.core) c.args.flights.now c.requires.flights c.args.pass c.args.task c.requires.free c.requires.fetch c.args.lanes.now c.requires.picked
+
+pub returns-in-Ok-clause-leaves : goal.returns-in-Ok-clause-leaves
+returns-in-Ok-clause-leaves c = (
+  set_there c.args.flights.now c.args.pass (Some c.args.task) (slice_get_within c.args.flights.now c.args.pass None c.requires.free),
+  c.in-Ok.ensures ∙ ap (λ (host : Hosted). fetches_of (state_of host) c.args.task) c.core.ensures,
+)
+
+pub returns-in-Err-clause-due : goal.returns-in-Err-clause-due
+returns-in-Err-clause-due c = free_due (state_of c.args.store.now.core) c.args.lanes.now c.args.flights.now c.args.pass c.requires.free

@@ -1,0 +1,131 @@
+-- Events that wait for their changes to be written, behind a history.
+use Rattle.std.specs.Prelude.{◌≡◌, ◌≢◌, ◌⊎◌, ◌≤◌, ◌+◌, ℕ, Bool, List, [], ◌++◌, length, Option, Some, None, Result, Ok, Err, slice_get, slice_set, if◌then◌else◌}
+use Rattle.sw_core.specs.Fetching.{fetches_of}
+use Rattle.sw_core.specs.Hosted.{state_of}
+use Rattle.sw_data.specs.declared.events.Event.{Event}
+use Rattle.sw_data.specs.declared.histories.Entry.{Entry}
+use Rattle.sw_data.specs.declared.histories.Task.{Task}
+use Rattle.sw_data.specs.declared.recordings.FetchLine.{FetchLine}
+use Rattle.sw_data.specs.declared.recordings.Recording.{Recording}
+use Rattle.sw_data.specs.declared.storage.Kept.{Kept}
+use Rattle.sw_lane.specs.Left.{Left}
+use Rattle.sw_lane.specs.Picked.{in_flight, picked}
+use Rattle.sw_lane.specs.declared.picks.Pick.TheVariants as pick
+use Rattle.sw_turns.specs.Flights.{Flies, Spares}
+use Rattle.sw_turns.specs.Machines.{IsEventOf}
+use Rattle.sw_turns.specs.Playing.{ComesNext, IsSoFar}
+use Rattle.sw_turns.specs.declared.ends.DriveEnd.{DriveEnd}
+use Rattle.sw_turns.specs.declared.ends.DriveEnd.TheVariants as drive_end
+use Rattle.sw_turns.specs.declared.ends.Turn.{Turn}
+use Rattle.sw_turns.specs.declared.ends.Turn.TheVariants as turn
+use Rattle.sw_turns.specs.declared.ends.Stop.{Stop}
+use Rattle.sw_turns.specs.declared.ends.Stop.TheVariants as stop
+use Rattle.sw_rules.specs.History.{after}
+use Rattle.sw_rules.specs.State.{State}
+use Rattle.sw_rules.specs.Step.{changes_of}
+use Rattle.sw_store.specs.Groups.{IsGroup, IsTooLong}
+use Rattle.sw_store.specs.Stores.{StoreState, all_stamped}
+
+-- own: the history goes on by the entries that wait, whatever clock they will be stamped with; they are no more than sixteen,
+-- and what waits to be written are their changes
+pub record IsUnderWay (workers : ℕ) (recording : Recording) (base : Kept) (history : List Entry) (lanes : List Left) (store : StoreState) : Type 0 where
+  pub so_far : (clock : ℕ) → IsSoFar workers recording base (history ++ all_stamped clock store.staged) lanes (state_of store.core)
+  pub group : IsGroup (after base history) store
+  pub few : length store.staged ≤ 16
+  pub since : store.since ≡ None
+
+-- own: an event comes next behind what waits
+pub record IsHeld (workers : ℕ) (recording : Recording) (base : Kept) (history : List Entry) (lanes : List Left) (store : StoreState) (happened : Event) : Type 0 where
+  pub before : List Left
+  pub under_way : IsUnderWay workers recording base history before store
+  pub next : ComesNext workers recording.fetches before lanes (state_of store.core) happened
+
+-- own: an event comes next that has no room, though nothing waits
+pub record IsRefused (workers : ℕ) (recording : Recording) (base : Kept) (history : List Entry) (lanes : List Left) (store : StoreState) (happened : Event) (from needed : ℕ) : Type 0 where
+  pub held : IsHeld workers recording base history lanes store happened
+  pub none : store.staged ≡ []
+  pub offset : from ≡ store.twin.journal.gate + 1
+  pub long : IsTooLong (changes_of (state_of store.core) happened) [] store.twin needed
+
+-- own: what stands where no further event joins a group, while its events wait or once they are written
+abbrev pub Stops : ℕ → Recording → Kept → List Entry → List Left → List (Option Task) → StoreState → Stop → Type 0
+Stops workers recording base history lanes flights store stop.Whole =
+    IsUnderWay workers recording base history lanes store
+Stops workers recording base history lanes flights store (stop.NoRoom happened) =
+    IsHeld workers recording base history lanes store happened
+Stops workers recording base history lanes flights store (stop.Fetch taken fetches) =
+    IsUnderWay workers recording base history lanes store
+Stops workers recording base history lanes flights store stop.Idle =
+    IsUnderWay workers recording base history lanes store
+Stops workers recording base history lanes flights store stop.Done =
+    IsUnderWay workers recording base history lanes store
+    × (picked (state_of store.core) (in_flight flights) lanes ≡ pick.Done)
+Stops workers recording base history lanes flights store (stop.Stalled lane) =
+    IsUnderWay workers recording base history lanes store
+    × (picked (state_of store.core) (in_flight flights) lanes ≡ pick.Stalled lane)
+Stops workers recording base history lanes flights store (stop.Full happened from needed) =
+    IsRefused workers recording base history lanes store happened from needed
+Stops workers recording base history lanes flights store stop.NoMemory =
+    (before : List Left) × IsUnderWay workers recording base history before store
+
+-- own: an event has joined a group, or none does any more
+abbrev pub HasEntered : {T : Type 0} → ℕ → Recording → Kept → List Entry → List Left → List (Option Task) → StoreState → Result T Stop → Type 0
+HasEntered workers recording base history lanes flights store (Ok value) = IsUnderWay workers recording base history lanes store
+HasEntered workers recording base history lanes flights store (Err stopped) =
+    Stops workers recording base history lanes flights store stopped
+
+-- own: the pass takes up the task for which a group stopped, and else nothing changes in what passes have taken up
+abbrev pub IsTaken : ℕ → (old new : List (Option Task)) → Stop → Type 0
+IsTaken pass old new (stop.Fetch flown fetches) = new ≡ slice_set old pass (Some flown)
+IsTaken pass old new _ = new ≡ old
+
+-- own: what a pass has taken up once a group has stopped: what it stopped for, with its fetches, and else nothing; an event that
+-- is held ends nothing that others have taken up
+abbrev pub Leaves : ℕ → List (Option Task) → State → Stop → Type 0
+Leaves pass flights state (stop.Fetch flown fetches) =
+    Flies flights pass flown × (fetches.items ≡ fetches_of state flown)
+Leaves pass flights state (stop.NoRoom happened) = (slice_get flights pass ≡ Some None) × Spares happened flights
+Leaves pass flights state stop.NoMemory = Unit {0}
+Leaves pass flights state _ = slice_get flights pass ≡ Some None
+
+-- own: a group that has no room for an event has some, and one that is whole has sixteen
+abbrev pub HasSome : Stop → List Entry → Type 0
+HasSome (stop.NoRoom happened) staged = staged ≢ []
+HasSome stop.Whole staged = length staged ≡ 16
+HasSome _ staged = Unit {0}
+
+-- own: there was no memory for an event, or no room on the disk for its changes alone
+abbrev pub IsBarren : Stop → Type 0
+IsBarren stop.NoMemory = Unit {0}
+IsBarren (stop.Full happened from needed) = Unit {0}
+IsBarren _ = ⊥
+
+-- own: it is what was picked that stopped a group
+abbrev pub IsByPick : Stop → Type 0
+IsByPick (stop.NoRoom happened) = Unit {0}
+IsByPick (stop.Fetch flown fetches) = Unit {0}
+IsByPick (stop.Full happened from needed) = Unit {0}
+IsByPick stop.NoMemory = Unit {0}
+IsByPick _ = ⊥
+
+-- own: a group begins with the event of this fetch, unless nothing could be made of it
+abbrev pub Begins : List FetchLine → State → Task → List Entry → Stop → Type 0
+Begins lines state flown staged stopped =
+    IsBarren stopped
+    ⊎ ((entry : Entry) × (slice_get staged 0 ≡ Some entry) × IsEventOf lines state flown entry.event)
+
+-- own: a group is over for good or for now: it isn't want of room in its record that stopped it
+abbrev pub IsOver : Stop → Type 0
+IsOver (stop.NoRoom happened) = ⊥
+IsOver _ = Unit {0}
+
+-- own: what a stopped group comes to, where it has some events or none
+abbrev pub over_by : Stop → Bool → Result Turn DriveEnd
+over_by stop.Whole some = Ok turn.Entered
+over_by (stop.NoRoom happened) some = Ok turn.Entered
+over_by (stop.Fetch flown fetches) some = Ok (turn.Fetch flown fetches)
+over_by stop.Idle some = if some then Ok turn.Entered else Ok turn.Idle
+over_by stop.Done some = Err drive_end.Done
+over_by (stop.Stalled lane) some = Err (drive_end.Stalled lane)
+over_by (stop.Full happened from needed) some = Err (drive_end.Full happened from needed)
+over_by stop.NoMemory some = Err drive_end.NoMemory

@@ -1,0 +1,83 @@
+-- Turns: what stands between them, and what a turn of a pass makes of it.
+use Rattle.std.specs.Prelude.{◌≡◌, ◌≢◌, ◌<◌, ◌↔◌, ℕ, List, length, Some, None, Result, Ok, Err, slice_get}
+use Rattle.std.specs.declared.alloc.Global.{Global}
+use Rattle.std.specs.Prelude.{Vec}
+use Rattle.sw_core.specs.Fetching.{fetches_of}
+use Rattle.sw_core.specs.Hosted.{state_of}
+use Rattle.sw_data.specs.declared.histories.Entry.{Entry}
+use Rattle.sw_data.specs.declared.histories.Task.{Task}
+use Rattle.sw_data.specs.declared.recordings.Recording.{Recording}
+use Rattle.sw_data.specs.declared.storage.Kept.{Kept}
+use Rattle.sw_disk.specs.declared.disk.Disk.{Ghosts}
+use Rattle.sw_lane.specs.Picked.{in_flight, picked}
+use Rattle.sw_lane.specs.declared.picks.Pick.TheVariants as pick
+use Rattle.sw_rules.specs.History.{after}
+use Rattle.sw_store.specs.Stores.{IsQuiet}
+use Rattle.sw_turns.specs.Ends.{Ended}
+use Rattle.sw_turns.specs.Flights.{AreInFlight, Flies, IsDue}
+use Rattle.sw_turns.specs.Groups.{IsUnderWay}
+use Rattle.sw_turns.specs.Machines.{IsEventOf}
+use Rattle.sw_turns.specs.Settling.{Standing}
+use Rattle.sw_turns.specs.Surviving.{IsAtWork}
+use Rattle.sw_turns.specs.declared.ends.DriveEnd.{DriveEnd}
+use Rattle.sw_turns.specs.declared.ends.DriveEnd.TheVariants as drive_end
+use Rattle.sw_turns.specs.declared.ends.Stop.{Stop}
+use Rattle.sw_turns.specs.declared.ends.Turn.{Turn}
+use Rattle.sw_turns.specs.declared.ends.Turn.TheVariants as turn
+use Rattle.sw_turns.specs.declared.progress.Progress.{Progress}
+
+-- own: a recording is under way: nothing waits, the disk keeps what the history makes of the base, and so it stays after a crash
+pub record IsGoing {D : Type 0} (disk : Ghosts D) (start now : D) (recording : Recording) (base : Kept) (p : Progress) : Type 0 where
+  pub lines : recording.fetches ≡ p.net
+  pub under_way : IsUnderWay (length p.flights.items) recording base p.history.items p.lanes p.store
+  pub quiet : IsQuiet p.store
+  pub at_work : IsAtWork disk start now base p.history.items p.store
+  pub flights : AreInFlight (state_of p.store.core) p.flights.items
+  pub due : IsDue (state_of p.store.core) p.lanes p.flights.items
+
+-- own: what stands beside the store once a group has stopped
+abbrev pub standing_of : Recording → Kept → Progress → Stop → Standing
+standing_of recording base p stopped = record {
+  workers = length p.flights.items;
+  recording = recording;
+  base = base;
+  lanes = p.lanes;
+  flights = p.flights.items;
+  stopped = stopped;
+}
+
+-- own: only the store and the history differ
+pub record IsSameBeside (before after : Progress) : Type 0 where
+  pub net : after.net ≡ before.net
+  pub lanes : after.lanes ≡ before.lanes
+  pub flights : after.flights ≡ before.flights
+
+-- own: where a run is done, the state of its host is the one that its history leaves
+abbrev pub IsAtRest : DriveEnd → Kept → Progress → Type 0
+IsAtRest drive_end.Done base p = after base p.history.items ≡ state_of p.store.core
+IsAtRest _ base p = Unit {0}
+
+-- own: after a turn the recording is under way, or the run has ended
+abbrev pub HasTurned : {D : Type 0} → Ghosts D → (start now : D) → Recording → Kept → Progress → Result Turn DriveEnd → Type 0
+HasTurned disk start now recording base p (Ok value) = IsGoing disk start now recording base p
+HasTurned disk start now recording base p (Err ended) =
+    Ended disk start now (length p.flights.items) recording base p.history.items ended × IsAtRest ended base p
+
+-- own: the entry at this place is the event of a fetch that the recording gives in the state before
+pub record IsLanding (before after : Progress) (flown : Task) : Type 0 where
+  pub entry : Entry
+  pub there : slice_get after.history.items (length before.history.items) ≡ Some entry
+  pub event : IsEventOf before.net (state_of before.store.core) flown entry.event
+
+-- own: what a turn makes: a pass that has taken up a fetch makes its event first; it adds entries, takes up a fetch, or is idle
+-- exactly where it has taken up none, another is in flight, and nothing is ready but what is in flight
+pub record IsTurn (pass : ℕ) (before after : Progress) (made : Turn) : Type 0 where
+  pub first : (flown : Task) → Flies before.flights.items pass flown → IsLanding before after flown
+  pub entered : made ≡ turn.Entered → length before.history.items < length after.history.items
+  pub fetch : (flown : Task) (fetches : Vec (List ℕ × ℕ) Global) → made ≡ turn.Fetch flown fetches
+      → Flies after.flights.items pass flown × (fetches.items ≡ fetches_of (state_of after.store.core) flown)
+  pub idle : (made ≡ turn.Idle)
+      ↔ ((slice_get before.flights.items pass ≡ Some None)
+      × (picked (state_of before.store.core) (in_flight before.flights.items) before.lanes ≡ pick.Idle))
+  pub still : made ≡ turn.Idle → after.history.items ≡ before.history.items
+  pub others : (other : ℕ) → other ≢ pass → slice_get after.flights.items other ≡ slice_get before.flights.items other

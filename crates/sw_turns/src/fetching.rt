@@ -1,0 +1,113 @@
+//! The events of ready tasks. A fetch is taken at once: its event carries the lines that the recording gives.
+
+ghost use Rattle.std.specs.Prelude.{◌≡◌, true, map, slice_get, IfOk};
+ghost use Rattle.std.specs.List.{list_any};
+ghost use Rattle.std.specs.Option.{option_and_then};
+ghost use Rattle.sw_core.specs.Hosted.{state_of};
+ghost use Rattle.sw_turns.specs.Machines.{IsEventOf, line_for};
+ghost use Rattle.sw_lane.specs.Picked.{is_task};
+ghost use Rattle.sw_rules.specs.Tasks.{ready_tasks};
+
+use std::alloc::Global;
+use sw_copy::copy_line;
+use sw_core::Core;
+use sw_data::address::without_fragment;
+use sw_data::{Event, FetchLine, Items, NoMemory, Task, Text, Who};
+use sw_net::Net;
+
+// The line that a fetch gets.
+fn line(
+    alloc: Global,
+    net: &Net,
+    address: &Text,
+    number: u32,
+) -> Result<Option<FetchLine>, NoMemory>
+    ensures { IfOk result (λ line. line ≡ line_for net.now (address.now, number)) }
+{
+    match net.fetch_bytes(without_fragment(address.as_bytes()), number) {
+        Some(line) => Ok(Some(copy_line(alloc, line)?)),
+        None => Ok(None),
+    }
+}
+
+// The line of the first fetch.
+fn first_line(
+    alloc: Global,
+    net: &Net,
+    fetches: &[(Text, u32)],
+) -> Result<Option<FetchLine>, NoMemory>
+    ensures { IfOk result (λ line.
+        line ≡ option_and_then (line_for net.now) (slice_get fetches.now 0)) }
+{
+    match fetches.first() {
+        Some((address, number)) => line(alloc, net, address, *number),
+        None => Ok(None),
+    }
+}
+
+// The lines of the fetches, in order.
+fn all_lines(
+    alloc: Global,
+    net: &Net,
+    fetches: &[(Text, u32)],
+) -> Result<Items<Option<FetchLine>>, NoMemory>
+    ensures { IfOk result (λ lines. lines ≡ map (line_for net.now) fetches.now) }
+{
+    let mut lines = Items::new(alloc);
+    for (address, number) in fetches {
+        lines.push(line(alloc, net, address, *number)?)?;
+    }
+    Ok(lines)
+}
+
+// The fetch of a job's script has ended.
+fn fetched(alloc: Global, core: &Core, net: &Net, job: u32) -> Result<Event, NoMemory>
+    requires { list_any (is_task (Task.Fetch job)) (ready_tasks (state_of core.now)) ≡ true }
+    ensures { IfOk result (IsEventOf net.now (state_of core.now) (Task.Fetch job)) }
+{
+    let fetches = core.fetches(alloc, Task::Fetch(job))?;
+    let line = first_line(alloc, net, fetches.as_slice())?;
+    Ok(Event::Fetched {
+        who: Who::Host,
+        job,
+        line,
+    })
+}
+
+// The fetches of an addAll have ended.
+fn added(alloc: Global, core: &Core, net: &Net, task: u32) -> Result<Event, NoMemory>
+    requires { list_any (is_task (Task.FetchAll task)) (ready_tasks (state_of core.now)) ≡ true }
+    ensures { IfOk result (IsEventOf net.now (state_of core.now) (Task.FetchAll task)) }
+{
+    let fetches = core.fetches(alloc, Task::FetchAll(task))?;
+    let lines = all_lines(alloc, net, fetches.as_slice())?;
+    Ok(Event::Added {
+        who: Who::Host,
+        task,
+        lines,
+    })
+}
+
+/// The event of a ready task, with the lines that the recording gives for its fetches.
+pub(crate) fn task_event(
+    alloc: Global,
+    core: &Core,
+    net: &Net,
+    task: Task,
+) -> Result<Event, NoMemory>
+    requires { list_any (is_task task) (ready_tasks (state_of core.now)) ≡ true }
+    ensures { IfOk result (IsEventOf net.now (state_of core.now) task) }
+{
+    match task {
+        Task::Fetch(job) => fetched(alloc, core, net, job),
+        Task::FetchAll(number) => added(alloc, core, net, number),
+        Task::Run(_)
+        | Task::Evaluate(_)
+        | Task::Install(_)
+        | Task::TryActivate(_)
+        | Task::Activate(_) => match core.event_of(alloc, task)? {
+            Some(event) => Ok(event),
+            None => unreachable!(),
+        },
+    }
+}
