@@ -1,0 +1,4 @@
+pub mod LineLemmas
+pub mod OnLiterals
+pub mod OnlyListed
+pub mod PartLemmas

@@ -1,0 +1,4 @@
+pub mod Appends
+pub mod Happened
+pub mod Reopening
+pub mod Spelled

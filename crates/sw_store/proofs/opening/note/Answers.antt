@@ -1,0 +1,41 @@
+use Rattle.std.proofs.Common.{◌≡◌, [], ◌∷◌, Err, sym, ◌∙◌, ap, subst, arith}
+use Rattle.sw_data.specs.declared.storage.Change.TheVariants as change
+use Rattle.sw_data.specs.declared.storage.Kept.{Kept}
+use Rattle.sw_journal.specs.declared.journal.AppendError.{AppendError}
+use Rattle.sw_kept.specs.Keeping.{KeepsNow}
+use Rattle.sw_store.proofs.Reopening.{keeps_with_room, restarted_spelled}
+use Rattle.sw_store.proofs.opening.note.Given.{Over}
+use Rattle.sw_store.proofs.opening.note.Goals as goal
+use Rattle.sw_store.proofs.opening.note.Goals.{After-append}
+use Rattle.sw_twin.specs.Twin.{TwinState}
+
+-- the room that was made changes nothing of what is kept
+keeps_still : (g : Over) (c : After-append g) (kept : Kept) → KeepsNow c.args.twin.now kept g.D.Disk c.args.disk.now → KeepsNow c.reserve.new.self kept g.D.Disk c.args.disk.now
+keeps_still g c kept keeps =
+    let now = c.args.disk.now in
+    subst (λ (t : TwinState). KeepsNow t kept g.D.Disk now) (sym c.reserve.ensures.same) (keeps_with_room g.D.Disk now c.args.twin.now c.reserve.new.self.journal.spare kept keeps)
+
+pub returns-in-Ok-clause-keeps : goal.returns-in-Ok-clause-keeps
+returns-in-Ok-clause-keeps g c kept keeps =
+    c.in-Ok.ensures.keeps kept (change.Restarted ∷ []) restarted_spelled (keeps_still g (goal.at.returns-in-Ok-clause-keeps g c).After-append kept keeps)
+
+pub returns-in-Ok-clause-any_moment : goal.returns-in-Ok-clause-any_moment
+returns-in-Ok-clause-any_moment g c kept keeps =
+    c.in-Ok.ensures.any_moment kept (change.Restarted ∷ []) restarted_spelled (keeps_still g (goal.at.returns-in-Ok-clause-any_moment g c).After-append kept keeps)
+
+pub returns-in-Ok-clause-acknowledged : goal.returns-in-Ok-clause-acknowledged
+returns-in-Ok-clause-acknowledged g c kept keeps =
+    c.in-Ok.ensures.acknowledged kept (change.Restarted ∷ []) restarted_spelled (keeps_still g (goal.at.returns-in-Ok-clause-acknowledged g c).After-append kept keeps)
+
+pub returns-in-Err-Full-clause-full : goal.returns-in-Err-Full-clause-full
+returns-in-Err-Full-clause-full g c length needed is =
+    let arm = c.in-Err-Full in
+    let told = (c.append.ensures.full arm.length arm.needed).0 (arm.is ∙ ap (λ (e : AppendError). Err e) arm.field-0-is) in
+    let same = ap (λ (t : TwinState). t.journal.limit) c.reserve.ensures.same in
+    let from : arm.length ≡ length = cc in
+    let needs : arm.needed ≡ needed = cc in
+    omega (arith, told.2, same, from, needs)
+
+pub returns-in-Err-DiskFault-clause-any_moment : goal.returns-in-Err-DiskFault-clause-any_moment
+returns-in-Err-DiskFault-clause-any_moment g c kept keeps =
+    c.append.ensures.any_moment kept (change.Restarted ∷ []) restarted_spelled (keeps_still g (goal.at.returns-in-Err-DiskFault-clause-any_moment g c).After-append kept keeps)

@@ -1,0 +1,14 @@
+use Rattle.sw_store.proofs.Reopening.{has_opened, is_unopened}
+use Rattle.sw_store.proofs.store.Store.reopen.Goals as goal
+
+pub returns-in-Ok-clause-opened : goal.returns-in-Ok-clause-opened
+returns-in-Ok-clause-opened g c =
+    let was = c.in-Ok.ensures in
+    let on = c.resume.ensures in
+    has_opened g.D.Disk c.args.disk.now c.open.new.disk c.resume.new.disk c.in-Ok.content was.quiet was.kept on.any_moment was.first_call (was.first (λ is. absurd cc))
+    c.resume.result on.base on.keeps on.acknowledged on.told on.calls on.later on.count
+
+pub returns-in-Ok-clause-unopened : goal.returns-in-Ok-clause-unopened
+returns-in-Ok-clause-unopened g c =
+    let was = c.in-Ok.ensures in
+    is_unopened g.D.Disk c.args.disk.now c.open.new.disk c.resume.new.disk c.in-Ok.content was.quiet was.kept c.resume.ensures.any_moment was.first_call (was.first (λ is. absurd cc))

@@ -1,0 +1,63 @@
+-- A store that was just opened, and what a crash leaves while it is.
+use Rattle.std.specs.Prelude.{◌≡◌, ◌⊎◌, ◌<◌, ◌≤◌, ◌+◌, ◌-◌, ◌^◌, ℕ, [], ◌∷◌, Result, Ok, Err}
+use Rattle.sw_core.specs.Hosted.{state_of}
+use Rattle.sw_data.specs.declared.storage.Change.TheVariants as change
+use Rattle.sw_data.specs.declared.storage.Kept.{Kept}
+use Rattle.sw_disk.specs.declared.disk.Disk.{Ghosts}
+use Rattle.sw_disk.specs.DiskRule.{ForTold, capped}
+use Rattle.sw_disk.specs.Image.{Image}
+use Rattle.sw_disk.specs.Meanings.{LeavesOnly}
+use Rattle.sw_journal.specs.Journal.{Since}
+use Rattle.sw_kept.specs.Keeping.{KeepsNow, StaysTold}
+use Rattle.sw_kept.specs.Stored.{HasKept}
+use Rattle.sw_rules.specs.Restart.{restart}
+use Rattle.sw_rules.specs.Storage.{IsMade, kept_after}
+use Rattle.sw_store.specs.declared.errors.OpenError.{OpenError}
+use Rattle.sw_store.specs.declared.errors.OpenError.TheVariants as error
+use Rattle.sw_store.specs.Stores.{IsQuiet, StoreState}
+use Rattle.sw_twin.specs.Twin.{IsPastFirst}
+
+-- the content that a restart makes of a content
+abbrev pub kept_restarted : Kept → Kept
+kept_restarted kept = kept_after kept (change.Restarted ∷ [])
+
+-- own: the host is the restart of what was kept, nothing waits, and the growth is counted from here
+pub record IsFresh (limit : ℕ) (store : StoreState) : Type 0 where
+  pub made : IsMade store.base
+  pub state : state_of store.core ≡ restart store.base
+  pub quiet : IsQuiet store
+  pub mark : store.mark ≡ store.twin.journal.gate + 1
+  pub limit_is : store.twin.journal.limit ≡ limit
+
+-- own: while an image is opened, a crash leaves it as it is, or one that keeps the same content, as it is or restarted
+abbrev pub IsLeft : Image → Image → Type 0
+IsLeft image c = (c ≡ image) ⊎ ((kept : Kept) × HasKept kept image × (HasKept kept c ⊎ HasKept (kept_restarted kept) c))
+
+-- own: a disk was opened: the store's base is what it kept, it keeps that restarted, and a crash leaves one of these; but for
+-- moments before the first call was over, when it may leave what it might have left before
+pub record HasOpened {D : Type 0} (disk : Ghosts D) (old new : D) (store : StoreState) : Type 0 where
+  pub kept : ForTold (disk.seen old) (HasKept store.base)
+  pub keeps : KeepsNow store.twin (kept_restarted store.base) disk new
+  pub acknowledged : ForTold (disk.seen old) (λ image. Since disk new new (HasKept (kept_restarted store.base)))
+  pub told : StaysTold disk old new
+  pub any_moment : ForTold (disk.seen old) (λ image. LeavesOnly disk old new (λ c. disk.may_leave old c ⊎ IsLeft image c))
+  pub first : ForTold (disk.seen old)
+      (λ image. disk.clock old + 1 < 2 ^ 64 - 1 → (c : Image) → disk.left_since new (disk.clock old + 1) c → IsLeft image c)
+  pub calls : capped (disk.clock old + 4) ≤ disk.clock new
+  pub later : disk.clock old ≤ disk.clock new
+  pub faults : disk.faults old ≤ disk.faults new
+
+-- own: what a crash leaves where a disk was not opened to its end: at every moment what it might have left before, or what keeps
+-- the same content, as it is or restarted; since one call after the entry nothing but the latter, where a call was made
+-- after the first
+pub record IsUnopened {D : Type 0} (disk : Ghosts D) (old new : D) : Type 0 where
+  pub any_moment : ForTold (disk.seen old) (λ image. LeavesOnly disk old new (λ c. disk.may_leave old c ⊎ IsLeft image c))
+  pub first : IsPastFirst disk old new → ForTold (disk.seen old)
+      (λ image. disk.clock old + 1 < 2 ^ 64 - 1 → (c : Image) → disk.left_since new (disk.clock old + 1) c → IsLeft image c)
+
+-- own: what a call refuses isn't that the disk is not formatted or bad
+abbrev pub IsOpened : {T : Type 0} → Result T OpenError → Type 0
+IsOpened (Ok value) = Unit {0}
+IsOpened (Err error.NotFormatted) = ⊥
+IsOpened (Err (error.BadJournal offset)) = ⊥
+IsOpened (Err _) = Unit {0}
