@@ -1,0 +1,26 @@
+use Rattle.std.proofs.Common.{arith, subst, sym, ◌∙◌, ◌<◌}
+use Rattle.sw_rules.specs.Matching.{matches_pair}
+use Rattle.sw_caches.specs.Entries.{number, pair, pair_digest}
+use Rattle.sw_caches.proofs.FindLemmas.{none_reads, found_low}
+use Rattle.sw_caches.proofs.IndexLemmas.{thinned_more}
+use Rattle.sw_caches.proofs.entries.drop_matching.Goals as goal
+
+pub first_matching-requires : goal.first_matching-requires
+first_matching-requires c = rw c.deref.ensures.value c.loop-place.invariant.thinned.indexed
+
+pub remove-entry-requires : goal.remove-entry-requires
+remove-entry-requires c =
+    let low = found_low pair (matches_pair c.args.query.now c.args.options) _ _ _ c.in-Some.ensures in
+    subst (λ n. c.in-Some.place < n) c.deref.ensures.len low
+
+pub loop-place-preserved : goal.loop-place-preserved
+loop-place-preserved c = record {
+  thinned = rw c.remove-entry.ensures.items (thinned_more number pair pair_digest (matches_pair c.args.query.now c.args.options) _ _ _ c.loop-place.slots _ c.in-Some.place _ c.remove-entry.result c.loop-place.invariant.thinned
+      (rw c.deref.ensures.value at c.in-Some.ensures) c.remove-entry.ensures.value c.unmark.ensures);
+  bound = let h = c.loop-place.invariant.bound in omega arith;
+  capacity = c.remove-entry.ensures.capacity ∙ c.loop-place.invariant.capacity;
+}
+
+pub returns-clause-pairs : goal.returns-clause-pairs
+returns-clause-pairs c =
+    none_reads pair (matches_pair c.args.query.now c.args.options) _ 0 (sym (rw c.deref.ensures.value at c.in_default.ensures)) ∙ c.loop-place.invariant.thinned.others

@@ -1,0 +1,25 @@
+-- The entries of a cache: its pairs, each behind its number.
+use Rattle.std.specs.Prelude.{ℕ, Bool, List, map}
+use Rattle.std.specs.BTreeSet.{BTreeSet}
+use Rattle.sw_rules.specs.Matching.{Pair}
+use Rattle.sw_caches.specs.declared.entries.Entry.{Entry}
+use Rattle.sw_caches.specs.Slots.{Slot, address_digest}
+use Rattle.sw_caches.specs.Numbered.{IsIndexed}
+
+abbrev pub number : Entry → ℕ
+number entry = entry.number
+
+abbrev pub pair : Entry → Pair
+pair entry = entry.pair.value
+
+-- the pairs of entries, in order
+abbrev pub pairs : List Entry → List Pair
+pairs entries = map pair entries
+
+-- what a pair is found by
+abbrev pub pair_digest : Bool → Pair → ℕ
+pair_digest kind item = address_digest kind item.0.url
+
+-- the index finds each of these entries
+abbrev pub AreIndexed : List Entry → BTreeSet Slot → Type 0
+AreIndexed entries slots = IsIndexed number pair pair_digest entries slots

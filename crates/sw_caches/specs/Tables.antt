@@ -1,0 +1,106 @@
+-- The caches of all keys, as a list of rows beside what plans need to know of their indexes.
+use Rattle.std.specs.Prelude.{◌≡◌, ℕ, ◌+◌, ◌<◌, ◌^◌, true, length, slice_index_or, List, [], ◌∷◌, map, filter, set, bytes_eq, slice_get, option_map, Option, Some, None, Ok, if◌then◌else◌}
+use Rattle.std.specs.Option.{option_map_or}
+use Rattle.std.specs.List.{range_with_len}
+use Rattle.sw_data.specs.declared.exchange.Op.{Op}
+use Rattle.sw_data.specs.declared.exchange.Options.{Options}
+use Rattle.sw_data.specs.declared.exchange.Request.{Request}
+use Rattle.sw_data.specs.declared.storage.KeptCache.{KeptCache}
+use Rattle.sw_rules.specs.Matching.{Pair, first_match, query_of}
+use Rattle.sw_rules.specs.Batch.{batch}
+use Rattle.sw_rules.specs.Storage.{with_cache}
+use Rattle.sw_rules.specs.Caching.{pairs_of, with_pairs}
+use Rattle.sw_caches.specs.declared.fault.BatchFault.{BatchFault}
+use Rattle.sw_caches.specs.declared.fault.BatchFault.TheVariants as fault
+use Rattle.sw_caches.specs.declared.table.CachePlan.{CachePlan}
+use Rattle.sw_caches.specs.declared.row.Row.{Row}
+use Rattle.sw_caches.specs.Plans.{Fits, Indexed, IsThrown, carried}
+
+-- a cache that was just made (Service Workers, CacheStorage, "open()")
+abbrev pub empty_cache : List ℕ → List ℕ → KeptCache
+empty_cache key name = record { key = key; name = name; pairs = [] }
+
+-- the caches in order of creation over all keys, their indexes, and for how many more caches there is room
+pub record Table : Type 0 where
+  pub rows : List KeptCache
+  pub indexes : List Indexed
+  pub spare : ℕ
+
+abbrev pub kept_row : Row → KeptCache
+kept_row row = record { key = row.key; name = row.name; pairs = row.pairs.pairs }
+
+abbrev pub index_of : Row → Indexed
+index_of row = row.pairs
+
+abbrev pub table : List Row → ℕ → Table
+table rows spare = record { rows = map kept_row rows; indexes = map index_of rows; spare = spare }
+
+-- there is room for one more cache
+pub record HasRoom (caches : Table) : Type 0 where
+  pub spare : 0 < caches.spare
+  pub few : length caches.rows + 1 < 2 ^ 32
+
+-- the cache of a key and a name is the row at this place
+pub record IsPlace (key name : List ℕ) (rows : List Row) (place : ℕ) : Type 0 where
+  pub within : place < length rows
+  pub row : Row
+  pub stands : (d : Row) → slice_index_or rows place d ≡ row
+  pub found : pairs_of key name (map kept_row rows) ≡ Some row.pairs.pairs
+  pub changed : (f : KeptCache → KeptCache)
+      → with_cache key name f (map kept_row rows) ≡ set (map kept_row rows) place (f (kept_row row))
+
+abbrev pub key_and_name : KeptCache → List ℕ × List ℕ
+key_and_name row = (row.key, row.name)
+
+-- a row with the pairs that a plan leaves
+abbrev pub carried_row : CachePlan → KeptCache → KeptCache
+carried_row plan row = record row { pairs = carried plan.change row.pairs }
+
+-- the rows after a plan is carried out
+abbrev pub carried_rows : CachePlan → List KeptCache → List KeptCache
+carried_rows plan rows =
+    option_map_or (λ row. set rows plan.place (carried_row plan row)) (slice_get rows plan.place) rows
+
+-- a plan was made for the cache at its place, and there is room for what it adds
+pub record FitsTable (plan : CachePlan) (indexes : List Indexed) : Type 0 where
+  pub index : Indexed
+  pub stands : slice_get indexes plan.place ≡ Some index
+  pub fits : Fits plan.change index
+
+-- the rows after a batch on the cache of a key and a name, whose pairs are these, where it isn't refused
+abbrev pub IsBatchOf : Option (List Pair) → List ℕ → List ℕ → List Op → List KeptCache → List KeptCache → Type 0
+IsBatchOf None key name ops old new = ⊥
+IsBatchOf (Some pairs) key name ops old new =
+    (after : List Pair) × (batch pairs ops ≡ Ok after) × (new ≡ with_pairs key name after old)
+
+abbrev pub IsBatch : List ℕ → List ℕ → List Op → List KeptCache → List KeptCache → Type 0
+IsBatch key name ops old new = IsBatchOf (pairs_of key name old) key name ops old new
+
+-- why a batch on the cache whose pairs are these changes nothing
+abbrev pub IsRefusedOf : Option (List Pair) → List Op → BatchFault → Type 0
+IsRefusedOf None ops why = why ≡ fault.CacheGone
+IsRefusedOf (Some pairs) ops why = IsThrown why (batch pairs ops)
+
+abbrev pub IsRefused : List ℕ → List ℕ → List Op → List KeptCache → BatchFault → Type 0
+IsRefused key name ops rows why = IsRefusedOf (pairs_of key name rows) ops why
+
+-- the caches of a key, in order of creation
+abbrev pub caches_of : List ℕ → List KeptCache → List KeptCache
+caches_of key rows = filter (λ row. bytes_eq row.key key) rows
+
+-- the first place that matches in a cache, where it is asked: it has this name, or no name is given
+abbrev pub hit_in : Option (List ℕ) → Request → Options → KeptCache → Option ℕ
+hit_in name query options row =
+    if option_map_or (bytes_eq row.name) name true then option_map (λ item. item.0) (first_match row.pairs query options)
+    else None
+
+-- the first cache that has a match, and the first place that matches there; caches count from a number on
+abbrev pub hit_from : ℕ → Option (List ℕ) → Request → Options → List KeptCache → Option (ℕ × ℕ)
+hit_from at name query options [] = None
+hit_from at name query options (row ∷ rest) =
+    option_map_or (λ place. Some (at, place)) (hit_in name query options row) (hit_from (at + 1) name query options rest)
+
+-- the places that a query finds, or all places where there is none (Service Workers, Cache, "keys()", "matchAll()")
+abbrev pub asked_places : List Pair → Option Request → Options → List ℕ
+asked_places pairs None options = range_with_len 0 (length pairs)
+asked_places pairs (Some query) options = query_of pairs query options

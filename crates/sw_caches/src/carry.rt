@@ -1,0 +1,45 @@
+//! A plan is carried out: pairs are taken out where all room was made before.
+
+ghost use Rattle.std.specs.Prelude.{◌≡◌, ◌≤◌, [], vec_capacity, vec_len};
+ghost use Rattle.sw_caches.specs.Numbered.{KeepsAbove};
+ghost use Rattle.sw_caches.specs.Entries.{AreIndexed, number, pairs};
+ghost use Rattle.sw_caches.specs.Plans.{left_by};
+
+use crate::entries::{Entry, drop_matching};
+use crate::plan::NO_OPTIONS;
+use crate::slots::Slots;
+use sw_data::{Options, Request};
+
+/// Takes out what the queries match; it takes no memory.
+pub(crate) fn drop_deleted(
+    entries: &mut Vec<Entry>,
+    slots: &mut Slots,
+    deletes: &[(Request, Options)],
+)
+    requires { AreIndexed entries.old.items slots.old }
+    ensures indexed { AreIndexed entries.new.items slots.new }
+    ensures pairs { pairs entries.new.items
+        ≡ left_by deletes.now [] (pairs entries.old.items) }
+    ensures above { KeepsAbove number entries.old.items slots.old entries.new.items slots.new }
+    ensures bound { vec_len entries.new ≤ vec_len entries.old }
+    ensures capacity { vec_capacity entries.new ≡ vec_capacity entries.old }
+{
+    for query in deletes {
+        drop_matching(entries, slots, &query.0, query.1);
+    }
+}
+
+/// Takes out the pairs in whose place others are put; it takes no memory.
+pub(crate) fn drop_replaced(entries: &mut Vec<Entry>, slots: &mut Slots, added: &[Entry])
+    requires { AreIndexed entries.old.items slots.old }
+    ensures indexed { AreIndexed entries.new.items slots.new }
+    ensures pairs { pairs entries.new.items
+        ≡ left_by [] (pairs added.now) (pairs entries.old.items) }
+    ensures above { KeepsAbove number entries.old.items slots.old entries.new.items slots.new }
+    ensures bound { vec_len entries.new ≤ vec_len entries.old }
+    ensures capacity { vec_capacity entries.new ≡ vec_capacity entries.old }
+{
+    for entry in added {
+        drop_matching(entries, slots, &entry.pair.0, NO_OPTIONS);
+    }
+}

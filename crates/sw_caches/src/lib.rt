@@ -1,0 +1,28 @@
+//! The caches of all keys: batches, queries, matches and names, each equal to its definition.
+//!
+//! The pairs of a cache stand in the order of their puts, each behind a number of its own, and an
+//! index finds the numbers of an address by its digests, without fragment and also without query.
+//! The index may hold more than it must: a number that it finds is looked up, and its pair is
+//! tested. So no other pair is moved, copied or compared for a put or a query.
+#![tactic(auto)]
+
+mod carry;
+mod entries;
+mod fault;
+mod hits;
+mod ops;
+mod pairs;
+mod plan;
+mod row;
+mod rules;
+mod slots;
+mod table;
+
+pub use fault::{BatchFault, CacheFault};
+pub use hits::Found;
+pub use ops::apply_ops;
+pub use rules::has_http_scheme;
+pub use table::{CachePlan, Caches, Hit, NewCache};
+
+#[cfg(test)]
+mod tests;

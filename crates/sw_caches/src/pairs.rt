@@ -1,0 +1,228 @@
+//! The pairs of a cache, seen as a list beside the room for a plan.
+
+ghost use Rattle.std.specs.Prelude.{◌≡◌, ◌<◌, ◌≤◌, ◌+◌, ◌^◌, [], length, sum_by, Ok, IfOk, IfErr, OnOk, OnErr, option_map, option_copied, slice_get, map};
+ghost use Rattle.std.specs.List.{range_with_len};
+ghost use Rattle.std.specs.Option.{IfSome};
+ghost use Rattle.sw_rules.specs.Matching.{Pair, first_match, query_of};
+ghost use Rattle.sw_rules.specs.Batch.{batch, op_size};
+ghost use Rattle.sw_caches.specs.Numbered.{AllFrom};
+ghost use Rattle.sw_caches.specs.Entries.{number};
+ghost use Rattle.sw_caches.specs.Plans.{Fits, IsThrown, carried};
+
+use crate::carry::{drop_deleted, drop_replaced};
+use crate::entries::{Entry, Pair, copy_pairs, first_of, into_pairs, places_of};
+use crate::fault::BatchFault;
+use crate::plan::{PairsPlan, add_all, unmark_all, work_out};
+use crate::rules::{QUOTA, size_of};
+use crate::slots::Slots;
+use std::alloc::Global;
+use std::collections::BTreeSet;
+use std::marker::Model;
+use sw_data::{Items, NoMemory, Op, Options, Request};
+use sw_match::number_of;
+
+// The most pairs that a cache may have.
+const PAIRS_LIMIT: usize = 4_294_967_295;
+
+/// The pairs of a cache in the order of their puts. An index finds those of an address in the time
+/// that they take themselves.
+#[derive(Drop)]
+pub(crate) struct Pairs {
+    entries: Vec<Entry>,
+    slots: Slots,
+    next: u64,
+}
+
+impl Model for Pairs {
+    ghost use Rattle.std.specs.Prelude.{◌<◌, ◌-◌, ◌^◌, length, vec_len, vec_capacity};
+    ghost use Rattle.sw_caches.specs.Numbered.{AllBelow};
+    ghost use Rattle.sw_caches.specs.Entries.{AreIndexed, number, pairs};
+    ghost use Rattle.sw_caches.specs.Plans.{Indexed};
+
+    ghost Value = { Indexed };
+
+    ghost view = { λ kept. record {
+      pairs = pairs kept.entries.items;
+      slots = kept.slots;
+      next = kept.next;
+      spare = vec_capacity kept.entries - vec_len kept.entries;
+    } };
+
+    ghost invariant = { λ kept. AreIndexed kept.entries.items kept.slots
+        × AllBelow number kept.next kept.entries.items
+        × (0 < kept.next)
+        × (length kept.entries.items < 2 ^ 32) };
+}
+
+impl Pairs {
+    /// No pairs; it takes no memory.
+    pub(crate) fn new(alloc: Global) -> Pairs
+        ensures { result.pairs ≡ [] }
+    {
+        Pairs {
+            entries: Vec::new(alloc),
+            slots: BTreeSet::new(alloc),
+            next: 1,
+        }
+    }
+
+    /// The pairs of a list, with their index.
+    pub(crate) fn from_items(alloc: Global, items: Vec<Pair>) -> Result<Pairs, NoMemory>
+        ensures { IfOk result (λ kept. kept.pairs ≡ items.items) }
+    {
+        if items.len() > PAIRS_LIMIT {
+            return Err(NoMemory);
+        }
+        let mut slots = BTreeSet::new(alloc);
+        let plan = add_all(alloc, &mut slots, items)?;
+        Ok(Pairs {
+            entries: plan.added,
+            slots,
+            next: plan.next,
+        })
+    }
+
+    /// A list of its own that equals the pairs.
+    pub(crate) fn to_items(&self, alloc: Global) -> Result<Items<Pair>, NoMemory>
+        ensures { IfOk result (λ items. items ≡ self.now.pairs) }
+    {
+        copy_pairs(alloc, &self.entries)
+    }
+
+    /// The pairs as a list, none of them copied.
+    pub(crate) fn into_items(self, alloc: Global) -> Result<Items<Pair>, NoMemory>
+        ensures { IfOk result (λ items. items ≡ self.pairs) }
+    {
+        into_pairs(alloc, self.entries)
+    }
+
+    /// How many pairs.
+    pub(crate) fn len(&self) -> usize
+        ensures { result ≡ length self.now.pairs }
+    {
+        self.entries.len()
+    }
+
+    /// The pair at a place.
+    pub(crate) fn get(&self, place: usize) -> Option<&Pair>
+        ensures { option_copied result ≡ slice_get self.now.pairs place }
+    {
+        if place < self.entries.len() {
+            let pair: &Pair = &self.entries[place].pair;
+            Some(pair)
+        } else {
+            None
+        }
+    }
+
+    /// The first pair that a query finds, behind its place; it takes no memory.
+    pub(crate) fn first(&self, query: &Request, options: Options) -> Option<(usize, &Pair)>
+        ensures found { option_map (λ found. (found.0, found.1.now)) result
+            ≡ first_match self.now.pairs query.now options }
+        ensures low { IfSome result (λ found. found.0 < 2 ^ 32) }
+    {
+        first_of(&self.entries, &self.slots, query, options)
+    }
+
+    /// The places of the pairs that a query finds, rising.
+    pub(crate) fn places(
+        &self,
+        alloc: Global,
+        query: &Request,
+        options: Options,
+    ) -> Result<Vec<u32>, NoMemory>
+        ensures { IfOk result (λ places. places.items ≡ query_of self.now.pairs query.now options) }
+    {
+        places_of(alloc, &self.entries, &self.slots, query, options)
+    }
+
+    /// All places.
+    pub(crate) fn all(&self, alloc: Global) -> Result<Vec<u32>, NoMemory>
+        ensures { IfOk result (λ places. places.items ≡ range_with_len 0 (length self.now.pairs)) }
+    {
+        let mut places = Vec::new(alloc);
+        for place in 0..self.len() {
+            places.push(number_of(place)?)?;
+        }
+        Ok(places)
+    }
+
+    /// A batch, worked out with all its room. Any refusal leaves the pairs and the index as they
+    /// were.
+    pub(crate) fn plan(&mut self, alloc: Global, ops: Vec<Op>) -> Result<PairsPlan, BatchFault>
+        ensures same { self.new.pairs ≡ self.old.pairs }
+        ensures fits { IfOk result (λ plan. Fits plan self.new) }
+        ensures ok { IfOk result (λ plan.
+            batch self.old.pairs ops.items ≡ Ok (carried plan self.old.pairs)) }
+        ensures err { IfErr result (λ fault. IsThrown fault (batch self.old.pairs ops.items)) }
+    {
+        let size = size_of(&ops)?;
+        let mut plan = PairsPlan::new(alloc, self.next);
+        match self.prepare(&mut plan, alloc, ops, size) {
+            Ok(()) => Ok(plan),
+            Err(fault) => {
+                unmark_all(&mut self.slots, &plan.added);
+                Err(fault)
+            }
+        }
+    }
+
+    fn prepare(
+        &mut self,
+        plan: &mut PairsPlan,
+        alloc: Global,
+        ops: Vec<Op>,
+        size: u64,
+    ) -> Result<(), BatchFault>
+        requires new { (plan.old.deletes.items ≡ []) × (plan.old.added.items ≡ []) }
+        requires first { plan.old.first ≡ self.old.next }
+        requires next { plan.old.next ≡ self.old.next }
+        requires size { size ≡ sum_by op_size ops.items }
+        ensures same { self.new.pairs ≡ self.old.pairs }
+        ensures high { AllFrom number self.new.next plan.new.added.items }
+        ensures fits { OnOk result (Fits plan.new self.new) }
+        ensures ok { OnOk result
+            (batch self.old.pairs ops.items ≡ Ok (carried plan.new self.old.pairs)) }
+        ensures err { IfErr result (λ fault. IsThrown fault (batch self.old.pairs ops.items)) }
+    {
+        if ops.len() > PAIRS_LIMIT {
+            return Err(BatchFault::NoMemory);
+        }
+        work_out(plan, alloc, &mut self.slots, ops)?;
+        if size > QUOTA {
+            return Err(BatchFault::Quota { size });
+        }
+        self.make_room(plan.added.len())?;
+        Ok(())
+    }
+
+    // Makes room for further pairs.
+    fn make_room(&mut self, count: usize) -> Result<(), NoMemory>
+        ensures same { self.new ≡ record self.old { spare = self.new.spare } }
+        ensures room { OnOk result (count ≤ self.new.spare) }
+        ensures few { OnOk result (length self.new.pairs + count < 2 ^ 32) }
+    {
+        if count > PAIRS_LIMIT - self.entries.len() {
+            return Err(NoMemory);
+        }
+        self.entries.reserve(count)?;
+        Ok(())
+    }
+
+    /// Carries a plan out; it takes no memory.
+    pub(crate) fn carry_out(&mut self, plan: PairsPlan)
+        requires { Fits plan self.old }
+        ensures { self.new.pairs ≡ carried plan self.old.pairs }
+    {
+        let PairsPlan {
+            deletes,
+            mut added,
+            first: _,
+            next,
+        } = plan;
+        drop_deleted(&mut self.entries, &mut self.slots, &deletes);
+        drop_replaced(&mut self.entries, &mut self.slots, &added);
+        let _ = self.entries.append(&mut added);
+        self.next = next;
+    }
+}

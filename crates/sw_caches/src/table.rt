@@ -1,0 +1,431 @@
+//! The caches of all keys.
+
+ghost use Rattle.sw_caches.specs.declared.fault.CacheFault.TheVariants as CacheFault;
+ghost use Rattle.std.specs.Prelude.{◌≡◌, ◌↔◌, None, IsErrOf, ◌<◌, Some, Ok, ◌++◌, ◌∷◌, [], IfOk, IfErr, OnOk, OnErr, not, map, filter, length, is_some, bytes_eq, option_map, option_copied, option_and_then, slice_get, if◌then◌else◌};
+ghost use Rattle.std.specs.List.{list_any, range_with_len};
+ghost use Rattle.sw_rules.specs.Matching.{first_match, query_of};
+ghost use Rattle.sw_rules.specs.Storage.{is_cache};
+ghost use Rattle.sw_rules.specs.Caching.{asked_caches, first_hit, pairs_of};
+ghost use Rattle.sw_data.specs.declared.storage.KeptCache.{KeptCache};
+ghost use Rattle.sw_rules.specs.Batch.{batch};
+ghost use Rattle.sw_data.specs.declared.answers.Answer.TheVariants as answer;
+ghost use Rattle.std.specs.Option.{option_map_or};
+ghost use Rattle.sw_caches.specs.Hits.{found_answer};
+ghost use Rattle.sw_caches.specs.Plans.{Fits, IsThrown, carried};
+ghost use Rattle.sw_caches.specs.Tables.{FitsTable, HasRoom, IsBatch, IsRefused, asked_places, caches_of, carried_rows, empty_cache, hit_from, kept_row, key_and_name};
+
+use crate::fault::{BatchFault, CacheFault};
+use crate::hits::{Found, first_found, first_hit};
+use crate::pairs::Pairs;
+use crate::plan::PairsPlan;
+use crate::row::{
+    Row, drop_cache, drop_key, has_key, into_kept, kept_of, names_of, place_in, rows_of,
+};
+use std::alloc::Global;
+use std::marker::Model;
+use sw_data::{KeptCache, NoMemory, Op, Options, Request, Response, Text};
+
+// The most caches that there may be.
+const CACHES_LIMIT: usize = 4_294_967_295;
+
+/// The caches of all keys, in order of creation (Service Workers, "name to cache map").
+#[derive(Drop)]
+pub struct Caches {
+    rows: Vec<Row>,
+}
+
+impl Model for Caches {
+    ghost use Rattle.std.specs.Prelude.{◌<◌, ◌-◌, ◌^◌, length, vec_len, vec_capacity};
+    ghost use Rattle.sw_caches.specs.Tables.{Table, table};
+
+    ghost Value = { Table };
+
+    ghost view = { λ caches.
+        table caches.rows.items (vec_capacity caches.rows - vec_len caches.rows) };
+
+    ghost invariant = { λ caches. length caches.rows.items < 2 ^ 32 };
+}
+
+/// Where a match is: the place of the cache among those of its key, and the place of the pair.
+#[derive(Debug, Clone, Copy, PartialEq, Eq)]
+pub struct Hit {
+    pub cache: u32,
+    pub place: u32,
+}
+
+/// A cache that was made and isn't in the table yet.
+#[derive(Drop)]
+pub struct NewCache {
+    row: Row,
+}
+
+impl Model for NewCache {
+    ghost use Rattle.sw_data.specs.declared.storage.KeptCache.{KeptCache};
+    ghost use Rattle.sw_caches.specs.Tables.{kept_row};
+
+    ghost Value = { KeptCache };
+
+    ghost view = { λ new. kept_row new.row };
+}
+
+/// A batch on a cache, worked out.
+#[derive(Drop)]
+pub struct CachePlan {
+    pub(crate) place: usize,
+    pub(crate) change: PairsPlan,
+}
+
+// A batch on the cache at a place, worked out.
+fn plan_row(
+    row: &mut Row,
+    alloc: Global,
+    place: usize,
+    ops: Vec<Op>,
+) -> Result<CachePlan, BatchFault>
+    ensures same { kept_row row.new ≡ kept_row row.old }
+    ensures place { IfOk result (λ plan. plan.place ≡ place) }
+    ensures fits { IfOk result (λ plan. Fits plan.change row.new.pairs) }
+    ensures ok { IfOk result (λ plan.
+        batch row.old.pairs.pairs ops.items ≡ Ok (carried plan.change row.old.pairs.pairs)) }
+    ensures err { IfErr result (λ fault. IsThrown fault (batch row.old.pairs.pairs ops.items)) }
+{
+    match row.pairs.plan(alloc, ops) {
+        Ok(change) => Ok(CachePlan { place, change }),
+        Err(fault) => Err(fault),
+    }
+}
+
+impl Caches {
+    /// No caches; it takes no memory.
+    pub fn new(alloc: Global) -> Caches
+        ensures { result.rows ≡ [] }
+    {
+        Caches {
+            rows: Vec::new(alloc),
+        }
+    }
+
+    /// The caches of a kept content.
+    pub fn from_kept(alloc: Global, kept: Vec<KeptCache>) -> Result<Caches, NoMemory>
+        ensures { IfOk result (λ caches. caches.rows ≡ kept.items) }
+    {
+        if kept.len() > CACHES_LIMIT {
+            return Err(NoMemory);
+        }
+        let rows = rows_of(alloc, kept)?;
+        Ok(Caches { rows })
+    }
+
+    /// The caches as they are kept, as a list of its own.
+    pub fn to_kept(&self, alloc: Global) -> Result<Vec<KeptCache>, NoMemory>
+        ensures { IfOk result (λ kept. kept.items ≡ self.now.rows) }
+    {
+        kept_of(alloc, &self.rows)
+    }
+
+    /// The caches as they are kept, none of their pairs copied.
+    pub fn into_kept(self, alloc: Global) -> Result<Vec<KeptCache>, NoMemory>
+        ensures { IfOk result (λ kept. kept.items ≡ self.rows) }
+    {
+        into_kept(alloc, self.rows)
+    }
+
+    /// Whether a key has a cache of this name; it takes no memory.
+    pub fn has(&self, key: &Text, name: &Text) -> bool
+        ensures { result ≡ is_some (pairs_of key.now name.now self.now.rows) }
+    {
+        match place_in(&self.rows, key, name) {
+            Some(_) => true,
+            None => false,
+        }
+    }
+
+    /// An empty cache of this name, which isn't there yet, and the room for it.
+    pub fn make_row(&mut self, alloc: Global, key: &Text, name: &Text) -> Result<NewCache, NoMemory>
+        ensures same { self.new.rows ≡ self.old.rows }
+        ensures row { IfOk result (λ new. new ≡ empty_cache key.now name.now) }
+        ensures fits { OnOk result (HasRoom self.new) }
+    {
+        if self.rows.len() >= CACHES_LIMIT {
+            return Err(NoMemory);
+        }
+        self.rows.reserve(1)?;
+        Ok(NewCache {
+            row: Row {
+                key: key.copy(alloc)?,
+                name: name.copy(alloc)?,
+                pairs: Pairs::new(alloc),
+            },
+        })
+    }
+
+    /// Adds a cache that was made; it takes no memory.
+    pub fn make_put(&mut self, new: NewCache)
+        requires { HasRoom self.old }
+        ensures { self.new.rows ≡ self.old.rows ++ new ∷ [] }
+    {
+        self.rows.push_reserved(new.row);
+    }
+
+    /// Makes an empty cache where the key has none of this name, and says whether it did.
+    pub fn make(&mut self, alloc: Global, key: &Text, name: &Text) -> Result<bool, NoMemory>
+        ensures made { IfOk result (λ made.
+            made ≡ not (is_some (pairs_of key.now name.now self.old.rows))) }
+        ensures rows { OnOk result (self.new.rows
+            ≡ (if is_some (pairs_of key.now name.now self.old.rows) then self.old.rows
+            else self.old.rows ++ empty_cache key.now name.now ∷ [])) }
+        ensures err { OnErr result (self.new.rows ≡ self.old.rows) }
+    {
+        if self.has(key, name) {
+            return Ok(false);
+        }
+        let new = self.make_row(alloc, key, name)?;
+        self.make_put(new);
+        Ok(true)
+    }
+
+    /// Removes the cache of this name, and says whether there was one; it takes no memory.
+    pub fn delete(&mut self, key: &Text, name: &Text) -> bool
+        ensures found { result ≡ is_some (pairs_of key.now name.now self.old.rows) }
+        ensures rows { self.new.rows
+            ≡ filter (λ row. not (is_cache key.now name.now row)) self.old.rows }
+    {
+        let found = self.has(key, name);
+        drop_cache(&mut self.rows, key, name);
+        found
+    }
+
+    /// Whether the key has no cache; it takes no memory.
+    #[tactic(auto, using(crate::proofs::TableLemmas::any_mapped))]
+    pub fn is_empty_key(&self, key: &Text) -> bool
+        ensures { result ≡ not (list_any (λ row. bytes_eq row.key key.now) self.now.rows) }
+    {
+        !has_key(&self.rows, key)
+    }
+
+    /// Removes the caches of a key; it takes no memory.
+    pub fn drop_key(&mut self, key: &Text)
+        ensures { self.new.rows ≡ filter (λ row. not (bytes_eq row.key key.now)) self.old.rows }
+    {
+        drop_key(&mut self.rows, key);
+    }
+
+    /// The names of a key's caches, in order of creation.
+    pub fn names(&self, alloc: Global, key: &Text) -> Result<Vec<Text>, NoMemory>
+        ensures { IfOk result (λ names. names.items
+            ≡ map (λ row. row.name) (caches_of key.now self.now.rows)) }
+    {
+        names_of(alloc, &self.rows, key)
+    }
+
+    /// How many caches there are; it takes no memory.
+    pub fn len(&self) -> usize
+        ensures { result ≡ length self.now.rows }
+    {
+        self.rows.len()
+    }
+
+    /// Key and name of the cache at a place in the order of creation over all keys; it takes no
+    /// memory.
+    pub fn at(&self, place: u32) -> Option<(&Text, &Text)>
+        ensures { option_map (λ found. (found.0.now, found.1.now)) result
+            ≡ option_map key_and_name (slice_get self.now.rows place) }
+    {
+        let row = self.rows.get(place as usize)?;
+        Some((&row.key, &row.name))
+    }
+
+    /// How many pairs the cache of this name has; it takes no memory.
+    pub fn len_of(&self, key: &Text, name: &Text) -> Option<usize>
+        ensures { result ≡ option_map length (pairs_of key.now name.now self.now.rows) }
+    {
+        match place_in(&self.rows, key, name) {
+            Some(place) => Some(self.rows[place].pairs.len()),
+            None => None,
+        }
+    }
+
+    /// The pair at a place of the cache of this name; it takes no memory.
+    pub fn pair_at(&self, key: &Text, name: &Text, place: u32) -> Option<&(Request, Response)>
+        ensures { option_copied result ≡ option_and_then (λ pairs. slice_get pairs place)
+            (pairs_of key.now name.now self.now.rows) }
+    {
+        match place_in(&self.rows, key, name) {
+            Some(row) => self.rows[row].pairs.get(place as usize),
+            None => None,
+        }
+    }
+
+    /// A batch on the cache of this name, worked out with all its room. Any refusal leaves all as
+    /// it was.
+    pub fn plan(
+        &mut self,
+        alloc: Global,
+        key: &Text,
+        name: &Text,
+        ops: Vec<Op>,
+    ) -> Result<CachePlan, BatchFault>
+        ensures same { self.new.rows ≡ self.old.rows }
+        ensures fits { IfOk result (λ plan. FitsTable plan self.new.indexes) }
+        ensures ok { IfOk result (λ plan. IsBatch key.now name.now ops.items self.old.rows
+            (carried_rows plan self.old.rows)) }
+        ensures err { IfErr result (IsRefused key.now name.now ops.items self.old.rows) }
+    {
+        match place_in(&self.rows, key, name) {
+            Some(place) => self.plan_at(alloc, place, ops),
+            None => Err(BatchFault::CacheGone),
+        }
+    }
+
+    fn plan_at(
+        &mut self,
+        alloc: Global,
+        place: usize,
+        ops: Vec<Op>,
+    ) -> Result<CachePlan, BatchFault>
+        requires { place < length self.old.rows }
+        ensures same { self.new.rows ≡ self.old.rows }
+        ensures fits { IfOk result (λ plan. FitsTable plan self.new.indexes) }
+        ensures place { IfOk result (λ plan. plan.place ≡ place) }
+        ensures ok { IfOk result (λ plan. (row : KeptCache)
+            → slice_get self.old.rows place ≡ Some row
+            → batch row.pairs ops.items ≡ Ok (carried plan.change row.pairs)) }
+        ensures err { IfErr result (λ fault. (row : KeptCache)
+            → slice_get self.old.rows place ≡ Some row
+            → IsThrown fault (batch row.pairs ops.items)) }
+    {
+        plan_row(&mut self.rows[place], alloc, place, ops)
+    }
+
+    /// Carries a plan out; it takes no memory.
+    pub fn carry_out(&mut self, plan: CachePlan)
+        requires { FitsTable plan self.old.indexes }
+        ensures { self.new.rows ≡ carried_rows plan self.old.rows }
+    {
+        let CachePlan { place, change } = plan;
+        self.rows[place].pairs.carry_out(change);
+    }
+
+    /// A batch on the cache of this name (Service Workers, Appendix A, "Batch Cache Operations").
+    /// Any refusal leaves all as it was.
+    pub fn batch(
+        &mut self,
+        alloc: Global,
+        key: &Text,
+        name: &Text,
+        ops: Vec<Op>,
+    ) -> Result<(), BatchFault>
+        ensures ok { OnOk result (IsBatch key.now name.now ops.items self.old.rows self.new.rows) }
+        ensures same { OnErr result (self.new.rows ≡ self.old.rows) }
+        ensures err { IfErr result (IsRefused key.now name.now ops.items self.old.rows) }
+    {
+        let plan = self.plan(alloc, key, name, ops)?;
+        self.carry_out(plan);
+        Ok(())
+    }
+
+    /// The places of the pairs of the cache of this name that a query matches, rising.
+    pub fn places(
+        &self,
+        alloc: Global,
+        key: &Text,
+        name: &Text,
+        query: &Request,
+        options: Options,
+    ) -> Result<Vec<u32>, CacheFault>
+        ensures places { IfOk result (λ places.
+            option_map (λ pairs. query_of pairs query.now options)
+            (pairs_of key.now name.now self.now.rows) ≡ Some places.items) }
+        ensures gone { IsErrOf result CacheFault.CacheGone
+            ↔ (pairs_of key.now name.now self.now.rows ≡ None) }
+    {
+        match place_in(&self.rows, key, name) {
+            Some(place) => Ok(self.rows[place].pairs.places(alloc, query, options)?),
+            None => Err(CacheFault::CacheGone),
+        }
+    }
+
+    /// All places of the cache of this name, or those of the pairs that a query matches, rising.
+    pub fn keys(
+        &self,
+        alloc: Global,
+        key: &Text,
+        name: &Text,
+        query: Option<&Request>,
+        options: Options,
+    ) -> Result<Vec<u32>, CacheFault>
+        ensures places { IfOk result (λ places.
+            option_map (λ pairs. asked_places pairs (option_copied query.entry) options)
+            (pairs_of key.now name.now self.now.rows) ≡ Some places.items) }
+        ensures gone { IsErrOf result CacheFault.CacheGone
+            ↔ (pairs_of key.now name.now self.now.rows ≡ None) }
+    {
+        match query {
+            Some(query) => self.places(alloc, key, name, query, options),
+            None => self.all_places(alloc, key, name),
+        }
+    }
+
+    fn all_places(&self, alloc: Global, key: &Text, name: &Text) -> Result<Vec<u32>, CacheFault>
+        ensures places { IfOk result (λ places.
+            option_map (λ pairs. range_with_len 0 (length pairs))
+            (pairs_of key.now name.now self.now.rows) ≡ Some places.items) }
+        ensures gone { IsErrOf result CacheFault.CacheGone
+            ↔ (pairs_of key.now name.now self.now.rows ≡ None) }
+    {
+        match place_in(&self.rows, key, name) {
+            Some(place) => Ok(self.rows[place].pairs.all(alloc)?),
+            None => Err(CacheFault::CacheGone),
+        }
+    }
+
+    /// Whether a query has a match in the cache of this name; it takes no memory.
+    pub fn has_match(
+        &self,
+        key: &Text,
+        name: &Text,
+        query: &Request,
+        options: Options,
+    ) -> Option<bool>
+        ensures { result ≡ option_map (λ pairs. is_some (first_match pairs query.now options))
+            (pairs_of key.now name.now self.now.rows) }
+    {
+        match place_in(&self.rows, key, name) {
+            Some(place) => Some(self.rows[place].pairs.first(query, options).is_some()),
+            None => None,
+        }
+    }
+
+    /// The first match in the first cache of a key that has one, in order of creation, or in the
+    /// cache of this name alone, as the answer of a look-up has it (Service Workers, CacheStorage,
+    /// "match()"); it takes no memory.
+    pub fn find(
+        &self,
+        key: &Text,
+        name: Option<&Text>,
+        query: &Request,
+        options: Options,
+    ) -> Option<Found<'_>>
+        ensures { option_map_or found_answer result answer.None
+            ≡ first_hit query.now options
+            (asked_caches key.now (option_copied name.entry) self.now.rows) }
+    {
+        first_found(&self.rows, key, name, query, options)
+    }
+
+    /// The first match in the first cache of a key that has one, in order of creation, or in the
+    /// cache of this name alone (Service Workers, CacheStorage, "match()"); it takes no memory.
+    pub fn match_any(
+        &self,
+        key: &Text,
+        name: Option<&Text>,
+        query: &Request,
+        options: Options,
+    ) -> Option<Hit>
+        ensures { option_map (λ hit. (hit.cache, hit.place)) result
+            ≡ hit_from 0 (option_copied name.entry) query.now options
+            (caches_of key.now self.now.rows) }
+    {
+        first_hit(&self.rows, key, name, query, options)
+    }
+}

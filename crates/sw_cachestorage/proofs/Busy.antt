@@ -1,0 +1,214 @@
+-- Handlers and fetch events of a key are those of the workers of its registrations.
+use Rattle.std.proofs.Common.{◌≡◌, ◌∙◌, ◌&&◌, ◌||◌, ◌==◌, ℕ, Bool, true, false, List, [], ◌∷◌, map, bytes_eq, is_some, Option, Some, None, option_map, option_and_then, refl, sym, ap, arith}
+use Rattle.std.specs.Prelude.{find, is_none}
+use Rattle.std.specs.List.{list_any, range_with_len}
+use Rattle.std.specs.Option.{option_map_or}
+use Rattle.std.specs.Cmp.Lexicographic.{bytes_decides}
+use Rattle.std.proofs.lemmas.Bool.{and_parts}
+use Rattle.std.proofs.lemmas.Bool.Decides.{nat_tests}
+use Rattle.std.proofs.lemmas.List.{length-map}
+use Rattle.sw_client.specs.Table as clients
+use Rattle.sw_client.specs.Table.{clients_of}
+use Rattle.sw_reg.specs.Table as registrations
+use Rattle.sw_data.specs.declared.rows.JobRow.{JobRow}
+use Rattle.sw_rules.specs.Caching.{is_busy, is_worker_of_key}
+use Rattle.sw_rules.specs.Rows.{has_pending_worker, is_registration, is_unfinished, is_worker}
+use Rattle.sw_rules.specs.State.{State, AddAll, FetchEvent, Registration, Worker}
+use Rattle.sw_scope.specs.Scopes.{Scopes}
+use Rattle.sw_tables.proofs.Pending.{any_here}
+use Rattle.sw_tables.proofs.Rows.{any_map, find_passes, found_at, found_number}
+use Rattle.sw_tables.specs.Lent.{Rest, lent, shown_registration, shown_worker}
+use Rattle.sw_tables.specs.Linked.{ArePlaces, HasSlots}
+use Rattle.sw_worker.specs.Table as workers
+
+any_find : {X : Type 0} (test : X → Bool) (xs : List X) → list_any test xs ≡ true → (x : X) × (find test xs ≡ Some x)
+any_find test [] is = absurd cc
+any_find {X = X} test (x ∷ xs) is = by (test x) refl (any_find test xs)
+  where
+    by : (b : Bool) → test x ≡ b → (list_any test xs ≡ true → (y : X) × (find test xs ≡ Some y)) → (y : X) × (find test (x ∷ xs) ≡ Some y)
+    by true passes rest = (x, cc (passes))
+    by false fails rest = let later = rest (grind (arith, fails, is)) in let same = later.1 in (later.0, grind (arith, fails, same))
+
+same_tests : (a b : Bool) → (a ≡ true → b ≡ true) → (b ≡ true → a ≡ true) → a ≡ b
+same_tests true b to from = sym (to refl)
+same_tests false true to from = from refl
+same_tests false false to from = refl
+
+bytes_back : (x y : List ℕ) → bytes_eq x y ≡ true → bytes_eq y x ≡ true
+bytes_back x y is = (bytes_decides y x).1 (sym ((bytes_decides x y).0 is))
+
+pub places_shown : {X Y : Type 0} (number : X → ℕ) (other : Y → ℕ) (shown : X → Y) → ((x : X) → other (shown x) ≡ number x) → (xs : List X) → ArePlaces number xs → ArePlaces other (map shown xs)
+places_shown number other shown same xs are = numbers xs ∙ (are ∙ ap (range_with_len 0) (sym (length-map xs shown)))
+  where
+    numbers : (ys : List _) → map other (map shown ys) ≡ map number ys
+    numbers [] = refl
+    numbers (y ∷ ys) = let first = same y in let rest = numbers ys in cc (first, rest)
+
+module _ (state : State) (key : List ℕ) (of_workers : ArePlaces (λ (w : Worker). w.number) state.workers) (of_registrations : ArePlaces (λ (r : Registration). r.number) state.registrations) where
+  abbrev runs : Worker → Bool
+  runs row = is_some row.handler && is_worker_of_key state key row.number
+
+  abbrev on_key : FetchEvent → Bool
+  on_key row = is_worker_of_key state key row.worker
+
+  abbrev pends : Registration → Bool
+  pends row = bytes_eq row.key key && has_pending_worker state row.number
+
+  abbrev pends_in : ℕ → Worker → Bool
+  pends_in registration row = row.registration == registration && (is_some row.handler || list_any (λ event. event.worker == row.number) state.fetch_events)
+
+  record Owner (number : ℕ) : Type 0 where
+    worker : Worker
+    registration : Registration
+    of_worker : find (is_worker number) state.workers ≡ Some worker
+    of_registration : find (is_registration worker.registration) state.registrations ≡ Some registration
+    has_key : bytes_eq registration.key key ≡ true
+
+  owner : (number : ℕ) → is_worker_of_key state key number ≡ true → Owner number
+  owner number is = by (find (is_worker number) state.workers) refl is
+    where
+      with_row : (w : Worker) (r : Option Registration) → find (is_worker number) state.workers ≡ Some w → find (is_registration w.registration) state.registrations ≡ r
+          → option_map_or (bytes_eq key) (option_map (λ row. row.key) r) false ≡ true → Owner number
+      with_row w None there none is = absurd cc
+      with_row w (Some r) there found is = record {
+        worker = w;
+        registration = r;
+        of_worker = there;
+        of_registration = found;
+        has_key = bytes_back key r.key is;
+      }
+
+      by : (w : Option Worker) → find (is_worker number) state.workers ≡ w
+          → option_map_or (bytes_eq key) (option_map (λ row. row.key) (option_and_then (λ n. find (is_registration n) state.registrations) (option_map (λ row. row.registration) w))) false ≡ true
+          → Owner number
+      by None none is = absurd cc
+      by (Some w) there is = with_row w (find (is_registration w.registration) state.registrations) there refl is
+
+  owned : (number : ℕ) (w : Worker) (r : Registration) → find (is_worker number) state.workers ≡ Some w → find (is_registration w.registration) state.registrations ≡ Some r → bytes_eq r.key key ≡ true
+      → is_worker_of_key state key number ≡ true
+  owned number w r there found own = let back = bytes_back r.key key own in cc (there, found, back)
+
+  -- a worker of the key on which something is pending makes its registration pending
+  pending_by : (p : Worker → Bool) (w : Worker) (r : Registration) → find p state.workers ≡ Some w → find (is_registration w.registration) state.registrations ≡ Some r → bytes_eq r.key key ≡ true
+      → (is_some w.handler || list_any (λ event. event.worker == w.number) state.fetch_events) ≡ true → list_any pends state.registrations ≡ true
+  pending_by p w r there found own pending =
+      let number = found_number (λ r. r.number) w.registration state.registrations r found in
+      let same : (w.registration == r.number) ≡ true = grind (arith, nat_tests, number) in
+      let any : has_pending_worker state r.number ≡ true = any_here p (pends_in r.number) state.workers w there (cc (same, pending)) in
+      any_here (is_registration w.registration) pends state.registrations r found (cc (own, any))
+
+  by_handler : list_any runs state.workers ≡ true → list_any pends state.registrations ≡ true
+  by_handler is =
+      let found = any_find runs state.workers is in
+      let w = found.0 in
+      let parts = and_parts (is_some w.handler) (is_worker_of_key state key w.number) (find_passes runs state.workers w found.1) in
+      let at = found_at (λ w. w.number) runs state.workers w of_workers found.1 in
+      let own = owner w.number parts.1 in
+      let one : own.worker ≡ w = (let there = own.of_worker in cc (at, there)) in
+      let running = parts.0 in
+      pending_by (is_worker w.number) own.worker own.registration own.of_worker own.of_registration own.has_key (cc (one, running))
+
+  by_event : list_any on_key state.fetch_events ≡ true → list_any pends state.registrations ≡ true
+  by_event is =
+      let found = any_find on_key state.fetch_events is in
+      let e = found.0 in
+      let own = owner e.worker (find_passes on_key state.fetch_events e found.1) in
+      let number = found_number (λ w. w.number) e.worker state.workers own.worker own.of_worker in
+      let same : (e.worker == own.worker.number) ≡ true = grind (arith, nat_tests, number) in
+      let any = any_here on_key (λ event. event.worker == own.worker.number) state.fetch_events e found.1 same in
+      pending_by (is_worker e.worker) own.worker own.registration own.of_worker own.of_registration own.has_key (later (is_some own.worker.handler) _ any)
+    where
+      later : (a b : Bool) → b ≡ true → (a || b) ≡ true
+      later true b is = refl
+      later false b is = is
+
+  back : list_any pends state.registrations ≡ true → (list_any runs state.workers || list_any on_key state.fetch_events) ≡ true
+  back is = by (is_some w.handler) refl
+    where
+      found : (r : Registration) × (find pends state.registrations ≡ Some r)
+      found = any_find pends state.registrations is
+
+      r : Registration
+      r = found.0
+
+      parts : (bytes_eq r.key key ≡ true) × (has_pending_worker state r.number ≡ true)
+      parts = and_parts (bytes_eq r.key key) (has_pending_worker state r.number) (find_passes pends state.registrations r found.1)
+
+      worker : (w : Worker) × (find (pends_in r.number) state.workers ≡ Some w)
+      worker = any_find (pends_in r.number) state.workers parts.1
+
+      w : Worker
+      w = worker.0
+
+      pending : ((w.registration == r.number) ≡ true) × ((is_some w.handler || list_any (λ event. event.worker == w.number) state.fetch_events) ≡ true)
+      pending = and_parts (w.registration == r.number) (is_some w.handler || list_any (λ event. event.worker == w.number) state.fetch_events) (find_passes (pends_in r.number) state.workers w worker.1)
+
+      at_r : find (is_registration w.registration) state.registrations ≡ Some r
+      at_r =
+          let same : w.registration ≡ r.number = (let is_it = pending.0 in grind (arith, nat_tests, is_it)) in
+          ap (λ n. find (is_registration n) state.registrations) same ∙ found_at (λ r. r.number) pends state.registrations r of_registrations found.1
+
+      at_w : find (is_worker w.number) state.workers ≡ Some w
+      at_w = found_at (λ w. w.number) (pends_in r.number) state.workers w of_workers worker.1
+
+      own : is_worker_of_key state key w.number ≡ true
+      own = owned w.number w r at_w at_r parts.0
+
+      by_or : (a b : Bool) → a ≡ true → (a || b) ≡ true
+      by_or true b is = refl
+      by_or false b is = absurd cc
+
+      or_else : (a b : Bool) → b ≡ true → (a || b) ≡ true
+      or_else true b is = refl
+      or_else false b is = is
+
+      by : (b : Bool) → is_some w.handler ≡ b → (list_any runs state.workers || list_any on_key state.fetch_events) ≡ true
+      by true running = by_or (list_any runs state.workers) _ (any_here (pends_in r.number) runs state.workers w worker.1 (cc (running, own)))
+      by false idle =
+          let any : list_any (λ event. event.worker == w.number) state.fetch_events ≡ true = (let both = pending.1 in grind (arith, idle, both)) in
+          let event = any_find (λ event. event.worker == w.number) state.fetch_events any in
+          let here = find_passes (λ event. event.worker == w.number) state.fetch_events event.0 event.1 in
+          let same : w.number ≡ event.0.worker = grind (arith, nat_tests, here) in
+          or_else (list_any runs state.workers) _
+          (any_here (λ event. event.worker == w.number) on_key state.fetch_events event.0 event.1 (ap (λ n. is_worker_of_key state key n) (sym same) ∙ own))
+
+  pub pending_of_key : (list_any runs state.workers || list_any on_key state.fetch_events) ≡ list_any pends state.registrations
+  pending_of_key = same_tests _ _ (forth (list_any runs state.workers) (list_any on_key state.fetch_events) by_handler by_event) back
+    where
+      forth : (a b : Bool) → (a ≡ true → list_any pends state.registrations ≡ true) → (b ≡ true → list_any pends state.registrations ≡ true) → (a || b) ≡ true → list_any pends state.registrations ≡ true
+      forth true b first second is = first refl
+      forth false b first second is = second is
+
+-- the same in the state of linked tables
+pub pending_lent : (scopes : Scopes) (of_workers : workers.Table) (of_registrations : registrations.Table) (of_clients : clients.Table) (rest : Rest) (key : List ℕ) → HasSlots of_workers of_registrations
+    → (let state = lent scopes of_workers of_registrations of_clients rest in
+    (list_any (λ row. is_some row.handler && is_worker_of_key state key row.number) state.workers || list_any (λ row. is_worker_of_key state key row.worker) state.fetch_events))
+    ≡ list_any (λ row. bytes_eq row.key key && has_pending_worker (lent scopes of_workers of_registrations of_clients rest) row.number) of_registrations.rows
+pending_lent scopes of_workers of_registrations of_clients rest key has =
+    let state = lent scopes of_workers of_registrations of_clients rest in
+    pending_of_key state key
+    (places_shown (λ row. row.number) (λ (w : Worker). w.number) shown_worker (λ row. refl) of_workers.rows has.worker_places)
+    (places_shown (λ row. row.number) (λ (r : Registration). r.number) (shown_registration scopes rest) (λ row. refl) of_registrations.rows has.registration_places)
+    ∙ any_map (λ row. bytes_eq row.key key && has_pending_worker state row.number) (shown_registration scopes rest) of_registrations.rows
+
+five : (a b c d e p : Bool) → (c || d) ≡ p → (a || b || c || d || e) ≡ (a || (b || (p || e)))
+five true b c d e p is = refl
+five false true c d e p is = refl
+five false false true d e p is = ap (λ q. q || e) is
+five false false false true e p is = ap (λ q. q || e) is
+five false false false false e p is = ap (λ q. q || e) is
+
+-- a key is busy, part by part
+pub busy_as : (scopes : Scopes) (of_workers : workers.Table) (of_registrations : registrations.Table) (of_clients : clients.Table) (rest : Rest) (jobs : List JobRow) (tasks : List AddAll) (key : List ℕ)
+    → HasSlots of_workers of_registrations → rest.jobs ≡ jobs → rest.tasks ≡ tasks
+    → is_busy (lent scopes of_workers of_registrations of_clients rest) key
+    ≡ (list_any (λ row. bytes_eq row.key key) (clients_of of_clients)
+    || (list_any (λ row. is_unfinished row && bytes_eq row.job.key key) jobs
+    || (list_any (λ row. bytes_eq row.key key && has_pending_worker (lent scopes of_workers of_registrations of_clients rest) row.number) of_registrations.rows
+    || list_any (λ row. is_none row.settled && bytes_eq row.key key) tasks)))
+busy_as scopes of_workers of_registrations of_clients rest jobs tasks key has of_jobs of_tasks =
+    five _ _ _ _ _ _ (pending_lent scopes of_workers of_registrations of_clients rest key has)
+    ∙ (λ i. list_any (λ row. bytes_eq row.key key) (clients_of of_clients)
+    || (list_any (λ row. is_unfinished row && bytes_eq row.job.key key) (of_jobs i)
+    || (list_any (λ row. bytes_eq row.key key && has_pending_worker (lent scopes of_workers of_registrations of_clients rest) row.number) of_registrations.rows
+    || list_any (λ row. is_none row.settled && bytes_eq row.key key) (of_tasks i))))

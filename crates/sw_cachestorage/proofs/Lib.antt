@@ -1,0 +1,17 @@
+pub mod AddedLemmas
+pub mod AddingLemmas
+pub mod BatchLemmas
+pub mod FetchedLemmas
+pub mod ForgetPlaces
+pub mod Forgotten
+pub mod KeyedLemmas
+pub mod LookupLemmas
+pub mod ParsedLemmas
+pub mod PlaceLemmas
+pub mod Busy
+pub mod Quiet
+pub mod Scans
+pub mod Settling
+pub mod StayQuiet
+pub mod UnparsedLemmas
+pub mod WriteLemmas

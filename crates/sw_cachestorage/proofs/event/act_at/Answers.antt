@@ -1,0 +1,21 @@
+-- What an action comes to is what its event comes to.
+use Rattle.std.proofs.Common.{sym, subst}
+use Rattle.std.specs.Prelude.{IfOk}
+use Rattle.std.specs.Option.{IfSome}
+use Rattle.sw_cachestorage.specs.Actions.{cache_action}
+use Rattle.sw_cachestorage.specs.Acts.{IsStep}
+use Rattle.sw_cachestorage.proofs.event.act_at.Goals as goal
+
+pub returns-in-CacheHas-clause-step : goal.returns-in-CacheHas-clause-step
+returns-in-CacheHas-clause-step c =
+    subst (λ event. IfSome (cache_action event) (λ action. IsStep c.args.caches.now.rows (λ state. action.act state c.args.key.now) c.has_cache.result)) (sym c.in-CacheHas.is) c.has_cache.ensures.step
+
+pub returns-in-MatchAll-clause-step : goal.returns-in-MatchAll-clause-step
+returns-in-MatchAll-clause-step c =
+    subst (λ event. IfOk c.query_cache.result (λ step. IfSome (cache_action event) (λ action. IsStep c.args.caches.now.rows (λ state. action.act state c.args.key.now) step))) (sym c.in-MatchAll.is)
+    c.query_cache.ensures.step
+
+pub returns-in-Keys-clause-step : goal.returns-in-Keys-clause-step
+returns-in-Keys-clause-step c =
+    subst (λ event. IfOk c.query_cache-in-Keys.result (λ step. IfSome (cache_action event) (λ action. IsStep c.args.caches.now.rows (λ state. action.act state c.args.key.now) step))) (sym c.in-Keys.is)
+    c.query_cache-in-Keys.ensures.step

@@ -1,0 +1,7 @@
+pub mod Actions
+pub mod Acts
+pub mod Added
+pub mod Adding
+pub mod Faults
+pub mod Forgetting
+pub mod Places

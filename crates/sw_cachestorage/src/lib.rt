@@ -1,0 +1,31 @@
+//! The state machine: what each event answers and does, worked out with all its room before it is done.
+//!
+//! So far it has the actions on caches, `addAll` up to its fetches and from their end on, whether a key is busy, and
+//! forgetting it.
+#![tactic(auto)]
+
+mod act;
+mod adding;
+mod caching;
+mod ended;
+mod event;
+mod forgetting;
+mod lookups;
+mod place;
+mod writes;
+
+pub use act::{CacheAct, CacheStep};
+pub use adding::{AddAllStep, NewAddAll, add_all, add_all_at, start_all};
+pub use caching::{delete_cache, open_cache};
+pub use ended::{AddedStep, added, settle_added};
+pub use event::{finish_on_caches, is_on_caches, prepare_on_caches};
+pub use forgetting::{forget, forget_one, is_busy, mapped_many};
+pub use place::place_key;
+pub use writes::{batch_ops, delete_request, parsed_ops, put_response};
+
+#[cfg(test)]
+mod adding_tests;
+#[cfg(test)]
+mod ended_tests;
+#[cfg(test)]
+mod tests;

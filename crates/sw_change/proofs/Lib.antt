@@ -1,0 +1,7 @@
+pub mod Apart
+pub mod CacheLemmas
+pub mod Entries
+pub mod Keyed
+pub mod LawLemmas
+pub mod Rebuilt
+pub mod Sound

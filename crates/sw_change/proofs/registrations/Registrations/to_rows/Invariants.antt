@@ -1,0 +1,6 @@
+use Rattle.std.proofs.Common.{◌≡◌, ◌++◌}
+use Rattle.sw_change.specs.Table.{kept_rows}
+use Rattle.sw_change.proofs.registrations.Registrations.to_rows.Given as goal
+
+abbrev pub invariant-loop-place : goal.invariant-loop-place
+invariant-loop-place l = l.rows.items ++ kept_rows l.place-iterator ≡ l.self

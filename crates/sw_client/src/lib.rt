@@ -1,0 +1,405 @@
+//! The table of clients: each is found by its number, and the users of each registration are counted.
+#![tactic(auto)]
+
+ghost use Rattle.std.specs.Prelude.{◌≡◌, ◌↔◌, ◌+◌, ◌-◌, ◌<◌, ◌≤◌, ◌^◌, ℕ, [], ◌++◌, ◌∷◌, true, false, max, nat_eq, length, filter, find, map, slice_get, IfSome, IfOk, IsErr, OnOk, OnErr, Some, None};
+ghost use Rattle.std.specs.List.{IsDistinct, list_any};
+ghost use Rattle.std.specs.Option.{option_and_then, option_copied, option_map, option_map_or};
+ghost use Rattle.indexmap.specs.IndexMap.{IsUnique, shift_remove_entry, spare};
+ghost use Rattle.sw_data.specs.declared.answers.Notice.TheVariants as notice;
+ghost use Rattle.sw_rules.specs.Rows.{changed, is_client, without};
+ghost use Rattle.sw_client.specs.Table.{Fits, clients_of, controlled_by, handed, is_open, uncontrolled, users_of, uses};
+
+mod counts;
+#[cfg(test)]
+mod tests;
+
+use indexmap::IndexMap;
+use std::alloc::Global;
+use std::marker::Model;
+use sw_data::{ClientRow, NoMemory, Notice, Text};
+use sw_rules::Notices;
+
+/// A client that is open, with the registration of its controller where it has one.
+#[derive(Drop)]
+pub struct OpenClient {
+    pub client: ClientRow,
+    pub registration: Option<u32>,
+}
+
+/// The clients, in order of opening. The hash of a number is fixed, so numbers can be chosen that collide.
+#[derive(Drop)]
+pub struct Clients {
+    rows: IndexMap<u32, OpenClient>,
+    counts: Vec<u32>,
+}
+
+impl Model for Clients {
+    ghost use Rattle.std.specs.Map.{values_of};
+    ghost use Rattle.std.specs.Vec.{vec_len};
+    ghost use Rattle.indexmap.specs.IndexMap.{spare};
+    ghost use Rattle.sw_client.specs.Table.{IsCounted, Table};
+
+    ghost Value = { Table };
+
+    ghost view = { λ clients. record {
+      rows = values_of clients.rows.entries;
+      known = vec_len clients.counts;
+      spare = spare clients.rows;
+    } };
+
+    ghost invariant = { λ clients. IsCounted clients.rows.entries clients.counts.items };
+}
+
+/// A finished row that isn't in the table yet. It means the row.
+#[derive(Drop)]
+pub struct NewClient {
+    row: OpenClient,
+}
+
+impl Model for NewClient {
+    ghost use Rattle.sw_client.specs.declared.OpenClient.{OpenClient};
+
+    ghost Value = { OpenClient };
+
+    ghost view = { λ new. new.row };
+}
+
+/// Why a client is not added: its number is there, or there is no memory.
+#[derive(Debug, Clone, Copy, PartialEq, Eq)]
+pub enum AddFault {
+    InUse,
+    NoMemory,
+}
+
+/// No client has this number.
+#[derive(Debug, Clone, Copy, PartialEq, Eq)]
+pub struct NoClient;
+
+// Takes a client out; the others keep their order.
+fn take_out(rows: &mut IndexMap<u32, OpenClient>, number: u32)
+    ensures entries { rows.new.entries ≡ shift_remove_entry (nat_eq number) rows.old.entries }
+    ensures unique { IsUnique nat_eq rows.new }
+    ensures room { spare rows.old ≤ spare rows.new }
+{
+    let _ = rows.shift_remove(&number);
+}
+
+// Gives a client a controller, a worker of a registration.
+fn give(row: &mut OpenClient, controller: (u32, u32))
+    ensures { row.new ≡ controlled_by controller row.old }
+{
+    row.client.controller = Some(controller.0);
+    row.registration = Some(controller.1);
+}
+
+// Takes the controller from a client.
+fn release(row: &mut OpenClient)
+    ensures { row.new ≡ uncontrolled row.old }
+{
+    row.client.controller = None;
+    row.registration = None;
+}
+
+// Whether a client uses a registration.
+fn is_user(row: &OpenClient, registration: u32) -> bool
+    ensures { result ≡ uses registration row.now }
+{
+    match row.registration {
+        Some(number) => number == registration,
+        None => false,
+    }
+}
+
+// Whether there is a client, and it uses a registration.
+fn is_one_user(row: Option<&OpenClient>, registration: u32) -> bool
+    ensures { result ≡ option_map_or (uses registration) (option_copied row.entry) false }
+{
+    match row {
+        Some(row) => is_user(row, registration),
+        None => false,
+    }
+}
+
+// Tells the clients that use a registration of their new controller.
+#[tactic(auto, using(crate::proofs::TakeOver::room_left))]
+fn tell(rows: &[OpenClient], registration: u32, notices: &mut Notices)
+    requires { users_of registration rows.now ≤ notices.old.spare }
+    ensures told { notices.new.rows ≡ notices.old.rows
+        ++ map (λ row. notice.ControllerChange row.client.number)
+        (filter (uses registration) rows.now) }
+    ensures room { notices.new.spare + users_of registration rows.now ≡ notices.old.spare }
+{
+    for row in rows {
+        if is_user(row, registration) {
+            notices.push(Notice::ControllerChange(row.client.number));
+        }
+    }
+}
+
+// A client gets this worker of a registration if it uses that one.
+fn pass_on(row: &mut OpenClient, registration: u32, worker: u32)
+    ensures { row.new ≡ handed registration worker row.old }
+{
+    if is_user(row, registration) {
+        give(row, (worker, registration));
+    }
+}
+
+// The clients that use a registration get this worker of it.
+fn hand_over(rows: &mut IndexMap<u32, OpenClient>, registration: u32, worker: u32)
+    ensures entries { rows.new.entries
+        ≡ map (λ entry. (entry.0, handed registration worker entry.1)) rows.old.entries }
+    ensures room { spare rows.new ≡ spare rows.old }
+{
+    for place in 0..rows.len() {
+        pass_on(&mut rows[place], registration, worker);
+    }
+}
+
+impl Clients {
+    /// No clients, and no registration known. It takes no memory.
+    pub fn new(alloc: Global) -> Clients
+        ensures rows { result.rows ≡ [] }
+        ensures known { result.known ≡ 0 }
+    {
+        Clients {
+            rows: IndexMap::new(alloc),
+            counts: Vec::new(alloc),
+        }
+    }
+
+    /// Makes the room to count the users of the registrations below this number; rows and counts stay. It stands apart
+    /// because `set_controller` takes no memory.
+    pub fn know(&mut self, registrations: u32) -> Result<(), NoMemory>
+        ensures ok { OnOk result (self.new
+            ≡ record self.old { known = max self.old.known registrations }) }
+        ensures err { OnErr result (self.new ≡ self.old) }
+    {
+        let known = self.counts.len().max(registrations as usize);
+        self.counts.resize(known, 0)?;
+        Ok(())
+    }
+
+    /// How many clients use a registration: none for an unknown one. It takes no memory.
+    pub fn users(&self, registration: u32) -> u32
+        ensures count { result ≡ users_of registration self.now.rows }
+        ensures unknown { self.now.known ≤ registration → result ≡ 0 }
+    {
+        counts::count_of(&self.counts, registration)
+    }
+
+    // The row of a number.
+    #[tactic(auto, using(crate::proofs::OfClients::found_by))]
+    fn found(&self, number: u32) -> Option<&OpenClient>
+        ensures { option_copied result ≡ find (is_open number) self.now.rows }
+    {
+        self.rows.get(&number)
+    }
+
+    /// The client of a number. It takes no memory.
+    #[tactic(auto, using(crate::proofs::OfClients::found_client))]
+    pub fn row(&self, number: u32) -> Option<&ClientRow>
+        ensures { option_copied result ≡ find (is_client number) (clients_of self.now) }
+    {
+        Some(&self.found(number)?.client)
+    }
+
+    /// The registration that a client uses. It takes no memory.
+    pub fn registration(&self, number: u32) -> Option<u32>
+        ensures { result ≡ option_and_then (λ row. row.registration)
+            (find (is_open number) self.now.rows) }
+    {
+        self.found(number)?.registration
+    }
+
+    /// How many clients use a registration, this one left out. It takes no memory.
+    pub fn other_users(&self, number: u32, registration: u32) -> u32
+        ensures { result
+            ≡ users_of registration (changed (is_open number) uncontrolled self.now.rows) }
+    {
+        if is_one_user(self.rows.get(&number), registration) {
+            self.users(registration) - 1
+        } else {
+            self.users(registration)
+        }
+    }
+
+    /// The client at a place in the order of opening. It takes no memory.
+    #[tactic(auto, using(crate::proofs::OfClients::client_at))]
+    pub fn at(&self, place: u32) -> Option<&ClientRow>
+        ensures { option_copied result ≡ slice_get (clients_of self.now) place }
+    {
+        let (_, row) = self.rows.get_index(place as usize)?;
+        Some(&row.client)
+    }
+
+    /// No two clients have one number. A call does nothing; its clause is the law.
+    pub fn are_apart(&self)
+        ensures { IsDistinct nat_eq (map (λ row. row.number) (clients_of self.now)) }
+    {
+        let _ = &self.rows;
+    }
+
+    /// How many clients there are. It takes no memory.
+    pub fn len(&self) -> u32
+        ensures { result ≡ length self.now.rows }
+    {
+        self.rows.len() as u32
+    }
+
+    // Whether a client is there. It takes no memory.
+    #[tactic(auto, using(crate::proofs::OfClients::is_there))]
+    fn has(&self, number: u32) -> bool
+        ensures { result ≡ list_any (is_client number) (clients_of self.now) }
+    {
+        self.rows.contains_key(&number)
+    }
+
+    // Makes room for one more client; the rows stay.
+    fn make_room(&mut self) -> Result<(), NoMemory>
+        ensures rows { self.new.rows ≡ self.old.rows }
+        ensures known { self.new.known ≡ self.old.known }
+        ensures room { OnOk result (0 < self.new.spare) }
+        ensures few { OnOk result (length self.new.rows < 2 ^ 32 - 1) }
+    {
+        if self.len() == u32::MAX {
+            return Err(NoMemory);
+        }
+        self.rows.reserve(1)?;
+        Ok(())
+    }
+
+    /// Makes room for a client, and its row: its number, its address, its key, whether it is secure, and the worker and
+    /// the registration that control it. The rows stay as they were. A count or a number past its type is want of
+    /// memory.
+    pub fn add_row(
+        &mut self,
+        _alloc: Global,
+        number: u32,
+        url: Text,
+        key: Text,
+        secure: bool,
+        controller: Option<(u32, u32)>,
+    ) -> Result<NewClient, AddFault>
+        requires { IfSome controller (λ c. c.1 < self.old.known) }
+        ensures rows { self.new.rows ≡ self.old.rows }
+        ensures known { self.new.known ≡ self.old.known }
+        ensures row { IfOk result (λ new. new ≡ record {
+          client = record {
+            number = number;
+            url = url;
+            key = key;
+            secure = secure;
+            controller = option_map (λ c. c.0) controller;
+          };
+          registration = option_map (λ c. c.1) controller;
+        }) }
+        ensures fits { IfOk result (λ new. Fits new self.new) }
+        ensures in_use { (result ≡ Err AddFault.InUse)
+            ↔ (list_any (is_client number) (clients_of self.old) ≡ true) }
+    {
+        if self.has(number) {
+            return Err(AddFault::InUse);
+        }
+        match self.make_room() {
+            Ok(()) => Ok(NewClient {
+                row: OpenClient {
+                    client: ClientRow {
+                        number,
+                        url,
+                        key,
+                        secure,
+                        controller: controller.map(|c| c.0),
+                    },
+                    registration: controller.map(|c| c.1),
+                },
+            }),
+            Err(_) => Err(AddFault::NoMemory),
+        }
+    }
+
+    /// Adds a row that was made, last. It takes no memory.
+    pub fn add_put(&mut self, row: NewClient)
+        requires { Fits row self.old }
+        ensures rows { self.new.rows ≡ self.old.rows ++ row ∷ [] }
+        ensures known { self.new.known ≡ self.old.known }
+        ensures room { self.old.spare ≤ self.new.spare + 1 }
+    {
+        counts::raise(&mut self.counts, row.row.registration);
+        let _ = self.rows.insert(row.row.client.number, row.row);
+    }
+
+    /// A client leaves. It takes no memory.
+    pub fn remove(&mut self, number: u32) -> Result<(), NoClient>
+        ensures none { IsErr result
+            ↔ (find (is_client number) (clients_of self.old) ≡ None) }
+        ensures err { OnErr result (self.new ≡ self.old) }
+        ensures rows { OnOk result (self.new.rows ≡ without (is_open number) self.old.rows) }
+        ensures clients { OnOk result (clients_of self.new
+            ≡ without (is_client number) (clients_of self.old)) }
+        ensures known { self.new.known ≡ self.old.known }
+        ensures room { self.old.spare ≤ self.new.spare }
+    {
+        let Some(gone) = self.rows.get(&number) else {
+            return Err(NoClient);
+        };
+        counts::lower(&mut self.counts, gone.registration);
+        take_out(&mut self.rows, number);
+        Ok(())
+    }
+
+    /// A client gets a controller, a worker of a registration that is known. It takes no memory.
+    pub fn set_controller(&mut self, number: u32, controller: (u32, u32)) -> Result<(), NoClient>
+        requires { controller.1 < self.old.known }
+        ensures none { IsErr result
+            ↔ (find (is_client number) (clients_of self.old) ≡ None) }
+        ensures err { OnErr result (self.new ≡ self.old) }
+        ensures rows { OnOk result (self.new ≡ record self.old {
+          rows = changed (is_open number) (controlled_by controller) self.old.rows;
+        }) }
+        ensures clients { OnOk result (clients_of self.new ≡ changed (is_client number)
+            (λ row. record row { controller = Some controller.0 }) (clients_of self.old)) }
+    {
+        let Some(row) = self.rows.get_mut(&number) else {
+            return Err(NoClient);
+        };
+        counts::exchange(&mut self.counts, row.registration, controller.1);
+        give(row, controller);
+        Ok(())
+    }
+
+    /// A client has no controller any more; nothing happens where its number isn't there. It takes no memory.
+    pub fn unset_controller(&mut self, number: u32)
+        ensures rows { self.new ≡ record self.old {
+          rows = changed (is_open number) uncontrolled self.old.rows;
+        } }
+        ensures users { (registration : ℕ)
+            → users_of registration self.new.rows ≤ users_of registration self.old.rows }
+    {
+        let Some(row) = self.rows.get_mut(&number) else {
+            return;
+        };
+        counts::lower(&mut self.counts, row.registration);
+        release(row);
+    }
+
+    /// The clients that use a registration get this worker of it as controller and are told, in order of opening. It
+    /// takes no memory, and looks at no client where none uses the registration.
+    pub fn take_over(&mut self, registration: u32, worker: u32, notices: &mut Notices)
+        requires { users_of registration self.old.rows ≤ notices.old.spare }
+        ensures rows { self.new ≡ record self.old {
+          rows = changed (uses registration) (controlled_by (worker, registration)) self.old.rows;
+        } }
+        ensures told { notices.new.rows ≡ notices.old.rows
+            ++ map (λ row. notice.ControllerChange row.client.number)
+            (filter (uses registration) self.old.rows) }
+        ensures room { notices.new.spare + users_of registration self.old.rows
+            ≡ notices.old.spare }
+    {
+        if self.users(registration) == 0 {
+            return;
+        }
+        tell(self.rows.values().as_slice(), registration, notices);
+        hand_over(&mut self.rows, registration, worker);
+    }
+}

@@ -1,0 +1,9 @@
+pub mod Changes
+pub mod Exchange
+pub mod Fields
+pub mod LawLemmas
+pub mod Loops
+pub mod OnLiterals
+pub mod Payloads
+pub mod Readers
+pub mod SizeLemmas

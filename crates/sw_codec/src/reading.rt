@@ -1,0 +1,6 @@
+//! Reads changes from bytes.
+mod changes;
+mod exchange;
+mod fields;
+
+pub use changes::read;

@@ -1,0 +1,55 @@
+//! Copies of requests and of the operations of a batch.
+
+ghost use Rattle.std.specs.Prelude.{◌≡◌, IfOk};
+
+use std::alloc::Global;
+use sw_data::{Items, NoMemory, Op, Request};
+
+/// A request of its own that equals this one.
+pub fn copy_request(alloc: Global, request: &Request) -> Result<Request, NoMemory>
+    ensures { IfOk result (λ copy. copy ≡ request.now) }
+{
+    let url = request.url.copy(alloc)?;
+    request.with_url(alloc, url)
+}
+
+/// An operation of its own that equals this one.
+pub fn copy_op(alloc: Global, op: &Op) -> Result<Op, NoMemory>
+    ensures { IfOk result (λ copy. copy ≡ op.now) }
+{
+    match op {
+        Op::Delete { request, options } => Ok(Op::Delete {
+            request: copy_request(alloc, request)?,
+            options: *options,
+        }),
+        Op::Put { request, response } => Ok(Op::Put {
+            request: copy_request(alloc, request)?,
+            response: response.copy(alloc)?,
+        }),
+    }
+}
+
+/// A list of requests of its own that equals this one.
+pub(crate) fn copy_requests(
+    alloc: Global,
+    requests: &Items<Request>,
+) -> Result<Items<Request>, NoMemory>
+    ensures { IfOk result (λ copy. copy ≡ requests.now) }
+{
+    let mut copy = Items::new(alloc);
+    for request in requests.as_slice() {
+        copy.push(copy_request(alloc, request)?)?;
+    }
+    Ok(copy)
+}
+
+/// A list of operations of its own that equals this one.
+pub(crate) fn copy_ops(alloc: Global, ops: &Items<Op>) -> Result<Items<Op>, NoMemory>
+    ensures { IfOk result (λ copy. copy ≡ ops.now) }
+{
+    let mut copy = Items::new(alloc);
+    for op in ops.as_slice() {
+        copy.push(copy_op(alloc, op)?)?;
+    }
+    Ok(copy)
+}

@@ -1,0 +1,12 @@
+use Rattle.std.proofs.Common.{subst}
+use Rattle.std.specs.Prelude.{IfOk}
+use Rattle.sw_core.proofs.Given.{host_of}
+use Rattle.sw_core.specs.Hosted.{Hosted, rest_of, state_of}
+use Rattle.sw_durable.specs.Telling.{Tells}
+use Rattle.sw_rules.specs.Activating.{activated}
+use Rattle.sw_core.proofs.core_tables.Core.activated_changes.Goals as goal
+
+pub returns : goal.returns
+returns c =
+    subst (λ (h : Hosted). IfOk c.activated_changes.result (λ changes. Tells (activated (state_of h) c.args.worker) changes.items)) c.self.view_is
+    (c.activated_changes.ensures (rest_of (host_of c.self.inside)) c.self.invariant.counts)

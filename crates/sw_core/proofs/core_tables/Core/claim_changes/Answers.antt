@@ -1,0 +1,12 @@
+use Rattle.std.proofs.Common.{◌≡◌, subst}
+use Rattle.std.specs.Prelude.{IfOk}
+use Rattle.sw_core.proofs.Given.{host_of}
+use Rattle.sw_core.specs.Hosted.{Hosted, rest_of, state_of}
+use Rattle.sw_pages.specs.Acts.{told_by}
+use Rattle.sw_pages.specs.declared.worked.PageAct.TheVariants as page
+use Rattle.sw_core.proofs.core_tables.Core.claim_changes.Goals as goal
+
+pub returns : goal.returns
+returns c =
+    subst (λ (h : Hosted). IfOk c.claim_changes.result (λ changes. changes.items ≡ (told_by (page.Claim c.args.registration c.args.worker) (state_of h)).changes)) c.self.view_is
+    (c.claim_changes.ensures (rest_of (host_of c.self.inside)))

@@ -1,0 +1,11 @@
+use Rattle.std.proofs.Common.{subst}
+use Rattle.sw_core.specs.Hosted.{Hosted, rest_of}
+use Rattle.sw_core.specs.Paged.{Gives}
+use Rattle.sw_core.proofs.Given.{host_of}
+use Rattle.sw_rules.specs.Clients as clients
+use Rattle.sw_core.proofs.core_tables.Core.close.Goals as goal
+
+pub returns-clause-gives : goal.returns-clause-gives
+returns-clause-gives c =
+    subst (λ (h : Hosted). Gives (λ state who. clients.close state c.args.client) c.close_client.result h) c.self.view_is
+    (λ who. c.close_client.ensures.outcome who c.self.inside.map c.self.inside.workers c.self.inside.registrations (rest_of (host_of c.self.inside)))

@@ -1,0 +1,17 @@
+use Rattle.std.proofs.Common.{sym, subst}
+use Rattle.sw_core.proofs.Doing.{call_follows, promise_follows}
+use Rattle.sw_core.specs.Hosted.{state_of}
+use Rattle.sw_core.specs.Plans.{told_then}
+use Rattle.sw_core.specs.declared.plan.Then.{Then}
+use Rattle.sw_rules.specs.Noticing.{Did}
+use Rattle.sw_core.proofs.core_tables.Core.follow.Goals as goal
+
+pub returns-in-Promise : goal.returns-in-Promise
+returns-in-Promise c told before after did =
+    subst (λ (t : Then). Did (told_then t told) before after (state_of c.promise.new.self)) (sym c.in-Promise.is)
+    (promise_follows told c.in-Promise.row before after (state_of c.args.self.now) (state_of c.promise.new.self) did c.promise.ensures)
+
+pub returns-in-Called : goal.returns-in-Called
+returns-in-Called c told before after did =
+    subst (λ (t : Then). Did (told_then t told) before after (state_of c.call_made.new.self)) (sym c.in-Called.is)
+    (call_follows told c.in-Called.worker c.in-Called.fault before after (state_of c.args.self.now) (state_of c.call_made.new.self) did c.call_made.ensures)

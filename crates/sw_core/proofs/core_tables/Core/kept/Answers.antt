@@ -1,0 +1,15 @@
+use Rattle.std.proofs.Common.{◌≡◌, refl, subst}
+use Rattle.std.specs.Prelude.{IfOk}
+use Rattle.sw_core.proofs.Given.{host_of}
+use Rattle.sw_core.specs.Hosted.{Hosted, rest_of, state_of}
+use Rattle.sw_rules.specs.Durable.{durable}
+use Rattle.sw_core.proofs.core_tables.Core.kept.Goals as goal
+
+pub returns : goal.returns
+returns c =
+    let host = host_of c.self.inside in
+    record {
+      kept =
+          subst (λ (h : Hosted). IfOk c.kept.result (λ kept. kept ≡ durable (state_of h))) c.self.view_is
+          (c.kept.ensures host.clients (rest_of host) refl refl refl);
+    }

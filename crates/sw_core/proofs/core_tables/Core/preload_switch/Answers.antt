@@ -1,0 +1,13 @@
+use Rattle.std.proofs.Common.{refl, subst}
+use Rattle.std.specs.Prelude.{IfOk}
+use Rattle.std.proofs.lemmas.Result.{IfOk-weaker}
+use Rattle.sw_core.specs.Hosted.{Hosted, rest_of}
+use Rattle.sw_core.specs.Paged.{Gives}
+use Rattle.sw_core.proofs.Given.{host_of}
+use Rattle.sw_rules.specs.Preloading as preloading
+use Rattle.sw_core.proofs.core_tables.Core.preload_switch.Goals as goal
+
+pub returns-clause-gives : goal.returns-clause-gives
+returns-clause-gives c =
+    subst (λ (h : Hosted). IfOk c.preload_switch.result (λ worked. Gives (λ state who. preloading.preload_switch state c.args.of.now c.args.on) worked h)) c.self.view_is
+    (IfOk-weaker c.preload_switch.result _ _ (λ worked is who. is (rest_of (host_of c.self.inside)) who (record { flags = λ n. refl; texts = λ n. refl })) c.preload_switch.ensures.outcome)

@@ -1,0 +1,13 @@
+use Rattle.std.proofs.Common.{subst}
+use Rattle.std.specs.Prelude.{IfOk}
+use Rattle.std.proofs.lemmas.Result.{IfOk-weaker}
+use Rattle.sw_core.specs.Hosted.{Hosted, rest_of}
+use Rattle.sw_core.specs.Paged.{Gives}
+use Rattle.sw_core.proofs.Given.{host_of}
+use Rattle.sw_rules.specs.Registering as registering
+use Rattle.sw_core.proofs.core_tables.Core.soft_update.Goals as goal
+
+pub returns-clause-gives : goal.returns-clause-gives
+returns-clause-gives c =
+    subst (λ (h : Hosted). IfOk c.soft_update.result (λ worked. Gives (λ state who. registering.soft_update state c.args.of.now) worked h)) c.self.view_is
+    (IfOk-weaker c.soft_update.result _ _ (λ worked is who. is (rest_of (host_of c.self.inside)) who) c.soft_update.ensures.outcome)

@@ -1,0 +1,22 @@
+use Rattle.std.proofs.Common.{◌≡◌, subst}
+use Rattle.sw_core.proofs.Starting.{counts_of_lane, started, started_tasks}
+use Rattle.sw_core.specs.Hosted.{Hosted, state_of}
+use Rattle.sw_core.specs.Plans.{told_by_start}
+use Rattle.sw_core.specs.contracts.core_tables.Core.{the_view}
+use Rattle.sw_core.proofs.core_tables.Core.start.Goals as goal
+
+pub invariant_of-self : goal.invariant_of-self
+invariant_of-self c =
+    let inside : Hosted = the_view c.self.inside in
+    record {
+      linked = c.self.invariant.linked;
+      counts =
+          counts_of_lane inside.workers inside.tasks.rows c.start_all.new.tasks.rows _
+          (started_tasks inside c.args.new c.start_all.new.tasks c.start_all.new.draws (c.start_all.ensures.told (state_of inside))) c.requires.lane c.self.invariant.counts;
+    }
+
+pub returns-clause-state : goal.returns-clause-state
+returns-clause-state c =
+    let inside : Hosted = the_view c.self.inside in
+    subst (λ (h : Hosted). state_of (record inside { tasks = c.start_all.new.tasks; draws = c.start_all.new.draws }) ≡ (told_by_start c.args.new (state_of h)).state) c.self.view_is
+    (started inside c.args.new c.start_all.new.tasks c.start_all.new.draws (c.start_all.ensures.told (state_of inside)))

@@ -1,0 +1,13 @@
+use Rattle.std.proofs.Common.{subst}
+use Rattle.std.specs.Prelude.{IfOk}
+use Rattle.sw_core.proofs.Given.{host_of}
+use Rattle.sw_core.specs.Hosted.{Hosted, rest_of, state_of}
+use Rattle.sw_durable.specs.Telling.{Tells}
+use Rattle.sw_rules.specs.Registering.{run}
+use Rattle.sw_core.proofs.core_tables.Core.unregister_changes.Goals as goal
+
+pub returns : goal.returns
+returns c =
+    let host = host_of c.self.inside in
+    subst (λ (h : Hosted). IfOk c.unregister_changes.result (λ changes. Tells (run (state_of h) c.args.job) changes.items)) c.self.view_is
+    (c.unregister_changes.ensures host.workers host.clients (rest_of host) c.self.invariant.linked.slots)

@@ -1,0 +1,88 @@
+//! Actions of pages that were worked out, with the room for their promises and navigation preloads.
+
+ghost use Rattle.std.specs.Prelude.{◌≡◌, None, IfOk};
+ghost use Rattle.sw_core.specs.Hosted.{Hosted, SameRows};
+ghost use Rattle.sw_core.specs.Paged.{FitsHost};
+ghost use Rattle.sw_core.specs.Plans.{FitsAsked, FitsTheAct, FitsThen, IsAsked, caller_of, told_by_act, told_then};
+ghost use Rattle.sw_data.specs.declared.events.Who.TheVariants as maker;
+ghost use Rattle.sw_pages.specs.Acts as pages;
+ghost use Rattle.sw_pages.specs.Fits.{FitsPage};
+ghost use Rattle.sw_rules.specs.State.{State};
+ghost use Rattle.sw_rules.specs.Told.{Told};
+
+use crate::core_tables::Core;
+use crate::plan::{Act, Asked, Then};
+use std::alloc::Global;
+use sw_data::NoMemory;
+use sw_ledgers::Awaited;
+use sw_pages::{PageAct, Worked};
+
+impl Core {
+    // What follows a lane's action whose promise waits for this, if for anything.
+    #[tactic(auto, unfolding(sw_rules::specs::Jobs::promise))]
+    pub(crate) fn then_of(
+        &mut self,
+        lane: u32,
+        at: u32,
+        awaited: Option<Awaited>,
+    ) -> Result<Then, NoMemory>
+        ensures same { SameRows self.old self.new }
+        ensures others { self.new ≡ record self.old { promises = self.new.promises } }
+        ensures fits { IfOk result (λ then. (state : State) → FitsThen then state self.new) }
+        ensures caller { IfOk result (λ then. caller_of then ≡ None) }
+        ensures told { IfOk result (λ then. (told : Told)
+            → pages.promised (maker.Lane lane at) awaited told ≡ told_then then told) }
+    {
+        match awaited {
+            Some(awaited) => Ok(Then::Promise(self.promises.promise_row(lane, at, awaited)?)),
+            None => Ok(Then::Nothing),
+        }
+    }
+
+    // What an act of a page is among all acts.
+    fn act_of(&mut self, alloc: Global, act: PageAct) -> Result<Act, NoMemory>
+        requires { FitsPage act self.old.workers self.old.registrations self.old.clients
+            self.old.queues }
+        ensures same { SameRows self.old self.new }
+        ensures others { self.new ≡ record self.old { preloads = self.new.preloads } }
+        ensures fits { IfOk result (λ all. FitsTheAct all self.new) }
+        ensures told { IfOk result (λ all. (state : State)
+            → pages.told_by act state ≡ told_by_act all state) }
+    {
+        match act {
+            PageAct::Preload {
+                registration,
+                on,
+                value,
+            } => {
+                let row = self.preloads.set_row(alloc, registration, on, &value)?;
+                Ok(Act::Preload(row))
+            }
+            act => Ok(Act::Page(act)),
+        }
+    }
+
+    /// An action of a lane that was worked out, with the room for its promise and its navigation preload.
+    pub(crate) fn asked(
+        &mut self,
+        alloc: Global,
+        lane: u32,
+        at: u32,
+        worked: Worked,
+    ) -> Result<Asked, NoMemory>
+        requires { FitsHost worked self.old }
+        ensures same { SameRows self.old self.new }
+        ensures fits { IfOk result (λ asked. FitsAsked asked self.new) }
+        ensures agrees { IfOk result (λ asked. (state : State)
+            → IsAsked (pages.outcome_of (maker.Lane lane at) worked state) asked state) }
+    {
+        let Worked {
+            answer,
+            act,
+            awaited,
+        } = worked;
+        let then = self.then_of(lane, at, awaited)?;
+        let act = self.act_of(alloc, act)?;
+        Ok(Asked { answer, act, then })
+    }
+}

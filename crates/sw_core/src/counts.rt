@@ -1,0 +1,50 @@
+//! How much a host keeps.
+
+ghost use Rattle.std.specs.Prelude.{◌≡◌, filter, length};
+ghost use Rattle.sw_core.specs.Hosted.{state_of};
+ghost use Rattle.sw_rules.specs.History.{mapped_registrations};
+ghost use Rattle.sw_rules.specs.Rows.{is_number};
+ghost use Rattle.sw_scope.specs.Scopes.{maps};
+
+use crate::core_tables::Core;
+use sw_data::RegistrationRow;
+use sw_reg::Registrations;
+use sw_scope::ScopeMap;
+
+// Whether a registration is mapped.
+fn is_mapped(row: &RegistrationRow, map: &ScopeMap) -> bool
+    ensures { result ≡ is_number (maps map.now row.now.key row.now.scope) row.now.number }
+{
+    match map.get(&row.key, &row.scope) {
+        Some(number) => number == row.number,
+        None => false,
+    }
+}
+
+// How many registrations are mapped.
+fn mapped_rows(map: &ScopeMap, registrations: &Registrations) -> usize
+    ensures { result ≡ length (filter
+        (λ row. is_number (maps map.now row.key row.scope) row.number) registrations.now.rows) }
+{
+    registrations
+        .rows()
+        .iter()
+        .filter(|row| is_mapped(row, map))
+        .count()
+}
+
+impl Core {
+    /// How many registrations are mapped. It takes no memory, and time in the number of all registrations.
+    pub fn mapped_count(&self) -> usize
+        ensures { result ≡ mapped_registrations (state_of self.now) }
+    {
+        mapped_rows(&self.map, &self.registrations)
+    }
+
+    /// How many caches there are. It takes no memory.
+    pub fn cache_count(&self) -> usize
+        ensures { result ≡ length (state_of self.now).caches }
+    {
+        self.caches.len()
+    }
+}

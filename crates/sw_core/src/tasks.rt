@@ -1,0 +1,241 @@
+//! What may happen next: the ready tasks of a host that aren't in flight.
+
+ghost use Rattle.std.specs.Prelude.{◌≡◌, true, false, find, slice_get, option_and_then, option_map};
+ghost use Rattle.std.specs.List.{list_all};
+ghost use Rattle.std.specs.Option.{option_map_or, option_or};
+ghost use Rattle.sw_core.specs.Flying.{add_all_left, fetch_left, left_of};
+ghost use Rattle.sw_core.specs.Free.{activates, free_of};
+ghost use Rattle.sw_core.specs.Hosted.{state_of};
+ghost use Rattle.sw_data.specs.declared.histories.Task.TheVariants as task;
+ghost use Rattle.sw_lane.specs.Picked.{in_flight, is_fetch, task_left};
+ghost use Rattle.sw_rules.specs.Rows.{free_handler, is_install};
+ghost use Rattle.sw_rules.specs.Tasks as rules;
+ghost use Rattle.sw_tables.specs.Lent.{shown_handler, shown_worker};
+ghost use Rattle.sw_tables.specs.Linked.{ArePlaces};
+
+use crate::behind::{job_behind, task_behind, worker_behind};
+use crate::core_tables::Core;
+use crate::flights::is_in_flight;
+use sw_data::{HandlerRow, Phase, Task, WorkerRow};
+use sw_ledgers::Tasks;
+use sw_queue::Queues;
+use sw_worker::Workers;
+
+// The handler of a worker that runs, where none of its addAlls is unsettled.
+fn free_of(row: &WorkerRow) -> Option<HandlerRow>
+    ensures { result ≡ free_of row.now }
+{
+    match row.handler {
+        Some(handler) => {
+            if handler.unsettled == 0 {
+                Some(handler)
+            } else {
+                None
+            }
+        }
+        None => None,
+    }
+}
+
+// The fetch of the first job that fetches and isn't in flight.
+fn script_fetch(queues: &Queues, flights: &[Option<Task>]) -> Option<Task>
+    ensures { result ≡ option_map (λ row. task.Fetch row.job.number)
+        (find (fetch_left (in_flight flights.now)) queues.now.rows) }
+{
+    queues.are_numbered();
+    let mut from = 0;
+    while let Some(row) = queues.next_fetching(from) {
+        let fetch = Task::Fetch(row.job.number);
+        if !is_in_flight(flights, fetch) {
+            return Some(fetch);
+        }
+        from = job_behind(queues, row.job.number)?;
+    }
+    None
+}
+
+// The fetches of the first addAll that has not settled and isn't in flight.
+fn add_all_fetch(tasks: &Tasks, flights: &[Option<Task>]) -> Option<Task>
+    ensures { result ≡ option_map (λ row. task.FetchAll row.number)
+        (find (add_all_left (in_flight flights.now)) tasks.now.rows) }
+{
+    tasks.are_numbered();
+    let mut from = 0;
+    while let Some(row) = tasks.next_unsettled(from) {
+        let fetches = Task::FetchAll(row.number);
+        if !is_in_flight(flights, fetches) {
+            return Some(fetches);
+        }
+        from = task_behind(tasks, row.number)?;
+    }
+    None
+}
+
+// The first job whose install handler may go on.
+fn installing(core: &Core, queues: &Queues) -> Option<Task>
+    ensures { result ≡ option_map (λ row. task.Install row.job.number)
+        (find (rules.may_install (state_of core.now)) queues.now.rows) }
+{
+    queues.are_numbered();
+    let mut from = 0;
+    while let Some(row) = queues.next_installing(from) {
+        if core.goes_on(row.worker) {
+            return Some(Task::Install(row.job.number));
+        }
+        from = job_behind(queues, row.job.number)?;
+    }
+    None
+}
+
+// The first worker whose activate handler runs and may go on.
+fn activating(core: &Core, workers: &Workers) -> Option<Task>
+    requires { ArePlaces (λ row. row.number) workers.now.rows }
+    ensures { result ≡ option_map (λ row. task.Activate row.number)
+        (find (activates (state_of core.now)) workers.now.rows) }
+{
+    let mut from = 0;
+    while let Some(row) = workers.next_activating(from) {
+        if core.may_activate(row) {
+            return Some(Task::Activate(row.number));
+        }
+        from = worker_behind(workers, row.number)?;
+    }
+    None
+}
+
+impl Core {
+    // The handler of a worker that may go on.
+    #[tactic(auto, using(crate::proofs::Handling::free_found))]
+    pub(crate) fn free_handler(&self, worker: u32) -> Option<HandlerRow>
+        ensures { option_map shown_handler result ≡ free_handler (state_of self.now) worker }
+    {
+        free_of(self.workers.row(worker)?)
+    }
+
+    // Whether a worker, where there is one, has an install handler that may go on.
+    fn goes_on(&self, worker: Option<u32>) -> bool
+        ensures { result ≡ option_map_or (λ handler. is_install handler.phase)
+            (option_and_then (free_handler (state_of self.now)) worker) false }
+    {
+        let Some(worker) = worker else {
+            return false;
+        };
+        match self.free_handler(worker) {
+            Some(handler) => handler.phase == Phase::Install,
+            None => false,
+        }
+    }
+
+    // Whether the activate handler of a worker may go on.
+    fn may_activate(&self, row: &WorkerRow) -> bool
+        ensures { result ≡ rules.may_activate (state_of self.now) (shown_worker row.now) }
+    {
+        match self.free_handler(row.number) {
+            Some(handler) => handler.phase == Phase::Activate,
+            None => false,
+        }
+    }
+
+    // The first job that may run.
+    fn first_run(&self) -> Option<Task>
+        ensures { result ≡ slice_get (rules.runs (state_of self.now)) 0 }
+    {
+        Some(Task::Run(self.queues.first_waiting()?.job.number))
+    }
+
+    // The first fetch of a job that isn't in flight.
+    #[tactic(auto, using(crate::proofs::Left::job_left))]
+    fn next_fetch(&self, flights: &[Option<Task>]) -> Option<Task>
+        ensures { result
+            ≡ left_of (in_flight flights.now) (rules.script_fetches (state_of self.now)) }
+    {
+        script_fetch(&self.queues, flights)
+    }
+
+    // The first addAll's fetches that aren't in flight.
+    #[tactic(auto, using(crate::proofs::Left::task_left_of))]
+    fn next_fetch_all(&self, flights: &[Option<Task>]) -> Option<Task>
+        ensures { result
+            ≡ left_of (in_flight flights.now) (rules.add_all_fetches (state_of self.now)) }
+    {
+        add_all_fetch(&self.tasks, flights)
+    }
+
+    // The first job whose worker is to be evaluated.
+    #[tactic(auto, using(crate::proofs::Ready::first_evaluate))]
+    fn first_evaluate(&self) -> Option<Task>
+        ensures { result ≡ slice_get (rules.evaluations (state_of self.now)) 0 }
+    {
+        Some(Task::Evaluate(self.queues.first_evaluating()?.job.number))
+    }
+
+    // The first job whose install handler may go on.
+    fn first_install(&self) -> Option<Task>
+        ensures { result ≡ slice_get (rules.installs (state_of self.now)) 0 }
+    {
+        installing(self, &self.queues)
+    }
+
+    // The first registration that is owed a Try Activate.
+    #[tactic(auto, using(crate::proofs::Ready::first_try_activate))]
+    fn first_try_activate(&self) -> Option<Task>
+        ensures { result ≡ slice_get (rules.try_activates (state_of self.now)) 0 }
+    {
+        Some(Task::TryActivate(self.registrations.first_owed()?.number))
+    }
+
+    // The first worker whose activate handler may go on.
+    fn first_activate(&self) -> Option<Task>
+        ensures { result ≡ slice_get (rules.activates (state_of self.now)) 0 }
+    {
+        activating(self, &self.workers)
+    }
+
+    // The first task that goes on with a job or an addAll: a run, a fetch that isn't in flight, or an evaluation.
+    fn next_of_jobs(&self, flights: &[Option<Task>]) -> Option<Task>
+        ensures { result ≡ option_or (option_or (option_or
+            (slice_get (rules.runs (state_of self.now)) 0)
+            (left_of (in_flight flights.now) (rules.script_fetches (state_of self.now))))
+            (left_of (in_flight flights.now) (rules.add_all_fetches (state_of self.now))))
+            (slice_get (rules.evaluations (state_of self.now)) 0) }
+    {
+        match self.first_run() {
+            Some(task) => Some(task),
+            None => match self.next_fetch(flights) {
+                Some(task) => Some(task),
+                None => match self.next_fetch_all(flights) {
+                    Some(task) => Some(task),
+                    None => self.first_evaluate(),
+                },
+            },
+        }
+    }
+
+    // The first task that goes on with a worker: an install, a Try Activate, or an activation.
+    fn first_of_workers(&self) -> Option<Task>
+        ensures { result ≡ option_or (option_or
+            (slice_get (rules.installs (state_of self.now)) 0)
+            (slice_get (rules.try_activates (state_of self.now)) 0))
+            (slice_get (rules.activates (state_of self.now)) 0) }
+    {
+        match self.first_install() {
+            Some(task) => Some(task),
+            None => match self.first_try_activate() {
+                Some(task) => Some(task),
+                None => self.first_activate(),
+            },
+        }
+    }
+
+    /// The first ready task that isn't one of the fetches in flight. It takes no memory, and time in the blocks of flags
+    /// of the tables and in the rows that are ready but for what is in flight or for a handler that can't go on.
+    pub fn next_task(&self, flights: &[Option<Task>]) -> Option<Task>
+        requires { list_all is_fetch (in_flight flights.now) ≡ true }
+        ensures { result ≡ task_left (state_of self.now) (in_flight flights.now) }
+    {
+        match self.next_of_jobs(flights) {
+            Some(task) => Some(task),
+            None => self.first_of_workers(),
+        }
+    }
+}

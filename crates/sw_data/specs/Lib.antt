@@ -1,0 +1,10 @@
+pub mod Addresses
+pub mod Events
+pub mod Exchange
+pub mod Faults
+pub mod Headers
+pub mod Keys
+pub mod Media
+pub mod Parts
+pub mod Sameness
+pub mod Streams

@@ -1,0 +1,7 @@
+//! Texts, byte strings and lists that contracts see as plain lists, and the answer for want of memory.
+
+pub mod bytes;
+pub mod failed;
+pub mod items;
+pub mod no_memory;
+pub mod text;

@@ -1,0 +1,36 @@
+//! Plain data of the service worker lifecycle host, and the definitions that need nothing else: addresses, storage keys,
+//! lists of headers, media types, events and their makers.
+//!
+//! The types that every crate shares stand in `src/`; the definitions that contracts cite stand in `specs/`, one file
+//! for each subject.
+#![tactic(auto)]
+
+pub mod address;
+pub mod answers;
+pub mod base;
+pub mod cut;
+pub mod events;
+pub mod exchange;
+pub mod header;
+pub mod histories;
+pub mod recordings;
+pub mod rows;
+pub mod storage;
+pub mod workers;
+
+pub use answers::{Answer, Cause, Fault, Notice, SecurityCause, Settlement, StateCause};
+pub use base::bytes::Bytes;
+pub use base::failed::Failed;
+pub use base::items::Items;
+pub use base::no_memory::NoMemory;
+pub use base::text::Text;
+pub use events::{Event, Who};
+pub use exchange::{Header, Op, Options, Request, Response};
+pub use histories::{End, Entry, Task};
+pub use recordings::{
+    Action, CacheAddAll, CacheBatch, CacheDelete, CacheMatch, CachePut, CacheQuery, Call,
+    ClientScope, FetchLine, Fetched, Handlers, Place, Recording, Registering,
+};
+pub use rows::{ClientRow, HandlerRow, Job, JobKind, JobPhase, JobRow, RegistrationRow, WorkerRow};
+pub use storage::{Change, Kept, KeptCache, KeptRegistration, KeptWorker};
+pub use workers::{Kind, Mode, Phase, Slot, WorkerState};

@@ -1,0 +1,10 @@
+mod Doubts
+mod Lifted
+mod Marks
+mod Moved
+mod PickSteps
+mod Sure
+pub mod Images
+pub mod Moments
+pub mod Stages
+pub mod Tears

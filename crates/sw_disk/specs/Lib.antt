@@ -1,0 +1,12 @@
+pub mod DiskRule
+pub mod Doubts
+pub mod Files
+pub mod Image
+pub mod Lending
+pub mod Lengths
+pub mod Meanings
+pub mod Memory
+pub mod MemoryLaws
+pub mod Picks
+pub mod Plain
+pub mod Script

@@ -1,0 +1,7 @@
+pub mod Claiming
+pub mod Kept
+pub mod Laws
+pub mod OfCaches
+pub mod OfJobs
+pub mod Taking
+pub mod Telling

@@ -1,0 +1,11 @@
+use crate::generate;
+use std::test::Fail;
+
+#[test]
+fn generates_nine_clients(rt: HostRuntime) -> Result<(), Fail> {
+    let alloc = rt.alloc();
+    let recording = generate(alloc, 2, 9)?;
+    let lines = recording.as_bytes().split(|byte| *byte == b'\n');
+    assert_eq!(rt; lines.count(), 55);
+    Ok(())
+}

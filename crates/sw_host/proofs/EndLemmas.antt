@@ -1,0 +1,95 @@
+-- A run that has ended on a disk, and a disk that is refused.
+use Rattle.std.proofs.Common.{◌≡◌, ◌∙◌, inr, ℕ, List, Result, Ok, Err, refl, sym, subst}
+use Rattle.std.specs.Prelude.{IfOk, IsErrOf, OnErr}
+use Rattle.sw_data.specs.declared.histories.Entry.{Entry}
+use Rattle.sw_data.specs.declared.recordings.Recording.{Recording}
+use Rattle.sw_data.specs.declared.storage.Kept.{Kept}
+use Rattle.sw_data.specs.Faults.{Rose}
+use Rattle.sw_disk.specs.declared.disk.Disk.{Ghosts}
+use Rattle.sw_disk.specs.DiskRule.{ForTold}
+use Rattle.sw_host.specs.declared.report.Report.{Report}
+use Rattle.sw_host.specs.declared.statuses.Status.{Status}
+use Rattle.sw_host.specs.declared.statuses.Status.TheVariants as status
+use Rattle.sw_host.specs.Runs.{EndsAs, last_of, status_of}
+use Rattle.sw_host.specs.Stands.{IsLeftAfter, IsReportOf, RefusesDisk, ReplaysOn}
+use Rattle.sw_journal.specs.Quiet.{IsQuiet}
+use Rattle.sw_kept.specs.Stored.{Bad, Unformatted, stored}
+use Rattle.sw_turns.specs.declared.ends.DriveEnd.{DriveEnd}
+use Rattle.sw_turns.specs.declared.ends.DriveEnd.TheVariants as drive_end
+use Rattle.sw_turns.specs.Ends.{Ended}
+use Rattle.sw_print.specs.Transcript.{transcript}
+use Rattle.sw_store.specs.declared.errors.OpenError.{OpenError}
+use Rattle.sw_store.specs.declared.errors.OpenError.TheVariants as error
+use Rattle.sw_store.specs.Opened.{IsUnopened}
+
+-- ---- a run that has ended
+
+-- where there was memory to the end, no run has ended for want of it
+some_status : (ended : DriveEnd) → (ended ≡ drive_end.NoMemory → ⊥) → status_of ended ≡ status.NoMemory → ⊥
+some_status drive_end.Done some is = absurd cc
+some_status (drive_end.Stalled lane) some is = absurd cc
+some_status (drive_end.DiskFault refused) some is = absurd cc
+some_status (drive_end.Full happened from needed) some is = absurd cc
+some_status drive_end.NoMemory some is = some refl
+some_status drive_end.Spent some is = absurd cc
+
+module _ {D : Type 0} (disk : Ghosts D) (start now : D) (workers : ℕ) (recording : Recording) where
+  run_ends : (base : Kept) (history : List Entry) (ended : DriveEnd) (report : Report) → Ended disk start now workers recording base history ended
+      → report.status ≡ status_of ended → (ended ≡ drive_end.NoMemory → ⊥) → report.text ≡ transcript history (last_of ended)
+      → EndsAs disk start now workers recording report.status report.text
+  run_ends base history ended report run is some prints = record {
+    base = base;
+    history = history;
+    ended = ended;
+    run = run;
+    ends = is;
+    some = λ none. some_status ended some (sym is ∙ none);
+    printed = prints;
+  }
+
+  -- the status and the text of a run
+  pub ends_as : {E : Type 0} (base : Kept) (history : List Entry) (ended : DriveEnd) (result : Result Report E) → Ended disk start now workers recording base history ended
+      → IfOk result (λ report. report.status ≡ status_of ended) → IfOk result (λ report. ended ≡ drive_end.NoMemory → ⊥)
+      → IfOk result (λ report. report.text ≡ transcript history (last_of ended))
+      → IfOk result (λ report. EndsAs disk start now workers recording report.status report.text)
+  ends_as base history ended (Ok report) run is some prints = run_ends base history ended report run is some prints
+  ends_as base history ended (Err why) run is some prints = tt
+
+  -- what a run leaves whose text found no memory
+  pub left_by_run : {T E : Type 0} (result : Result T E) (base : Kept) (history : List Entry) (ended : DriveEnd)
+      → Ended disk start now workers recording base history ended → OnErr result (IsLeftAfter disk start now workers recording)
+  left_by_run (Ok value) base history ended run = tt
+  left_by_run (Err why) base history ended run = inr (base, history, ended, run)
+
+-- ---- a disk that is refused
+
+-- a report that is this one
+by_report : (P : Status → List ℕ → Type 0) (report wanted : Report) → report ≡ wanted → P wanted.status wanted.text → P report.status report.text
+by_report P report wanted is holds = subst (λ (r : Report). P r.status r.text) (sym is) holds
+
+refuses : {T D : Type 0} (disk : Ghosts D) (old new : D) (opened : Result T OpenError) (why : OpenError) (report : Report) → opened ≡ Err why
+    → (IsErrOf opened error.NotFormatted → IsQuiet disk old new × ForTold (disk.seen old) (λ image. stored image ≡ Unformatted))
+    → ((offset : ℕ) → IsErrOf opened (error.BadJournal offset) → IsQuiet disk old new × ForTold (disk.seen old) (λ image. stored image ≡ Bad offset))
+    → (IsErrOf opened error.DiskFault → Rose (disk.faults old) (disk.faults new))
+    → IsUnopened disk old new
+    → IsReportOf why report → RefusesDisk disk old new report.status report.text
+refuses disk old new opened error.NoMemory report was unformatted bad fault unopened is = absurd is
+refuses disk old new opened error.DiskFault report was unformatted bad fault unopened is =
+    by_report (RefusesDisk disk old new) report _ is (refl, fault was, unopened)
+refuses disk old new opened error.NotFormatted report was unformatted bad fault unopened is =
+    by_report (RefusesDisk disk old new) report _ is (refl, (unformatted was).0, (unformatted was).1)
+refuses disk old new opened (error.BadJournal offset) report was unformatted bad fault unopened is =
+    by_report (RefusesDisk disk old new) report _ is (offset, refl, (bad offset was).0, (bad offset was).1)
+refuses disk old new opened (error.Full from needed) report was unformatted bad fault unopened is =
+    by_report (RefusesDisk disk old new) report _ is (refl, unopened)
+
+-- the report of a disk that was not opened
+pub refused : {T D E : Type 0} (disk : Ghosts D) (old new : D) (workers : ℕ) (recording : Recording) (opened : Result T OpenError) (why : OpenError) (result : Result Report E) → opened ≡ Err why
+    → (IsErrOf opened error.NotFormatted → IsQuiet disk old new × ForTold (disk.seen old) (λ image. stored image ≡ Unformatted))
+    → ((offset : ℕ) → IsErrOf opened (error.BadJournal offset) → IsQuiet disk old new × ForTold (disk.seen old) (λ image. stored image ≡ Bad offset))
+    → (IsErrOf opened error.DiskFault → Rose (disk.faults old) (disk.faults new))
+    → IsUnopened disk old new
+    → IfOk result (λ report. IsReportOf why report) → IfOk result (λ report. ReplaysOn disk old new workers recording report.status report.text)
+refused disk old new workers recording opened why (Err none_left) was unformatted bad fault unopened is = tt
+refused disk old new workers recording opened why (Ok report) was unformatted bad fault unopened is =
+    inr (refuses disk old new opened why report was unformatted bad fault unopened is)

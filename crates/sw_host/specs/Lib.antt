@@ -1,0 +1,5 @@
+pub mod Generating
+pub mod Runs
+pub mod Stands
+pub mod Texts
+pub mod Words

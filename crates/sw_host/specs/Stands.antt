@@ -1,0 +1,193 @@
+-- What a run comes to before writing: when each status stands, with which text, and what it has done to the disk.
+use Rattle.std.specs.Prelude.{◌≡◌, ◌⊎◌, ◌≤◌, ◌<◌, ℕ, List, length, codes, IsSome, Option, Result, Ok, Err}
+use Rattle.sw_data.specs.declared.histories.Entry.{Entry}
+use Rattle.sw_data.specs.declared.recordings.Recording.{Recording}
+use Rattle.sw_data.specs.declared.storage.Kept.{Kept}
+use Rattle.sw_data.specs.Faults.{Rose}
+use Rattle.sw_data.specs.Streams.{Tells}
+use Rattle.sw_disk.specs.declared.disk.Disk.{Ghosts}
+use Rattle.sw_disk.specs.DiskRule.{ForTold, written}
+use Rattle.sw_disk.specs.Image.{get, put}
+use Rattle.sw_disk.specs.Meanings.{Becomes, IsDurable}
+use Rattle.sw_host.specs.declared.command.Command.{Command}
+use Rattle.sw_host.specs.declared.command.Command.TheVariants as command
+use Rattle.sw_host.specs.declared.report.Report.{Report}
+use Rattle.sw_host.specs.declared.statuses.Status.{Status}
+use Rattle.sw_host.specs.declared.statuses.Status.TheVariants as status
+use Rattle.sw_host.specs.Generating.{HasGenerated}
+use Rattle.sw_host.specs.Runs.{EndsAs, last_of}
+use Rattle.sw_host.specs.Texts.{bad_journal_text, refusal_text}
+use Rattle.sw_journal.specs.Format.{format_of}
+use Rattle.sw_journal.specs.Init.{first_bytes}
+use Rattle.sw_journal.specs.Quiet.{IsQuiet}
+use Rattle.sw_kept.specs.Stored.{Bad, HasKept, Unformatted, stored}
+use Rattle.sw_turns.specs.Ends.{Ended}
+use Rattle.sw_turns.specs.declared.ends.DriveEnd.{DriveEnd}
+use Rattle.sw_print.specs.Showing.{shown}
+use Rattle.sw_print.specs.Transcript.{transcript}
+use Rattle.sw_record.specs.declared.error.RecordingError.{RecordingError}
+use Rattle.sw_record.specs.declared.error.RecordingError.TheVariants as error
+use Rattle.sw_record.specs.Grammar.{recording_of}
+use Rattle.sw_record.specs.declared.limits.TheConstants.{RECORDING_LIMIT}
+use Rattle.sw_record.specs.Refusals as refusals
+use Rattle.sw_rules.specs.Storage.{nothing}
+use Rattle.sw_store.specs.declared.errors.OpenError.{OpenError}
+use Rattle.sw_store.specs.declared.errors.OpenError.TheVariants as open_error
+use Rattle.sw_store.specs.Opened.{IsUnopened}
+use Rattle.sw_twin.specs.Current.{current}
+
+-- ---- a disk that is not opened
+
+-- own: a disk is refused with this status and text
+abbrev pub RefusesDisk : {D : Type 0} → Ghosts D → (old new : D) → Status → List ℕ → Type 0
+RefusesDisk disk old new status.DiskFault text =
+    (text ≡ refusal_text status.DiskFault) × Rose (disk.faults old) (disk.faults new) × IsUnopened disk old new
+RefusesDisk disk old new status.NotFormatted text =
+    (text ≡ refusal_text status.NotFormatted) × IsQuiet disk old new
+    × ForTold (disk.seen old) (λ image. stored image ≡ Unformatted)
+RefusesDisk disk old new status.BadJournal text =
+    (offset : ℕ) × (text ≡ bad_journal_text offset) × IsQuiet disk old new
+    × ForTold (disk.seen old) (λ image. stored image ≡ Bad offset)
+RefusesDisk disk old new status.Full text = (text ≡ refusal_text status.Full) × IsUnopened disk old new
+RefusesDisk disk old new _ text = ⊥
+
+-- own: the status and the text of a refusal of the store
+abbrev pub IsReportOf : OpenError → Report → Type 0
+IsReportOf open_error.NoMemory report = ⊥
+IsReportOf open_error.DiskFault report = report ≡ record { status = status.DiskFault; text = refusal_text status.DiskFault }
+IsReportOf open_error.NotFormatted report = report ≡ record { status = status.NotFormatted; text = refusal_text status.NotFormatted }
+IsReportOf (open_error.BadJournal offset) report = report ≡ record { status = status.BadJournal; text = bad_journal_text offset }
+IsReportOf (open_error.Full from needed) report = report ≡ record { status = status.Full; text = refusal_text status.Full }
+
+-- own: a recording is replayed by so many workers on a disk with this status and text: it is run, or the disk is refused
+abbrev pub ReplaysOn : {D : Type 0} → Ghosts D → (old new : D) → ℕ → Recording → Status → List ℕ → Type 0
+ReplaysOn disk old new workers recording outcome text =
+    EndsAs disk old new workers recording outcome text ⊎ RefusesDisk disk old new outcome text
+
+-- ---- bytes that were read
+
+-- bytes that are no recording are refused with this status and text
+abbrev pub RefusedAs : RecordingError → Status → List ℕ → Type 0
+RefusedAs error.NoMemory _ text = ⊥
+RefusedAs (error.BadLine line why) status.BadLine text = text ≡ refusals.refusal_text (error.BadLine line why)
+RefusedAs (error.BadLine line why) _ text = ⊥
+RefusedAs (error.TooLarge line passed) status.TooLarge text = text ≡ refusals.refusal_text (error.TooLarge line passed)
+RefusedAs (error.TooLarge line passed) _ text = ⊥
+
+-- what was read is reported with this status and text; a disk on which no recording is run is left alone
+abbrev pub ReportedAs : {D : Type 0} → Ghosts D → (old new : D) → ℕ → Result Recording RecordingError → Status → List ℕ → Type 0
+ReportedAs disk old new workers (Ok recording) outcome text = ReplaysOn disk old new workers recording outcome text
+ReportedAs disk old new workers (Err why) outcome text = RefusedAs why outcome text × (new ≡ old)
+
+-- bytes are replayed by so many workers on a disk with this status and text
+abbrev pub Replays : {D : Type 0} → Ghosts D → (old new : D) → ℕ → List ℕ → Status → List ℕ → Type 0
+Replays disk old new workers bytes outcome text = ReportedAs disk old new workers (recording_of bytes) outcome text
+
+-- the source had these bytes left, no more than a recording may have
+pub record IsRead (left : Option (List ℕ)) (bytes : List ℕ) : Type 0 where
+  pub told : Tells left bytes
+  pub within : length bytes ≤ RECORDING_LIMIT
+
+-- the source had more bytes left than a recording may have
+abbrev pub IsPastLimit : Option (List ℕ) → Type 0
+IsPastLimit left = (bytes : List ℕ) × Tells left bytes × (RECORDING_LIMIT < length bytes)
+
+-- ---- the commands
+
+-- own: a recording was read and reported; or it was not read, and its disk is left alone
+abbrev pub ReplaysSource : {D : Type 0} → Ghosts D → (old new : D) → ℕ → Option (List ℕ) → (before now : ℕ) → Status → List ℕ → Type 0
+ReplaysSource disk old new workers left before now outcome text =
+    ((bytes : List ℕ) × IsRead left bytes × Replays disk old new workers bytes outcome text)
+    ⊎ (((outcome ≡ status.ReadFault) × Rose before now × (text ≡ refusal_text status.ReadFault) × (new ≡ old))
+    ⊎ ((outcome ≡ status.TooLarge) × IsPastLimit left × (text ≡ refusal_text status.TooLarge) × (new ≡ old)))
+
+-- own: the current part was no journal, and has the first bytes of one without a record, also after a crash
+pub record IsFormatted {D : Type 0} (disk : Ghosts D) (old new : D) : Type 0 where
+  pub was : ForTold (disk.seen old) (λ image. stored image ≡ Unformatted)
+  pub bytes : Becomes disk old new (λ before after.
+      after ≡ put (current before) (written 0 first_bytes (get (current before) before)) before)
+  pub keeps : ForTold (disk.seen new) (HasKept nothing)
+  pub durable : IsDurable disk new
+
+-- own: the current part begins with the header of a format
+abbrev pub IsAlready : {D : Type 0} → Ghosts D → D → Type 0
+IsAlready disk old = ForTold (disk.seen old) (λ image. IsSome (format_of (get (current image) image)))
+
+-- own: the disk is formatted with this status and text
+abbrev pub Formats : {D : Type 0} → Ghosts D → (old new : D) → Status → List ℕ → Type 0
+Formats disk old new status.Done text = (text ≡ codes "formatted\n") × IsFormatted disk old new
+Formats disk old new status.DiskFault text =
+    (text ≡ refusal_text status.DiskFault) × Rose (disk.faults old) (disk.faults new)
+Formats disk old new status.AlreadyFormatted text =
+    (text ≡ refusal_text status.AlreadyFormatted) × IsQuiet disk old new × IsAlready disk old
+Formats disk old new _ text = ⊥
+
+-- own: what the disk keeps is shown with this status and text, and nothing is written
+abbrev pub Shows : {D : Type 0} → Ghosts D → (old new : D) → Status → List ℕ → Type 0
+Shows disk old new status.Done text =
+    IsQuiet disk old new × ((kept : Kept) × ForTold (disk.seen old) (HasKept kept) × (text ≡ shown kept))
+Shows disk old new status.DiskFault text =
+    (text ≡ refusal_text status.DiskFault) × Rose (disk.faults old) (disk.faults new) × IsQuiet disk old new
+Shows disk old new status.NotFormatted text =
+    (text ≡ refusal_text status.NotFormatted) × IsQuiet disk old new
+    × ForTold (disk.seen old) (λ image. stored image ≡ Unformatted)
+Shows disk old new status.BadJournal text =
+    (offset : ℕ) × (text ≡ bad_journal_text offset) × IsQuiet disk old new
+    × ForTold (disk.seen old) (λ image. stored image ≡ Bad offset)
+Shows disk old new _ text = ⊥
+
+-- own: statuses that stand only once the source was read to its end
+abbrev pub HasReadAll : Status → Type 0
+HasReadAll status.Done = Unit {0}
+HasReadAll status.BadLine = Unit {0}
+HasReadAll status.DiskFault = Unit {0}
+HasReadAll status.NotFormatted = Unit {0}
+HasReadAll status.BadJournal = Unit {0}
+HasReadAll status.Stalled = Unit {0}
+HasReadAll status.Full = Unit {0}
+HasReadAll status.Spent = Unit {0}
+HasReadAll _ = ⊥
+
+-- before writing, this status stands with this text: the source had these bytes left, its count of faults went from before to
+-- now, and the disk went from old to new
+abbrev pub Stands : {D : Type 0} → Ghosts D → (old new : D) → Option (List ℕ) → (before now : ℕ) → Command → Status → List ℕ → Type 0
+Stands disk old new left before now command.Init outcome text = Formats disk old new outcome text
+Stands disk old new left before now (command.Replay workers) outcome text =
+    ReplaysSource disk old new workers left before now outcome text
+Stands disk old new left before now command.Show outcome text = Shows disk old new outcome text
+Stands disk old new left before now (command.Gen number size) outcome text =
+    HasGenerated number size outcome text × (new ≡ old)
+Stands disk old new left before now command.Unknown outcome text =
+    (outcome ≡ status.BadWords) × (text ≡ refusal_text status.BadWords) × (new ≡ old)
+
+-- own: where there was no memory, a recording has left a disk that was not opened to its end, or on which some run was made
+abbrev pub IsLeftAfter : {D : Type 0} → Ghosts D → (old new : D) → ℕ → Recording → Type 0
+IsLeftAfter disk old new workers recording =
+    IsUnopened disk old new
+    ⊎ ((base : Kept) × (history : List Entry) × (ended : DriveEnd) × Ended disk old new workers recording base history ended)
+
+-- own: the same of bytes: the disk is left alone, or they are a recording
+abbrev pub LeavesAfterBytes : {D : Type 0} → Ghosts D → (old new : D) → ℕ → List ℕ → Type 0
+LeavesAfterBytes disk old new workers bytes =
+    (new ≡ old) ⊎ ((recording : Recording) × (recording_of bytes ≡ Ok recording) × IsLeftAfter disk old new workers recording)
+
+-- own: what is left of the disk where there was no memory
+abbrev pub LeavesWithoutMemory : {D : Type 0} → Ghosts D → (old new : D) → Option (List ℕ) → Command → Type 0
+LeavesWithoutMemory disk old new left command.Init = Unit {0}
+LeavesWithoutMemory disk old new left (command.Replay workers) =
+    (new ≡ old) ⊎ ((bytes : List ℕ) × IsRead left bytes × LeavesAfterBytes disk old new workers bytes)
+LeavesWithoutMemory disk old new left command.Show = IsQuiet disk old new
+LeavesWithoutMemory disk old new left (command.Gen number size) = new ≡ old
+LeavesWithoutMemory disk old new left command.Unknown = new ≡ old
+
+-- own: the source's bytes are a recording, which so many workers ran on the disk to this end, and the text is the transcript of its
+-- history
+pub record HasEnded {D : Type 0} (disk : Ghosts D) (old new : D) (workers : ℕ) (left : Option (List ℕ)) (ended : DriveEnd) (text : List ℕ) : Type 0 where
+  pub bytes : List ℕ
+  pub recording : Recording
+  pub base : Kept
+  pub history : List Entry
+  pub is_read : IsRead left bytes
+  pub is_recording : recording_of bytes ≡ Ok recording
+  pub run : Ended disk old new workers recording base history ended
+  pub printed : text ≡ transcript history (last_of ended)

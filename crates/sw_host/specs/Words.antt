@@ -1,0 +1,61 @@
+-- What words ask for.
+use Rattle.std.specs.Prelude.{ℕ, ◌≤◌, ◌^◌, ◌&&◌, Bool, true, false, List, [], ◌∷◌, Option, Some, None, codes, decimal, bytes_eq, nat_le, nat_lt, String, string_bytes, if◌then◌else◌}
+use Rattle.std.specs.Option.{option_and_then, option_map_or}
+use Rattle.std.specs.Str.Parse.{digits_value}
+use Rattle.std.specs.declared.alloc.Global.{Global}
+use Rattle.sw_host.specs.declared.command.Command.{Command}
+use Rattle.sw_host.specs.declared.command.Command.TheVariants as command
+
+-- the command that is one word
+abbrev pub one_word : List ℕ → Command
+one_word word =
+    if bytes_eq word (codes "init") then command.Init
+    else if bytes_eq word (codes "replay") then command.Replay 1
+    else if bytes_eq word (codes "show") then command.Show
+    else command.Unknown
+
+-- the number below 2^32 that a word is, in decimal digits without leading zeros: that of its digits, where so it is written
+abbrev pub number_of : List ℕ → Option ℕ
+number_of word =
+    let value = digits_value 10 word in
+    if nat_lt value (2 ^ 32) && bytes_eq (decimal value) word then Some value else None
+
+-- the number that a word is, where it is one from the least to the most
+abbrev pub number_within : ℕ → ℕ → List ℕ → Option ℕ
+number_within least most word =
+    option_and_then (λ number. if nat_le least number && nat_le number most then Some number else None) (number_of word)
+
+-- the command that is two words
+abbrev pub two_words : List ℕ → List ℕ → Command
+two_words word workers =
+    if bytes_eq word (codes "replay") then option_map_or command.Replay (number_within 1 16 workers) command.Unknown
+    else command.Unknown
+
+-- the command of a number and a size
+abbrev pub gen_of : Option ℕ → Option ℕ → Command
+gen_of (Some number) (Some size) = command.Gen number size
+gen_of _ _ = command.Unknown
+
+-- the command that is three words
+abbrev pub three_words : List ℕ → List ℕ → List ℕ → Command
+three_words word number size =
+    if bytes_eq word (codes "gen") then gen_of (number_of number) (number_within 1 4096 size) else command.Unknown
+
+-- what the words ask for
+abbrev pub command_of : List (String Global) → Command
+command_of [] = command.Unknown
+command_of (word ∷ []) = one_word (string_bytes word)
+command_of (word ∷ first ∷ []) = two_words (string_bytes word) (string_bytes first)
+command_of (word ∷ first ∷ second ∷ []) = three_words (string_bytes word) (string_bytes first) (string_bytes second)
+command_of (word ∷ first ∷ second ∷ third ∷ rest) = command.Unknown
+
+-- the command runs a recording
+abbrev pub is_replay : Command → Bool
+is_replay (command.Replay workers) = true
+is_replay _ = false
+
+-- own: a command that runs a recording has from 1 to 16 workers, and one that generates it a size from 1 to 4096
+abbrev pub AreWithin : Command → Type 0
+AreWithin (command.Replay workers) = (1 ≤ workers) × (workers ≤ 16)
+AreWithin (command.Gen number size) = (1 ≤ size) × (size ≤ 4096)
+AreWithin _ = Unit {0}

@@ -1,0 +1,225 @@
+//! The top call: words, a source, a sink, a disk and a gate.
+
+ghost use Rattle.std.specs.Prelude.{◌≡◌, ◌≢◌, ◌+◌, ◌≤◌, ℕ, List, true, false, IfOk, OnErr};
+ghost use Rattle.std.specs.Io.KnownBytes.{Appends, IsAtEnd, Keeps};
+ghost use Rattle.sw_data.specs.Faults.{Rose};
+ghost use Rattle.sw_data.specs.Streams.{AppendsPrefix, ConsumesSome};
+ghost use Rattle.sw_host.specs.declared.command.Command.TheVariants as command;
+ghost use Rattle.sw_host.specs.Stands.{HasEnded, HasReadAll, LeavesAfterBytes, LeavesWithoutMemory, Replays, ReplaysSource, Stands};
+ghost use Rattle.sw_host.specs.Words.{command_of, is_replay};
+ghost use Rattle.sw_turns.specs.declared.ends.DriveEnd.TheVariants as drive_end;
+
+use crate::command::{Command, command_of};
+use crate::ending::run_to_end;
+use crate::generating::run_generated;
+use crate::report::{Report, refusal_of, refused};
+use crate::statuses::Status;
+use crate::storing::{format, show};
+use std::alloc::Global;
+use std::sync::Wait;
+use std::thread::Threads;
+use sw_data::NoMemory;
+use sw_disk::Disk;
+use sw_io::{ReadAllError, Sink, Source, read_all, write_all};
+use sw_net::Gate;
+use sw_record::{RECORDING_LIMIT, read_recording};
+
+/// How a run ended, and its disk.
+#[derive(Drop)]
+pub struct Outcome<D> {
+    pub status: Status,
+    pub disk: D,
+}
+
+/// Does what the words say: `init` formats the disk; `replay` reads a recording from the source to its end, runs it on the
+/// disk by one worker, or by as many as the word behind it says, and writes the transcript to the sink; `show` writes what
+/// the disk keeps; `gen` writes what comes of a generated recording that one worker runs on a disk of its own, and leaves
+/// the disk alone.
+///
+/// Workers take turns under a lock, and pass the gate with what they fetch between their turns. Whatever their
+/// number, a run has one history, which holds the calls of each lane in order, each once; how the lanes follow one another
+/// is as it comes. With one worker it is the history that the pick order fixes.
+///
+/// Refusals are tested in this order: words, reading, the source's size, lines, the disk's opening, the run; a write fault
+/// replaces the status that stood. Want of memory may come at any point before writing.
+pub fn run<R: Threads + Wait + Sync, S: Source, K: Sink, D: Disk + Send, G: Gate + Sync>(
+    rt: &R,
+    alloc: Global,
+    words: &[String],
+    source: &mut S,
+    sink: &mut K,
+    disk: D,
+    gate: &G,
+) -> Outcome<D>
+    // The sink took exactly the transcript of one history of the recording that the source's bytes are: legal from what the
+    // disk kept, following the recording, complete, and controlled; with one worker it is in the pick order, and with
+    // more the calls of each lane stand in it in their order, each once. A crash at any moment leaves a disk that keeps
+    // what a prefix of this history made, one that holds every entry that was acknowledged by then; and what the disk
+    // keeps at the end is the durable part of the state after the history.
+    ensures done { result.status ≡ Status.Done
+        → (workers : ℕ) → command_of words.now ≡ command.Replay workers → (text : List ℕ)
+        × HasEnded D.Disk disk result.disk workers (S.left source.old) drive_end.Done text
+        × Appends (K.held sink.old) (K.held sink.new) text }
+
+    // The same of a run after which nothing may happen, and a lane has actions left.
+    ensures stalled { result.status ≡ Status.Stalled
+        → (workers : ℕ) → command_of words.now ≡ command.Replay workers
+        → (text : List ℕ) × (lane : ℕ)
+        × HasEnded D.Disk disk result.disk workers (S.left source.old) (drive_end.Stalled lane) text
+        × Appends (K.held sink.old) (K.held sink.new) text }
+
+    // The same, but for the end that the recording has come to and what the disk keeps then, of a run in which a worker has
+    // made all the turns that a worker makes.
+    ensures spent { result.status ≡ Status.Spent
+        → (workers : ℕ) → command_of words.now ≡ command.Replay workers → (text : List ℕ)
+        × HasEnded D.Disk disk result.disk workers (S.left source.old) drive_end.Spent text
+        × Appends (K.held sink.old) (K.held sink.new) text }
+
+    // Each other status has its cause, and its text was written.
+    ensures stands { result.status ≢ Status.NoMemory → result.status ≢ Status.WriteFault
+        → (text : List ℕ) × Stands D.Disk disk result.disk (S.left source.old)
+        (S.faults source.old) (S.faults source.new) (command_of words.now) result.status text
+        × Appends (K.held sink.old) (K.held sink.new) text }
+
+    // The sink failed, and took a first part of the text that stood.
+    ensures write_fault { result.status ≡ Status.WriteFault
+        → Rose (K.faults sink.old) (K.faults sink.new)
+        × ((status : Status) × (text : List ℕ) × Stands D.Disk disk result.disk (S.left source.old)
+        (S.faults source.old) (S.faults source.new) (command_of words.now) status text
+        × AppendsPrefix (K.held sink.old) (K.held sink.new) text) }
+
+    ensures no_memory { result.status ≡ Status.NoMemory → Keeps (K.held sink.old) (K.held sink.new)
+        × LeavesWithoutMemory D.Disk disk result.disk (S.left source.old) (command_of words.now) }
+
+    // Other words than `replay` leave the source as it was. It is read no further than its end, and to its end where a
+    // recording is run.
+    ensures untouched { is_replay (command_of words.now) ≡ false → source.new ≡ source.old }
+    ensures reads { S.reads source.new ≤ S.reads source.old + (RECORDING_LIMIT + 2) }
+    ensures consumed { is_replay (command_of words.now) ≡ true
+        → ConsumesSome (S.left source.old) (S.left source.new) }
+    ensures end { is_replay (command_of words.now) ≡ true → HasReadAll result.status
+        → IsAtEnd (S.left source.new) }
+{
+    run_on(rt, alloc, words, source, sink, disk, gate)
+}
+
+// The same, where an end of a run is a status beside others.
+fn run_on<R: Threads + Wait + Sync, S: Source, K: Sink, D: Disk + Send, G: Gate + Sync>(
+    rt: &R,
+    alloc: Global,
+    words: &[String],
+    source: &mut S,
+    sink: &mut K,
+    disk: D,
+    gate: &G,
+) -> Outcome<D>
+    ensures stands { result.status ≢ Status.NoMemory → result.status ≢ Status.WriteFault
+        → (text : List ℕ) × Stands D.Disk disk result.disk (S.left source.old)
+        (S.faults source.old) (S.faults source.new) (command_of words.now) result.status text
+        × Appends (K.held sink.old) (K.held sink.new) text }
+    ensures write_fault { result.status ≡ Status.WriteFault
+        → Rose (K.faults sink.old) (K.faults sink.new)
+        × ((status : Status) × (text : List ℕ) × Stands D.Disk disk result.disk (S.left source.old)
+        (S.faults source.old) (S.faults source.new) (command_of words.now) status text
+        × AppendsPrefix (K.held sink.old) (K.held sink.new) text) }
+    ensures no_memory { result.status ≡ Status.NoMemory → Keeps (K.held sink.old) (K.held sink.new)
+        × LeavesWithoutMemory D.Disk disk result.disk (S.left source.old) (command_of words.now) }
+    ensures untouched { is_replay (command_of words.now) ≡ false → source.new ≡ source.old }
+    ensures reads { S.reads source.new ≤ S.reads source.old + (RECORDING_LIMIT + 2) }
+    ensures consumed { is_replay (command_of words.now) ≡ true
+        → ConsumesSome (S.left source.old) (S.left source.new) }
+    ensures end { is_replay (command_of words.now) ≡ true → HasReadAll result.status
+        → IsAtEnd (S.left source.new) }
+{
+    let (report, disk) = report_of(rt, alloc, words, source, disk, gate);
+    let Ok(report) = report else {
+        return Outcome {
+            status: Status::NoMemory,
+            disk,
+        };
+    };
+    let status = match write_all(sink, report.text.as_bytes()) {
+        Ok(()) => report.status,
+        Err(_) => Status::WriteFault,
+    };
+    Outcome { status, disk }
+}
+
+// The status and the text before writing, and the disk.
+fn report_of<R: Threads + Wait + Sync, S: Source, D: Disk + Send, G: Gate + Sync>(
+    rt: &R,
+    alloc: Global,
+    words: &[String],
+    source: &mut S,
+    mut disk: D,
+    gate: &G,
+) -> (Result<Report, NoMemory>, D)
+    ensures stands { IfOk result.0 (λ report. Stands D.Disk disk result.1 (S.left source.old)
+        (S.faults source.old) (S.faults source.new) (command_of words.now) report.status
+        report.text) }
+    ensures no_memory { OnErr result.0 (LeavesWithoutMemory D.Disk disk result.1
+        (S.left source.old) (command_of words.now)) }
+    ensures untouched { is_replay (command_of words.now) ≡ false → source.new ≡ source.old }
+    ensures reads { S.reads source.new ≤ S.reads source.old + (RECORDING_LIMIT + 2) }
+    ensures consumed { is_replay (command_of words.now) ≡ true
+        → ConsumesSome (S.left source.old) (S.left source.new) }
+    ensures end { is_replay (command_of words.now) ≡ true
+        → IfOk result.0 (λ report. HasReadAll report.status → IsAtEnd (S.left source.new)) }
+{
+    match command_of(words) {
+        Command::Init => (format(alloc, &mut disk), disk),
+        Command::Replay(workers) => read(rt, alloc, source, workers, disk, gate),
+        Command::Show => (show(alloc, &mut disk), disk),
+        Command::Gen(number, size) => (run_generated(rt, alloc, number, size), disk),
+        Command::Unknown => (refused(alloc, Status::BadWords), disk),
+    }
+}
+
+// The report of a recording that is read from the source, and the disk.
+fn read<R: Threads + Wait + Sync, S: Source, D: Disk + Send, G: Gate + Sync>(
+    rt: &R,
+    alloc: Global,
+    source: &mut S,
+    workers: u32,
+    disk: D,
+    gate: &G,
+) -> (Result<Report, NoMemory>, D)
+    requires some { 1 ≤ workers }
+    requires few { workers ≤ 16 }
+    ensures replays { IfOk result.0 (λ report. ReplaysSource D.Disk disk result.1 workers
+        (S.left source.old) (S.faults source.old) (S.faults source.new) report.status report.text) }
+    ensures no_memory { OnErr result.0 (LeavesWithoutMemory D.Disk disk result.1
+        (S.left source.old) (command.Replay workers)) }
+    ensures reads { S.reads source.new ≤ S.reads source.old + (RECORDING_LIMIT + 2) }
+    ensures consumed { ConsumesSome (S.left source.old) (S.left source.new) }
+    ensures end { IfOk result.0 (λ report. HasReadAll report.status
+        → IsAtEnd (S.left source.new)) }
+{
+    match read_all(alloc, source, RECORDING_LIMIT) {
+        Ok(bytes) => replay(rt, alloc, bytes.as_bytes(), workers, disk, gate),
+        Err(ReadAllError::ReadFault) => (refused(alloc, Status::ReadFault), disk),
+        Err(ReadAllError::TooLarge) => (refused(alloc, Status::TooLarge), disk),
+        Err(ReadAllError::NoMemory) => (Err(NoMemory), disk),
+    }
+}
+
+// The report of bytes that were read, and the disk.
+fn replay<R: Threads + Wait + Sync, D: Disk + Send, G: Gate + Sync>(
+    rt: &R,
+    alloc: Global,
+    bytes: &[u8],
+    workers: u32,
+    disk: D,
+    gate: &G,
+) -> (Result<Report, NoMemory>, D)
+    requires some { 1 ≤ workers }
+    requires few { workers ≤ 16 }
+    ensures replays { IfOk result.0 (λ report.
+        Replays D.Disk disk result.1 workers bytes.now report.status report.text) }
+    ensures no_memory { OnErr result.0 (LeavesAfterBytes D.Disk disk result.1 workers bytes.now) }
+{
+    match read_recording(alloc, bytes) {
+        Ok(recording) => run_to_end(rt, alloc, recording, workers, disk, gate),
+        Err(error) => (refusal_of(alloc, error), disk),
+    }
+}

@@ -1,0 +1,82 @@
+-- What the end of the fetch of a job's script comes to.
+use Rattle.std.proofs.Common.{◌≡◌, ◌∙◌, ℕ, true, Option, Some, None, find, refl, ap, arith}
+use Rattle.std.specs.Prelude.{IfSome}
+use Rattle.sw_data.specs.declared.answers.Answer.TheVariants as answer
+use Rattle.sw_data.specs.declared.answers.Fault.{Fault}
+use Rattle.sw_data.specs.declared.recordings.Fetched.{Fetched}
+use Rattle.sw_data.specs.declared.recordings.FetchLine.{FetchLine}
+use Rattle.sw_data.specs.declared.rows.JobRow.{JobRow}
+use Rattle.sw_data.specs.declared.rows.WorkerRow.{WorkerRow}
+use Rattle.sw_install.proofs.Enabled.{if_some}
+use Rattle.sw_install.specs.Fetches.{ComesTo, IsOutcome, fetch_outcome}
+use Rattle.sw_install.specs.declared.calls.FetchOutcome.{FetchOutcome}
+use Rattle.sw_install.specs.declared.calls.FetchOutcome.TheVariants as outcome
+use Rattle.sw_rules.specs.Installing.{fetch_ended, fetched, fetched_of, fetched_script, job_in, keep_script, make_worker, reject_and_drop, script_fault}
+use Rattle.sw_rules.specs.Rows.{in_phase, is_fetching, is_job}
+use Rattle.sw_rules.specs.State.{State}
+use Rattle.sw_tables.proofs.Rows.{found_number}
+
+module _ (state : State) (registration : ℕ) (row : JobRow) where
+  ended_rejected : (f : Option Fetched) (why : Fault) → outcome.Rejected why ≡ fetch_outcome state row registration f
+      → fetch_ended state row f registration ≡ record { answer = answer.Rejected; told = reject_and_drop state row.job.number registration why }
+  unfolding fetched_script
+  ended_rejected None why comes = cc
+  ended_rejected (Some f) why comes = by (script_fault row.job f) refl
+    where
+      by : (o : Option Fault) → script_fault row.job f ≡ o
+          → fetch_ended state row (Some f) registration ≡ record { answer = answer.Rejected; told = reject_and_drop state row.job.number registration why }
+      by (Some w) is = grind (arith, is, comes)
+      by None is = grind (arith, is, comes)
+
+  ended_unchanged : (f : Option Fetched) → outcome.Unchanged ≡ fetch_outcome state row registration f
+      → fetch_ended state row f registration ≡ record { answer = answer.Unchanged; told = keep_script state row.job registration }
+  unfolding fetched_script
+  ended_unchanged None comes = absurd cc
+  ended_unchanged (Some f) comes = by (script_fault row.job f) refl
+    where
+      by : (o : Option Fault) → script_fault row.job f ≡ o
+          → fetch_ended state row (Some f) registration ≡ record { answer = answer.Unchanged; told = keep_script state row.job registration }
+      by (Some w) is = grind (arith, is, comes)
+      by None is = grind (arith, is, comes)
+
+  ended_changed : (f : Option Fetched) → outcome.Changed ≡ fetch_outcome state row registration f
+      → (fetched : Fetched) × (f ≡ Some fetched) × (fetch_ended state row f registration ≡ record { answer = answer.Changed; told = make_worker state row registration fetched })
+  unfolding fetched_script
+  ended_changed None comes = absurd cc
+  ended_changed (Some f) comes = (f, refl, by (script_fault row.job f) refl)
+    where
+      by : (o : Option Fault) → script_fault row.job f ≡ o
+          → fetch_ended state row (Some f) registration ≡ record { answer = answer.Changed; told = make_worker state row registration f }
+      by (Some w) is = grind (arith, is, comes)
+      by None is = grind (arith, is, comes)
+
+module _ (state : State) (number registration : ℕ) (row : JobRow) (line : Option FetchLine) (is : find (is_job number) state.jobs ≡ Some row) (fetches : in_phase is_fetching row ≡ true) (of : row.registration ≡ Some registration) where
+  own_number : row.job.number ≡ number
+  own_number = found_number (λ (r : JobRow). r.job.number) number state.jobs row is
+
+  ends : fetched state number line ≡ Some (fetch_ended state row (fetched_of line) registration)
+  ends = grind (arith, is, fetches, of)
+
+  pub rejected : (why : Fault) → outcome.Rejected why ≡ fetch_outcome state row registration (fetched_of line)
+      → fetched state number line ≡ Some (record { answer = answer.Rejected; told = reject_and_drop state number registration why })
+  rejected why comes =
+      ends
+      ∙ (ap Some (ended_rejected state registration row (fetched_of line) why comes)
+      ∙ ap (λ (n : ℕ). Some (record { answer = answer.Rejected; told = reject_and_drop state n registration why })) own_number)
+
+  pub unchanged : outcome.Unchanged ≡ fetch_outcome state row registration (fetched_of line)
+      → fetched state number line ≡ Some (record { answer = answer.Unchanged; told = keep_script state row.job registration })
+  unchanged comes = ends ∙ ap Some (ended_unchanged state registration row (fetched_of line) comes)
+
+  pub script_changed : outcome.Changed ≡ fetch_outcome state row registration (fetched_of line)
+      → (new : Fetched) × (fetched_of line ≡ Some new) × (fetched state number line ≡ Some (record { answer = answer.Changed; told = make_worker state row registration new }))
+  script_changed comes =
+      let ended = ended_changed state registration row (fetched_of line) comes in (ended.0, ended.1, ends ∙ ap Some ended.2)
+
+-- the outcome of a fetch that is in flight
+pub outcome_of : (given : FetchOutcome) (made : Option WorkerRow) (state : State) (number registration : ℕ) (row : JobRow) (line : Option FetchLine)
+    → job_in (in_phase is_fetching) state number ≡ Some row → row.registration ≡ Some registration → ComesTo given made state number line
+    → IsOutcome given made state row (fetched_of line) registration
+outcome_of given made state number registration row line is of comes =
+    if_some (IsOutcome given made state row (fetched_of line)) row.registration registration of
+    (if_some (λ (r : JobRow). IfSome r.registration (IsOutcome given made state r (fetched_of line))) (job_in (in_phase is_fetching) state number) row is comes)

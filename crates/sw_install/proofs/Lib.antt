@@ -1,0 +1,11 @@
+pub mod Noted
+pub mod Parts
+pub mod Standing
+pub mod Enabled
+pub mod Evaluating
+pub mod Ended
+pub mod Added
+pub mod FetchEnds
+pub mod Ready
+pub mod Runs
+pub mod Made

@@ -1,0 +1,4 @@
+pub mod Answers
+pub mod Underway
+pub mod Fetches
+pub mod Runs

@@ -1,0 +1,9 @@
+pub mod Content
+pub mod Format
+pub mod Gate
+pub mod Init
+pub mod Journal
+pub mod Quiet
+pub mod Reopening
+pub mod Version
+pub mod WholePart

@@ -1,0 +1,4 @@
+pub mod Appended
+pub mod Checkpoints
+pub mod Contents
+pub mod Opened

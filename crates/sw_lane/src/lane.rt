@@ -1,0 +1,71 @@
+//! One lane.
+
+ghost use Rattle.std.specs.Prelude.{◌≡◌, ◌^◌, ◌<◌, ◌+◌, true, length, is_some, Some, option_map, slice_get, IfSome};
+ghost use Rattle.sw_lane.specs.Left.{begun, moved};
+
+use std::collections::VecDeque;
+use std::marker::Model;
+use sw_data::{Action, Items};
+
+/// The position of a lane, and the actions that it goes on with.
+#[derive(Drop)]
+pub(crate) struct Lane {
+    at: u32,
+    left: VecDeque<Action>,
+}
+
+impl Model for Lane {
+    ghost use Rattle.std.specs.Prelude.{◌<◌, ◌^◌, ◌+◌, length};
+    ghost use Rattle.sw_lane.specs.Left.{Left};
+
+    ghost Value = { Left };
+
+    ghost view = { λ lane. record { at = lane.at; actions = lane.left.items } };
+
+    ghost invariant = { λ lane. lane.at + length lane.left.items < 2 ^ 32 };
+}
+
+impl Lane {
+    // A lane at its beginning; none where its positions would pass their type. It takes no memory.
+    pub(crate) fn new(actions: Items<Action>) -> Option<Lane>
+        ensures { IfSome result (λ lane. lane ≡ begun actions) }
+    {
+        let actions = actions.into_vec();
+        if actions.len() > u32::MAX as usize {
+            return None;
+        }
+        Some(Lane {
+            at: 0,
+            left: VecDeque::from(actions),
+        })
+    }
+
+    // The position of the next action; it takes no memory.
+    pub(crate) fn at(&self) -> u32
+        ensures { result ≡ self.now.at }
+    {
+        self.at
+    }
+
+    // The next action; it takes no memory.
+    pub(crate) fn next(&self) -> Option<&Action>
+        ensures { option_map (λ action. action.now) result ≡ slice_get self.now.actions 0 }
+    {
+        self.left.front()
+    }
+
+    // Takes the next action; it takes no memory.
+    pub(crate) fn take(&mut self) -> Action
+        requires { is_some (slice_get self.old.actions 0) ≡ true }
+        ensures action { slice_get self.old.actions 0 ≡ Some result }
+        ensures moved { self.new ≡ moved self.old }
+    {
+        match self.left.pop_front() {
+            Some(action) => {
+                self.at += 1;
+                action
+            }
+            None => unreachable!(),
+        }
+    }
+}

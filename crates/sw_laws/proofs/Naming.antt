@@ -1,0 +1,187 @@
+-- A transcript names one history: its marks name the events, and the events the rest.
+use Rattle.std.proofs.Common.{◌≡◌, ◌∙◌, ℕ, ◌<◌, Bool, true, false, ◌&&◌, List, [], ◌∷◌, ◌++◌, Option, Some, None, refl, sym, ap, subst, arith, append_assoc, length, length-append, codes, flat_map, option_and_then, slice_get, if◌then◌else◌, All}
+use Rattle.std.specs.Option.{option_map_or}
+use Rattle.std.proofs.lemmas.List.{append_cancel_left, append_cancel_right}
+use Rattle.std.proofs.lemmas.List.Elements.{All-head, All-tail}
+use Rattle.sw_data.specs.declared.answers.Answer.{Answer}
+use Rattle.sw_data.specs.declared.answers.Notice.{Notice}
+use Rattle.sw_data.specs.declared.events.Event.{Event}
+use Rattle.sw_data.specs.declared.events.Event.TheVariants as event
+use Rattle.sw_data.specs.declared.events.Who.{Who}
+use Rattle.sw_data.specs.declared.events.Who.TheVariants as who
+use Rattle.sw_data.specs.declared.histories.Entry.{Entry}
+use Rattle.sw_data.specs.declared.recordings.Call.{Call}
+use Rattle.sw_data.specs.declared.recordings.Recording.{Recording}
+use Rattle.sw_data.specs.declared.storage.Kept.{Kept}
+use Rattle.sw_data.specs.declared.workers.Phase.{Phase}
+use Rattle.sw_data.specs.Events.{who_of}
+use Rattle.sw_data.specs.Sameness.{same_call}
+use Rattle.sw_print.specs.Transcript.{end_line, line_of_entry, mark, rest_of_line}
+use Rattle.sw_rules.specs.Calls.{call_by, is_at, is_next_call}
+use Rattle.sw_rules.specs.History.{EachFrom, IsOpening, IsStep, moved}
+use Rattle.sw_rules.specs.Installing.{calls_of}
+use Rattle.sw_rules.specs.Picks.{IsFollowing, IsNextOfLane, IsRecorded}
+use Rattle.sw_rules.specs.Restart.{restart}
+use Rattle.sw_rules.specs.Rows.{free_handler, worker_row}
+use Rattle.sw_rules.specs.State.{State, Worker}
+use Rattle.sw_rules.specs.Step.{state_after, step}
+use Rattle.sw_rules.specs.Told.{Outcome}
+use Rattle.sw_laws.specs.Naming.{Fits, IsSameEntry, IsSameHistory, NamesOneHistory}
+use Rattle.sw_laws.proofs.Cuts.{cut, free, free-append}
+use Rattle.sw_laws.proofs.HostEvents.{call_form, host_form, same_host_event}
+use Rattle.sw_laws.proofs.Marks.{free_mark, same_mark}
+use Rattle.sw_laws.proofs.SameCalls.{equal_calls}
+
+-- ---- one event
+
+some_same : {A : Type 0} (x y : A) → Some x ≡ Some y → x ≡ y
+some_same x y is = cc
+
+same_lane_event : (recording : Recording) (b c : List Entry) (one other : Entry) (lane at : ℕ) → one.who ≡ who.Lane lane at → other.who ≡ who.Lane lane at
+    → IsNextOfLane recording b one one.who → IsNextOfLane recording c other other.who → one.event ≡ other.event
+same_lane_event recording b c one other lane at is is' next next' =
+    let m = subst (λ (w : Who). IsNextOfLane recording b one w) is next in
+    let n = subst (λ (w : Who). IsNextOfLane recording c other w) is' next' in
+    some_same one.event other.event (sym m.1 ∙ n.1)
+
+guard : {A : Type 0} (b : Bool) (x : Option A) (o : A) → (if b then x else None) ≡ Some o → b ≡ true
+guard true x o is = refl
+guard false x o is = cc
+
+second : (a b : Bool) → (a && b) ≡ true → b ≡ true
+second a b is = grind arith
+
+-- a call that is made is the one that the worker's list has
+is_listed : (state : State) (worker : ℕ) (p : Phase) (number : ℕ) (called : Call) (row : Option Worker) (o : Outcome)
+    → option_and_then (λ r. if is_next_call state r p number called then call_by state (who.Handler worker p number) r p called else None) row ≡ Some o
+    → option_map_or (same_call called) (option_and_then (λ r. slice_get (calls_of r p) number) row) false ≡ true
+is_listed state worker p number called None o is = cc
+is_listed state worker p number called (Some row) o is =
+    second (option_map_or (is_at p number) (free_handler state row.number) false) (option_map_or (same_call called) (slice_get (calls_of row p) number) false)
+    (guard (is_next_call state row p number called) (call_by state (who.Handler worker p number) row p called) o is)
+
+agree : (listed : Option Call) (c d : Call) → option_map_or (same_call c) listed false ≡ true → option_map_or (same_call d) listed false ≡ true → c ≡ d
+agree None c d a b = cc
+agree (Some k) c d a b = equal_calls c k a ∙ sym (equal_calls d k b)
+
+same_call_event : (state : State) (one other : Event) (o q : Outcome) (worker : ℕ) (p : Phase) (number : ℕ) → step state one ≡ Some o → step state other ≡ Some q
+    → who_of one ≡ who.Handler worker p number → who_of other ≡ who.Handler worker p number → one ≡ other
+same_call_event state one other o q worker p number is is' f g =
+    let x = call_form state one o worker p number is f in
+    let y = call_form state other q worker p number is' g in
+    let listed = option_and_then (λ r. slice_get (calls_of r p) number) (worker_row state worker) in
+    let same = agree listed x.0 y.0 (is_listed state worker p number x.0 (worker_row state worker) o x.2) (is_listed state worker p number y.0 (worker_row state worker) q y.2) in
+    x.1 ∙ ap (λ (c : Call). event.Call (who.Handler worker p number) c) same ∙ sym y.1
+
+-- entries of one mark that are steps of one state have one event
+same_event : (recording : Recording) (b c : List Entry) (state : State) (one other : Entry) → IsStep b state one → IsStep c state other
+    → IsRecorded recording b state one → IsRecorded recording c state other → Fits one → Fits other → mark one.event ≡ mark other.event → one.event ≡ other.event
+same_event recording b c state one other s t r q f g is =
+    let both = same_mark one.event other.event f.maker g.maker is in
+    elim (who_of one.event) as (λ (w : Who). who_of one.event ≡ w → one.event ≡ other.event) [
+      | who.Host ↦ λ h.
+          same_host_event recording state one.event other.event
+          (host_form state one.event (outcome s) (s.step.1) h) (host_form state other.event (outcome t) (t.step.1) (sym both.0 ∙ h))
+          f.number g.number r.lines q.lines both.1
+      | who.Lane lane at ↦ λ h.
+          same_lane_event recording b c one other lane at (s.maker ∙ h) (t.maker ∙ sym both.0 ∙ h) r.action q.action
+      | who.Handler worker p number ↦ λ h.
+          same_call_event state one.event other.event (outcome s) (outcome t) worker p number (s.step.1) (t.step.1) h (sym both.0 ∙ h)
+    ] refl
+  where
+    outcome : {before : List Entry} {old : State} {entry : Entry} → IsStep before old entry → Outcome
+    outcome {before} {old} {entry} step_is = record { answer = entry.answer; told = record { state = moved old entry; notices = entry.notices; changes = step_is.step.0 } }
+
+-- ---- histories
+
+reshape : (m r f t : List ℕ) → ((m ++ (codes " -> " ++ r)) ++ f) ++ t ≡ (m ++ 32 ∷ 45 ∷ []) ++ 62 ∷ (32 ∷ (r ++ (f ++ t)))
+reshape m r f t = simp append_assoc
+
+behind : (x : ℕ) (a b : List ℕ) → x ∷ a ≡ x ∷ b → a ≡ b
+behind x a b is = cc
+
+-- two texts that begin with lines: their marks are equal, and so is what follows
+cut_lines : (m n r q f g t : List ℕ) → free 62 m ≡ true → free 62 n ≡ true
+    → ((m ++ (codes " -> " ++ r)) ++ f) ++ t ≡ ((n ++ (codes " -> " ++ q)) ++ g) ++ t → (m ≡ n) × (r ++ (f ++ t) ≡ q ++ (g ++ t))
+cut_lines m n r q f g t a b is =
+    let both = cut 62 (m ++ 32 ∷ 45 ∷ []) (n ++ 32 ∷ 45 ∷ []) (32 ∷ (r ++ (f ++ t))) (32 ∷ (q ++ (g ++ t)))
+    (free-append 62 m (32 ∷ 45 ∷ []) a refl) (free-append 62 n (32 ∷ 45 ∷ []) b refl) (sym (reshape m r f t) ∙ is ∙ reshape n q g t) in
+    let tails : r ++ (f ++ t) ≡ q ++ (g ++ t) = behind 32 (r ++ (f ++ t)) (q ++ (g ++ t)) both.1 in
+    (append_cancel_right m n (32 ∷ 45 ∷ []) both.0, tails)
+
+longer : (line f t : List ℕ) → 0 < length line → t ≡ (line ++ f) ++ t → ⊥
+longer line f t some is = omega (arith, some, ap length is, length-append (line ++ f) t, length-append line f)
+
+line_length : (entry : Entry) → 0 < length (line_of_entry entry)
+line_length entry = omega (arith, length-append (mark entry.event) (codes " -> " ++ rest_of_line entry))
+
+-- steps of one state by one event have one outcome
+same_outcome : (b c : List Entry) (state : State) (one other : Entry) → IsStep b state one → IsStep c state other → one.event ≡ other.event
+    → IsSameEntry one other
+same_outcome b c state one other s t is =
+    let o : Outcome = record { answer = one.answer; told = record { state = moved state one; notices = one.notices; changes = s.step.0 } } in
+    let q : Outcome = record { answer = other.answer; told = record { state = moved state other; notices = other.notices; changes = t.step.0 } } in
+    let same = some_same o q (sym s.step.1 ∙ ap (step state) is ∙ t.step.1) in
+    record {
+      event = is;
+      answer = ap (λ (x : Outcome). x.answer) same;
+      notices = ap (λ (x : Outcome). x.told.notices) same;
+    }
+
+same_rest : (one other : Entry) → IsSameEntry one other → rest_of_line one ≡ rest_of_line other
+same_rest one other same =
+    ap (λ (a : Answer). rest_of_line (record one { answer = a })) same.answer
+    ∙ ap (λ (n : List Notice). rest_of_line (record one { answer = other.answer; notices = n })) same.notices
+
+-- histories from one state with one text are one
+named : (recording : Recording) (t : List ℕ) (b c : List Entry) (state : State) (one other : List Entry)
+    → EachFrom IsStep b state one → EachFrom IsStep c state other
+    → EachFrom (IsFollowing recording) b state one → EachFrom (IsFollowing recording) c state other
+    → All Fits one → All Fits other → flat_map line_of_entry one ++ t ≡ flat_map line_of_entry other ++ t → IsSameHistory one other
+named recording t b c state [] [] s s' f f' a a' is = tt
+named recording t b c state [] (x ∷ xs) s s' f f' a a' is = longer (line_of_entry x) (flat_map line_of_entry xs) t (line_length x) is
+named recording t b c state (x ∷ xs) [] s s' f f' a a' is = longer (line_of_entry x) (flat_map line_of_entry xs) t (line_length x) (sym is)
+named recording t b c state (x ∷ xs) (y ∷ ys) s s' f f' a a' is =
+    let fx = All-head Fits x xs a in
+    let fy = All-head Fits y ys a' in
+    let both = cut_lines (mark x.event) (mark y.event) (rest_of_line x) (rest_of_line y) (flat_map line_of_entry xs) (flat_map line_of_entry ys) t
+    (free_mark x.event fx.maker fx.number) (free_mark y.event fy.maker fy.number) is in
+    let event_is = same_event recording b c state x y s.0 s'.0 f.0.recorded f'.0.recorded fx fy both.0 in
+    let same = same_outcome b c state x y s.0 s'.0 event_is in
+    let rests : rest_of_line x ++ (flat_map line_of_entry xs ++ t) ≡ rest_of_line x ++ (flat_map line_of_entry ys ++ t) =
+    both.1 ∙ ap (λ (r : List ℕ). r ++ (flat_map line_of_entry ys ++ t)) (sym (same_rest x y same)) in
+    let states : moved state y ≡ moved state x = ap (state_after state) (sym event_is) in (
+      same,
+      named recording t (b ++ x ∷ []) (c ++ y ∷ []) (moved state x) xs ys s.1
+          (subst (λ (z : State). EachFrom IsStep (c ++ y ∷ []) z ys) states s'.1) f.1
+          (subst (λ (z : State). EachFrom (IsFollowing recording) (c ++ y ∷ []) z ys) states f'.1)
+          (All-tail Fits x xs a) (All-tail Fits y ys a')
+          (append_cancel_left (rest_of_line x) (flat_map line_of_entry xs ++ t) (flat_map line_of_entry ys ++ t) rests),
+    )
+
+same_opening : (base : Kept) (one other : Entry) → IsOpening base one → IsOpening base other → IsSameEntry one other
+same_opening base one other a b = record {
+  event = a.event ∙ sym b.event;
+  answer = a.answer ∙ sym b.answer;
+  notices = a.notices ∙ sym b.notices;
+}
+
+same_line : (one other : Entry) → IsSameEntry one other → line_of_entry one ≡ line_of_entry other
+same_line one other same =
+    ap (λ (e : Event). mark e ++ (codes " -> " ++ rest_of_line one)) same.event
+    ∙ ap (λ (r : List ℕ). mark other.event ++ (codes " -> " ++ r)) (same_rest one other same)
+
+pub names_one_history : NamesOneHistory
+names_one_history base recording [] other ending a a' legal legal' follows follows' is = absurd legal.opens
+names_one_history base recording (x ∷ xs) [] ending a a' legal legal' follows follows' is = absurd legal'.opens
+names_one_history base recording (x ∷ xs) (y ∷ ys) ending a a' legal legal' follows follows' is =
+    let same = same_opening base x y legal.opens legal'.opens in
+    let t = end_line ending in
+    let left : (line_of_entry x ++ flat_map line_of_entry xs) ++ t ≡ line_of_entry x ++ (flat_map line_of_entry xs ++ t) = append_assoc (line_of_entry x) (flat_map line_of_entry xs) t in
+    let right : (line_of_entry y ++ flat_map line_of_entry ys) ++ t ≡ line_of_entry y ++ (flat_map line_of_entry ys ++ t) = append_assoc (line_of_entry y) (flat_map line_of_entry ys) t in
+    let texts : line_of_entry x ++ (flat_map line_of_entry xs ++ t) ≡ line_of_entry x ++ (flat_map line_of_entry ys ++ t) =
+    sym left ∙ is ∙ right ∙ ap (λ (l : List ℕ). l ++ (flat_map line_of_entry ys ++ t)) (sym (same_line x y same)) in (
+      same,
+      named recording t (x ∷ []) (y ∷ []) (restart base) xs ys legal.steps legal'.steps follows follows' (All-tail Fits x xs a) (All-tail Fits y ys a')
+          (append_cancel_left (line_of_entry x) (flat_map line_of_entry xs ++ t) (flat_map line_of_entry ys ++ t) texts),
+    )

@@ -1,0 +1,10 @@
+//! That a transcript names one history.
+
+ghost use Rattle.sw_laws.specs.Naming.{NamesOneHistory};
+
+/// Two legal histories from one content that follow one recording and have one transcript are equal but for their
+/// passes and stamps.
+#[tactic(auto, using(crate::proofs::Naming::names_one_history))]
+pub fn transcripts_name_one_history()
+    ensures { NamesOneHistory }
+{}

@@ -1,0 +1,4 @@
+pub mod Drawn
+pub mod Promised
+pub mod Tasks
+pub mod Preloaded

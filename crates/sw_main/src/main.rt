@@ -1,0 +1,104 @@
+//! The program `swhost`: the words are its arguments, the source is standard input, the sink is standard output, and the
+//! disk is three files of the current folder.
+#![tactic(auto)]
+
+ghost use Rattle.std.specs.Prelude.{◌≡◌, ◌≢◌, ◌+◌, ◌≤◌, ℕ, List, true, false};
+ghost use Rattle.std.specs.Io.KnownBytes.{Appends, Keeps};
+ghost use Rattle.std.specs.Process.{exit_status};
+ghost use Rattle.sw_data.specs.Faults.{Rose};
+ghost use Rattle.sw_data.specs.Streams.{AppendsPrefix, ConsumesSome};
+ghost use Rattle.sw_host.specs.declared.command.Command.TheVariants as command;
+ghost use Rattle.sw_host.specs.declared.statuses.Status.{Status};
+ghost use Rattle.sw_host.specs.Stands.{HasEnded, LeavesWithoutMemory, Stands};
+ghost use Rattle.sw_host.specs.Texts.{code_of};
+ghost use Rattle.sw_host.specs.Words.{command_of, is_replay};
+ghost use Rattle.sw_turns.specs.declared.ends.DriveEnd.TheVariants as drive_end;
+ghost use Rattle.sw_record.specs.declared.limits.TheConstants.{RECORDING_LIMIT};
+
+use std::alloc::Global;
+use std::env;
+use std::fs::{File, OpenOptions};
+use std::process::ExitCode;
+use std::sync::Wait;
+use std::thread::Threads;
+use sw_disk::{Disk, FileDisk};
+use sw_host::{Status, run};
+use sw_io::{Sink, Source, StdSink, StdSource};
+use sw_net::{Gate, NoGate};
+
+// Does what the words say, as `run` does, and hands out the number of the status, with the disk.
+fn ended<R: Threads + Wait + Sync, S: Source, K: Sink, D: Disk + Send, G: Gate + Sync>(
+    rt: &R,
+    alloc: Global,
+    words: &[String],
+    source: &mut S,
+    sink: &mut K,
+    disk: D,
+    gate: &G,
+) -> (ExitCode, D)
+    ensures done { exit_status result.0 ≡ 0
+        → (workers : ℕ) → command_of words.now ≡ command.Replay workers → (text : List ℕ)
+        × HasEnded D.Disk disk result.1 workers (S.left source.old) drive_end.Done text
+        × Appends (K.held sink.old) (K.held sink.new) text }
+    ensures stalled { exit_status result.0 ≡ 9
+        → (workers : ℕ) → command_of words.now ≡ command.Replay workers
+        → (text : List ℕ) × (lane : ℕ)
+        × HasEnded D.Disk disk result.1 workers (S.left source.old) (drive_end.Stalled lane) text
+        × Appends (K.held sink.old) (K.held sink.new) text }
+    ensures spent { exit_status result.0 ≡ 13
+        → (workers : ℕ) → command_of words.now ≡ command.Replay workers → (text : List ℕ)
+        × HasEnded D.Disk disk result.1 workers (S.left source.old) drive_end.Spent text
+        × Appends (K.held sink.old) (K.held sink.new) text }
+
+    // The exit status is the number of a status, which has its cause.
+    ensures stands { exit_status result.0 ≢ 1 → exit_status result.0 ≢ 5
+        → (outcome : Status) × (exit_status result.0 ≡ code_of outcome)
+        × ((text : List ℕ) × Stands D.Disk disk result.1 (S.left source.old)
+        (S.faults source.old) (S.faults source.new) (command_of words.now) outcome text
+        × Appends (K.held sink.old) (K.held sink.new) text) }
+    ensures write_fault { exit_status result.0 ≡ 5
+        → Rose (K.faults sink.old) (K.faults sink.new)
+        × ((status : Status) × (text : List ℕ) × Stands D.Disk disk result.1 (S.left source.old)
+        (S.faults source.old) (S.faults source.new) (command_of words.now) status text
+        × AppendsPrefix (K.held sink.old) (K.held sink.new) text) }
+    ensures no_memory { exit_status result.0 ≡ 1 → Keeps (K.held sink.old) (K.held sink.new)
+        × LeavesWithoutMemory D.Disk disk result.1 (S.left source.old) (command_of words.now) }
+
+    // What it reads.
+    ensures untouched { is_replay (command_of words.now) ≡ false → source.new ≡ source.old }
+    ensures reads { S.reads source.new ≤ S.reads source.old + (RECORDING_LIMIT + 2) }
+    ensures consumed { is_replay (command_of words.now) ≡ true
+        → ConsumesSome (S.left source.old) (S.left source.new) }
+{
+    let outcome = run(rt, alloc, words, source, sink, disk, gate);
+    (ExitCode::from(outcome.status.code()), outcome.disk)
+}
+
+// A file of the current folder, which is made where there is none.
+fn file(rt: &HostRuntime, name: &str) -> Option<File> {
+    let mut options = OpenOptions::new();
+    options.read(true);
+    options.write(true);
+    options.create(true);
+    options.open(rt, name).ok()
+}
+
+fn main(rt: HostRuntime) -> ExitCode {
+    let alloc = rt.alloc();
+    let mut words = Vec::new(alloc);
+    if let Ok(arguments) = env::args(&rt) {
+        for word in arguments.skip(1) {
+            if words.push(word).is_err() {
+                return ExitCode::from(Status::NoMemory.code());
+            }
+        }
+    }
+    let mut source = StdSource::new(rt.stdin());
+    let mut sink = StdSink::new(rt.stdout());
+    let disk = FileDisk::new(
+        file(&rt, "swhost.root"),
+        file(&rt, "swhost.left"),
+        file(&rt, "swhost.right"),
+    );
+    ended(&rt, alloc, &words, &mut source, &mut sink, disk, &NoGate).0
+}

@@ -1,0 +1,2 @@
+pub mod VaryLemmas
+pub mod ValueLemmas

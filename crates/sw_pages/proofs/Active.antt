@@ -1,0 +1,94 @@
+-- The active worker of a registration, and that of the registration that an address matches.
+use Rattle.std.proofs.Common.{◌≡◌, ◌∙◌, ℕ, true, List, Option, Some, None, is_some, option_map, option_and_then, refl, ap, arith}
+use Rattle.sw_data.specs.Addresses.{same_origin}
+use Rattle.sw_data.specs.declared.answers.Answer.TheVariants as answer
+use Rattle.sw_data.specs.declared.rows.ClientRow.{ClientRow}
+use Rattle.sw_data.specs.declared.workers.Slot.TheVariants as slot
+use Rattle.sw_reg.specs.Table as registrations
+use Rattle.sw_reg.specs.Table.{slot_of}
+use Rattle.sw_rules.specs.Clients.{ready, ready_registration, registration_at, registration_or_undefined}
+use Rattle.sw_rules.specs.Rows.{active_worker, client_row, matched_registration}
+use Rattle.sw_rules.specs.State.{State}
+use Rattle.sw_rules.specs.Told.{Outcome, answered}
+use Rattle.sw_tables.proofs.Rows.{within}
+use Rattle.sw_tables.proofs.Standing.{stands}
+use Rattle.sw_tables.specs.Linked.{HasSlots}
+use Rattle.sw_pages.specs.Active.{IsOwned, active_match}
+use Rattle.sw_worker.specs.Table as workers
+
+there : {X : Type 0} (o : Option X) → is_some o ≡ true → (x : X) × (o ≡ Some x)
+there None is = absurd cc
+there (Some x) is = (x, refl)
+
+module _ (of_workers : workers.Table) (of_registrations : registrations.Table) (has : HasSlots of_workers of_registrations) where
+  -- the worker in the active slot of a registration is its worker
+  pub owned : (registration n : ℕ) → slot_of slot.Active registration of_registrations.rows ≡ Some n → IsOwned of_workers of_registrations (n, registration)
+  owned registration n is =
+      let stood = stands of_workers of_registrations has slot.Active registration n is in
+      let right = has.rows n stood.0 stood.1.is in
+      let found = there (registrations.registration_at stood.0.registration of_registrations.rows) right.owner in
+      let below = within (λ row. row.number) stood.0.registration of_registrations.rows found.0 has.registration_places found.1 in
+      record {
+        owner = ap (option_map (λ row. row.registration)) stood.1.is ∙ ap Some stood.1.owner;
+        known = grind (arith, below, stood.1.owner);
+      }
+
+-- ---- the parts of what is found
+
+abbrev pub first : ℕ × ℕ → ℕ
+first found = found.0
+
+abbrev pub second : ℕ × ℕ → ℕ
+second found = found.1
+
+pub firsts : (f : ℕ → Option ℕ) (o : Option ℕ)
+    → option_map first (option_and_then (λ registration. option_map (λ worker. (worker, registration)) (f registration)) o) ≡ option_and_then f o
+firsts f None = refl
+firsts f (Some n) = by (f n)
+  where
+    by : (o : Option ℕ) → option_map first (option_map (λ worker. (worker, n)) o) ≡ o
+    by None = refl
+    by (Some w) = refl
+
+pub seconds : (f : ℕ → Option ℕ) (o : Option ℕ)
+    → option_map second (option_and_then (λ registration. option_map (λ worker. (worker, registration)) (f registration)) o)
+    ≡ option_and_then (λ registration. option_map (λ worker. registration) (f registration)) o
+seconds f None = refl
+seconds f (Some n) = by (f n)
+  where
+    by : (o : Option ℕ) → option_map second (option_map (λ worker. (worker, n)) o) ≡ option_map (λ worker. n) o
+    by None = refl
+    by (Some w) = refl
+
+-- ---- a client that asks
+
+abbrev by_client : State → Option ClientRow → Option Outcome
+by_client state o =
+    elim o [
+      | None ↦ Some (answered state answer.NoClient)
+      | Some client ↦
+          option_map (λ registration. answered state (answer.Registration registration)) (ready_registration state client)
+    ]
+
+module _ (state : State) (n : ℕ) (row : ClientRow) (here : Some row ≡ client_row state n) where
+  -- a client's registration is ready
+  pub ready_here : (address : List ℕ) (found : ℕ × ℕ) → address ≡ row.url → Some found ≡ active_match state row.key address
+      → Some (answered state (answer.Registration found.1)) ≡ ready state n
+  ready_here address found own is =
+      let one : Some found.1 ≡ ready_registration state row =
+      ap (option_map second) (is ∙ ap (active_match state row.key) own)
+      ∙ seconds (active_worker state) (matched_registration state row.key row.url) in
+      ap (option_map (λ registration. answered state (answer.Registration registration))) one ∙ ap (by_client state) here
+
+  -- it isn't yet
+  pub not_ready : (address : List ℕ) → address ≡ row.url → None ≡ active_match state row.key address → None ≡ ready state n
+  not_ready address own is =
+      let none : None ≡ ready_registration state row =
+      ap (option_map second) (is ∙ ap (active_match state row.key) own)
+      ∙ seconds (active_worker state) (matched_registration state row.key row.url) in
+      ap (option_map (λ registration. answered state (answer.Registration registration))) none ∙ ap (by_client state) here
+
+-- the registration of an address of a client's origin
+pub matched_here : (state : State) (row : ClientRow) (url address : List ℕ) (found : Option ℕ) → same_origin url row.url ≡ true → address ≡ url
+    → found ≡ matched_registration state row.key address → registration_at state row url ≡ answered state (registration_or_undefined found)
+matched_here state row url address found same own is = grind (arith, same, own, is)

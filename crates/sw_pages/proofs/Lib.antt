@@ -1,0 +1,9 @@
+pub mod Active
+pub mod Asking
+pub mod Awaiting
+pub mod Listed
+pub mod Named
+pub mod Opening
+pub mod Owned
+pub mod Pending
+pub mod Preloading

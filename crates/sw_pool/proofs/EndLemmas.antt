@@ -1,0 +1,57 @@
+-- The end that a worker is answered is the one that is kept.
+use Rattle.std.proofs.Common.{◌≡◌, ◌∙◌, ℕ, List, Option, Some, None, refl, sym, ap}
+use Rattle.sw_data.specs.declared.histories.Entry.{Entry}
+use Rattle.sw_pool.specs.declared.ends.Brief.{Brief}
+use Rattle.sw_pool.specs.declared.ends.Brief.TheVariants as brief
+use Rattle.sw_pool.specs.declared.ends.Turned.TheVariants as turned
+use Rattle.sw_pool.specs.Yards.{HasStepped, IsEndSeen, Origin, YardState, brief_of, shown}
+use Rattle.sw_turns.specs.Ends.{IsKept}
+use Rattle.sw_turns.specs.declared.ends.DriveEnd.{DriveEnd}
+use Rattle.sw_turns.specs.declared.ends.DriveEnd.TheVariants as drive_end
+use Rattle.sw_turns.specs.declared.ends.Turn.{Turn}
+use Rattle.sw_turns.specs.declared.ends.Turn.TheVariants as turn
+
+-- a turn behind which the run goes on answers no end
+unended : (made : Turn) (said : Brief) → turned.Ended said ≡ shown made → ⊥
+unended turn.Entered said is = absurd cc
+unended (turn.Fetch flown fetches) said is = absurd cc
+unended turn.Idle said is = absurd cc
+
+-- an end that is kept isn't want of turns
+unspent : (ended : DriveEnd) → IsKept ended → brief_of ended ≡ brief.Spent → ⊥
+unspent drive_end.Done kept is = absurd cc
+unspent (drive_end.Stalled lane) kept is = absurd cc
+unspent (drive_end.DiskFault refused) kept is = absurd cc
+unspent (drive_end.Full happened from needed) kept is = absurd cc
+unspent drive_end.NoMemory kept is = absurd cc
+unspent drive_end.Spent kept is = kept
+
+module _ {D : Type 0} (before after : YardState D) (pass : ℕ) (said : Brief) (step : HasStepped before pass after (turned.Ended said)) where
+  kept_end : (ended : DriveEnd) × (after.end ≡ Some ended) × (said ≡ brief_of ended)
+  kept_end = by before.end after.end refl refl
+    where
+      told : (ended : DriveEnd) → after.end ≡ Some ended → turned.Ended said ≡ turned.Ended (brief_of ended)
+          → (ended : DriveEnd) × (after.end ≡ Some ended) × (said ≡ brief_of ended)
+      told ended kept says = let same : said ≡ brief_of ended = cc in (ended, kept, same)
+
+      by : (was now : Option DriveEnd) → before.end ≡ was → after.end ≡ now → (ended : DriveEnd) × (after.end ≡ Some ended) × (said ≡ brief_of ended)
+      by (Some ended) now was_is now_is =
+          let over = step.over ended was_is in
+          told ended (ap (λ (yard : YardState D). yard.end) over.0 ∙ was_is) over.1
+      by None (Some ended) was_is now_is = told ended now_is (step.ends ended was_is now_is)
+      by None None was_is now_is = let on = step.turns was_is now_is in absurd (unended on.0 said on.2)
+
+  pub never_spent : said ≡ brief.Spent → ⊥
+  never_spent is = let it = kept_end in unspent it.0 (step.kept it.0 it.1) (sym it.2 ∙ is)
+
+  pub end_seen : (origin : Origin D) (history : List Entry) → before.origin ≡ origin → history ≡ after.progress.history.items → IsEndSeen origin history said
+  end_seen origin history base saw =
+      let it = kept_end in
+      record {
+        yard = after;
+        ended = it.0;
+        origin_is = step.origin ∙ base;
+        kept = it.1;
+        is = it.2;
+        history_is = sym saw;
+      }

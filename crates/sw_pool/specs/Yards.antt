@@ -1,0 +1,93 @@
+-- The value that workers take turns with, and what a step of it is.
+use Rattle.std.specs.Prelude.{◌≡◌, ℕ, List, length, Option, Some, None}
+use Rattle.sw_data.specs.declared.histories.Entry.{Entry}
+use Rattle.sw_data.specs.declared.recordings.Recording.{Recording}
+use Rattle.sw_data.specs.declared.storage.Kept.{Kept}
+use Rattle.sw_disk.specs.declared.disk.Disk.{Ghosts}
+use Rattle.sw_pool.specs.declared.ends.Brief.{Brief}
+use Rattle.sw_pool.specs.declared.ends.Brief.TheVariants as brief
+use Rattle.sw_pool.specs.declared.ends.Turned.{Turned}
+use Rattle.sw_pool.specs.declared.ends.Turned.TheVariants as turned
+use Rattle.sw_turns.specs.Ends.{Ended, IsKept}
+use Rattle.sw_turns.specs.Turns.{IsAtRest, IsGoing, IsTurn}
+use Rattle.sw_turns.specs.declared.ends.DriveEnd.{DriveEnd}
+use Rattle.sw_turns.specs.declared.ends.DriveEnd.TheVariants as drive_end
+use Rattle.sw_turns.specs.declared.ends.Turn.{Turn}
+use Rattle.sw_turns.specs.declared.ends.Turn.TheVariants as turn
+use Rattle.sw_turns.specs.declared.progress.Progress.{Progress}
+
+-- own: what a run is of: so many passes, the recording, and the content and the disk at the opening
+pub record Origin (D : Type 0) : Type 0 where
+  pub passes : ℕ
+  pub recording : Recording
+  pub base : Kept
+  pub start : D
+
+abbrev pub origin_of : {D : Type 0} → ℕ → Recording → Kept → D → Origin D
+origin_of passes recording base start = record { passes = passes; recording = recording; base = base; start = start }
+
+-- own: what a run is of, its disk, what has happened, and how that has ended, if it has
+pub record YardState (D : Type 0) : Type 0 where
+  pub origin : Origin D
+  pub disk : D
+  pub progress : Progress
+  pub end : Option DriveEnd
+
+abbrev pub yard_of : {D : Type 0} → ℕ → Recording → Kept → (start now : D) → Progress → Option DriveEnd → YardState D
+yard_of passes recording base start now progress end = record {
+  origin = origin_of passes recording base start;
+  disk = now;
+  progress = progress;
+  end = end;
+}
+
+-- own: workers have made this of a recording, and it has ended so
+abbrev pub HasWorked : {D : Type 0} → Ghosts D → Origin D → D → Progress → DriveEnd → Type 0
+HasWorked disk origin now progress ended =
+    Ended disk origin.start now origin.passes origin.recording origin.base progress.history.items ended
+    × IsAtRest ended origin.base progress
+
+-- own: the recording is under way, or the run has ended so
+abbrev pub Stands : {D : Type 0} → Ghosts D → D → Origin D → Progress → Option DriveEnd → Type 0
+Stands disk now origin progress None = IsGoing disk origin.start now origin.recording origin.base progress
+Stands disk now origin progress (Some ended) =
+    HasWorked disk origin now progress ended × IsKept ended
+
+-- own: each pass may have a fetch in flight, and what is kept of the run stands
+pub record IsYard {D : Type 0} (disk : Ghosts D) (yard : YardState D) : Type 0 where
+  pub passes : length yard.progress.flights.items ≡ yard.origin.passes
+  pub stands : Stands disk yard.disk yard.origin yard.progress yard.end
+
+-- an end without its events
+abbrev pub brief_of : DriveEnd → Brief
+brief_of drive_end.Done = brief.Done
+brief_of (drive_end.Stalled lane) = brief.Stalled lane
+brief_of (drive_end.DiskFault refused) = brief.DiskFault
+brief_of (drive_end.Full happened from needed) = brief.Full
+brief_of drive_end.NoMemory = brief.NoMemory
+brief_of drive_end.Spent = brief.Spent
+
+-- what a turn comes to, as a step answers it
+abbrev pub shown : Turn → Turned
+shown turn.Entered = turned.Entered
+shown (turn.Fetch flown fetches) = turned.Fetch flown fetches
+shown turn.Idle = turned.Idle
+
+-- own: one step of a pass, of the same run: an end that is kept stays and is the answer; else the step is a turn, or ends the run
+-- and answers how
+pub record HasStepped {D : Type 0} (before : YardState D) (pass : ℕ) (after : YardState D) (out : Turned) : Type 0 where
+  pub origin : after.origin ≡ before.origin
+  pub kept : (ended : DriveEnd) → after.end ≡ Some ended → IsKept ended
+  pub over : (ended : DriveEnd) → before.end ≡ Some ended → (after ≡ before) × (out ≡ turned.Ended (brief_of ended))
+  pub ends : (ended : DriveEnd) → before.end ≡ None → after.end ≡ Some ended → out ≡ turned.Ended (brief_of ended)
+  pub turns : before.end ≡ None → after.end ≡ None
+      → (made : Turn) × IsTurn pass before.progress after.progress made × (out ≡ shown made)
+
+-- own: a pass that has seen this history was answered the end that is kept in a value of the run
+pub record IsEndSeen {D : Type 0} (origin : Origin D) (history : List Entry) (said : Brief) : Type 0 where
+  pub yard : YardState D
+  pub ended : DriveEnd
+  pub origin_is : yard.origin ≡ origin
+  pub kept : yard.end ≡ Some ended
+  pub is : said ≡ brief_of ended
+  pub history_is : yard.progress.history.items ≡ history

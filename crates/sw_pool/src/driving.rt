@@ -1,0 +1,68 @@
+//! A worker at work.
+
+ghost use Rattle.std.specs.Prelude.{◌≡◌, ◌≢◌, ◌^◌};
+ghost use Rattle.sw_lock.specs.Passes.{IsPassOf, number, opened_of, seen, turns};
+ghost use Rattle.sw_pool.specs.Yards.{IsEndSeen};
+ghost use Rattle.sw_pool.specs.declared.ends.Brief.TheVariants as brief;
+
+use crate::ends::{Brief, Nothing, Turned};
+use crate::yard::Yard;
+use std::sync::Wait;
+use std::thread::yield_now;
+use sw_data::Text;
+use sw_disk::Disk;
+use sw_lock::{Pass, Shared, Spent};
+use sw_net::Gate;
+
+// Passes the gate once for each of the fetches.
+fn pass_gate<G: Gate>(gate: &G, fetches: Vec<(Text, u32)>) {
+    for (address, number) in &fetches {
+        gate.pass(address, *number);
+    }
+    drop(fetches);
+}
+
+// How often an idle worker looks for entries of others before its next turn.
+const LOOKS: u32 = 1000;
+
+// Waits until other passes have made entries, for so many looks.
+fn rest<D: Disk>(lock: &Shared<Yard<D>>, pass: &mut Pass<Yard<D>>)
+    requires { IsPassOf lock.now pass.old }
+    ensures pass { IsPassOf lock.now pass.new }
+    ensures number { number pass.new ≡ number pass.old }
+{
+    let known = lock.look(pass);
+    for _ in 0..LOOKS {
+        yield_now();
+        if lock.look(pass) != known {
+            return;
+        }
+    }
+}
+
+/// Makes turns until the work has ended, or the pass has made 2^40 of them. What the pass takes up passes the gate before
+/// its next turn.
+pub fn drive<R: Wait, D: Disk, G: Gate>(
+    rt: &R,
+    lock: &Shared<Yard<D>>,
+    pass: &mut Pass<Yard<D>>,
+    gate: &G,
+) -> Brief
+    requires { IsPassOf lock.now pass.old }
+    ensures pass { IsPassOf lock.now pass.new }
+    ensures number { number pass.new ≡ number pass.old }
+    ensures spent { result ≡ brief.Spent → turns pass.new ≡ 2 ^ 40 }
+    ensures end { result ≢ brief.Spent
+        → IsEndSeen (opened_of lock.now).origin (seen pass.new) result }
+{
+    'turns: for _ in rt.forever() {
+        match lock.turn(rt, pass, Nothing) {
+            Ok(Turned::Entered) => {}
+            Ok(Turned::Fetch { task: _, fetches }) => pass_gate(gate, fetches),
+            Ok(Turned::Idle) => rest(lock, pass),
+            Ok(Turned::Ended(brief)) => return brief,
+            Err(Spent) => return Brief::Spent,
+        }
+    }
+    unreachable!()
+}

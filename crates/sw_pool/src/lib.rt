@@ -1,0 +1,12 @@
+//! Workers on one host: they take turns with it under a lock, and pass a gate with what they fetch outside of it.
+#![tactic(auto)]
+
+mod driving;
+mod ends;
+mod working;
+mod yard;
+
+pub use driving::drive;
+pub use ends::{Brief, Nothing, Turned};
+pub use working::{Worked, work};
+pub use yard::Yard;

@@ -1,0 +1,15 @@
+pub mod Naming
+pub mod Scoping
+pub mod Keying
+pub mod Listing
+pub mod Places
+pub mod Alike
+pub mod Keeping
+pub mod Reading
+pub mod Running
+pub mod Rooms
+pub mod Settling
+pub mod Heads
+pub mod Telling
+pub mod Marking
+pub mod Leaving

@@ -1,0 +1,10 @@
+//! The registrations by number, each with its installing, waiting and active worker.
+#![tactic(auto)]
+
+mod edit;
+mod registrations;
+
+pub use registrations::{NewRegistration, Registrations};
+
+#[cfg(test)]
+mod tests;

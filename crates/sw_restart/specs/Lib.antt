@@ -1,0 +1,4 @@
+pub mod Keeping
+pub mod Parts
+pub mod Restored
+pub mod Rows

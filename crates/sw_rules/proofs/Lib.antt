@@ -1,0 +1,5 @@
+pub mod HistoryLemmas
+pub mod LawLemmas
+pub mod OnLiterals
+pub mod Places
+mod Situations

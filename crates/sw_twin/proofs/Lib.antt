@@ -1,0 +1,6 @@
+mod Adding
+mod Changing
+mod Checkpoints
+mod Leading
+mod Spelling
+mod Standing

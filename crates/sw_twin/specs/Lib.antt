@@ -1,0 +1,4 @@
+pub mod Current
+pub mod Going
+pub mod Init
+pub mod Twin

@@ -1,0 +1,3 @@
+pub mod AgainLemmas
+pub mod KeyLemmas
+pub mod ResolvedLemmas

@@ -1,0 +1,4 @@
+pub mod Table
+pub mod Edits
+pub mod Fits
+pub mod Kept
