@@ -31,7 +31,7 @@ some_status (drive_end.Stalled lane) some is = absurd cc
 some_status (drive_end.DiskFault refused) some is = absurd cc
 some_status (drive_end.Full happened from needed) some is = absurd cc
 some_status drive_end.NoMemory some is = some refl
-some_status drive_end.Spent some is = absurd cc
+some_status (drive_end.Spent spent) some is = absurd cc
 
 module _ {D : Type 0} (disk : Ghosts D) (start now : D) (workers : ℕ) (recording : Recording) where
   run_ends : (base : Kept) (history : List Entry) (ended : DriveEnd) (report : Report) → Ended disk start now workers recording base history ended

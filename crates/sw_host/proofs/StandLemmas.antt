@@ -8,6 +8,7 @@ use Rattle.sw_host.specs.declared.statuses.Status.{Status}
 use Rattle.sw_host.specs.declared.statuses.Status.TheVariants as status
 use Rattle.sw_host.specs.Runs.{status_of}
 use Rattle.sw_host.specs.Stands.{HasEnded, IsRead, RefusedAs, RefusesDisk, ReplaysSource, ReportedAs, Stands}
+use Rattle.sw_lock.specs.declared.pass.Spent.{Spent}
 use Rattle.sw_turns.specs.declared.ends.DriveEnd.{DriveEnd}
 use Rattle.sw_turns.specs.declared.ends.DriveEnd.TheVariants as drive_end
 use Rattle.sw_record.specs.declared.error.RecordingError.{RecordingError}
@@ -18,7 +19,7 @@ use Rattle.sw_record.specs.Grammar.{recording_of}
 abbrev IsOfRun : Status → Type 0
 IsOfRun status.Done = Unit {0}
 IsOfRun status.Stalled = Unit {0}
-IsOfRun status.Spent = Unit {0}
+IsOfRun (status.Spent spent) = Unit {0}
 IsOfRun _ = ⊥
 
 module _ {D : Type 0} (disk : Ghosts D) (old new : D) (left : Option (List ℕ)) (text : List ℕ) where
@@ -29,7 +30,7 @@ module _ {D : Type 0} (disk : Ghosts D) (old new : D) (left : Option (List ℕ))
   unrefused : (outcome : Status) → IsOfRun outcome → RefusesDisk disk old new outcome text → ⊥
   unrefused status.Done run refused = refused
   unrefused status.Stalled run refused = refused
-  unrefused status.Spent run refused = refused
+  unrefused (status.Spent spent) run refused = refused
   unrefused _ run refused = absurd run
 
   unread : (why : RecordingError) (outcome : Status) → IsOfRun outcome → RefusedAs why outcome text → ⊥
@@ -71,7 +72,7 @@ module _ {D : Type 0} (disk : Ghosts D) (old new : D) (left : Option (List ℕ))
   done_by workers (drive_end.DiskFault refused) is run = absurd cc
   done_by workers (drive_end.Full happened from needed) is run = absurd cc
   done_by workers drive_end.NoMemory is run = absurd cc
-  done_by workers drive_end.Spent is run = absurd cc
+  done_by workers (drive_end.Spent spent) is run = absurd cc
 
   stalled_by : (workers : ℕ) (ended : DriveEnd) → status.Stalled ≡ status_of ended → HasEnded disk old new workers left ended text
       → (lane : ℕ) × HasEnded disk old new workers left (drive_end.Stalled lane) text
@@ -80,15 +81,17 @@ module _ {D : Type 0} (disk : Ghosts D) (old new : D) (left : Option (List ℕ))
   stalled_by workers (drive_end.DiskFault refused) is run = absurd cc
   stalled_by workers (drive_end.Full happened from needed) is run = absurd cc
   stalled_by workers drive_end.NoMemory is run = absurd cc
-  stalled_by workers drive_end.Spent is run = absurd cc
+  stalled_by workers (drive_end.Spent spent) is run = absurd cc
 
-  spent_by : (workers : ℕ) (ended : DriveEnd) → status.Spent ≡ status_of ended → HasEnded disk old new workers left ended text → HasEnded disk old new workers left drive_end.Spent text
-  spent_by workers drive_end.Done is run = absurd cc
-  spent_by workers (drive_end.Stalled lane) is run = absurd cc
-  spent_by workers (drive_end.DiskFault refused) is run = absurd cc
-  spent_by workers (drive_end.Full happened from needed) is run = absurd cc
-  spent_by workers drive_end.NoMemory is run = absurd cc
-  spent_by workers drive_end.Spent is run = run
+  spent_by : (workers : ℕ) (spent : Spent) (ended : DriveEnd) → status.Spent spent ≡ status_of ended → HasEnded disk old new workers left ended text
+      → HasEnded disk old new workers left (drive_end.Spent spent) text
+  spent_by workers spent drive_end.Done is run = absurd cc
+  spent_by workers spent (drive_end.Stalled lane) is run = absurd cc
+  spent_by workers spent (drive_end.DiskFault refused) is run = absurd cc
+  spent_by workers spent (drive_end.Full happened from needed) is run = absurd cc
+  spent_by workers spent drive_end.NoMemory is run = absurd cc
+  spent_by workers spent (drive_end.Spent made) is run =
+      let same : made ≡ spent = cc in subst (λ (s : Spent). HasEnded disk old new workers left (drive_end.Spent s) text) same run
 
   -- a recording was run where these words stand with this status
   ran : (before now : ℕ) (wanted : Command) (outcome known : Status) (workers : ℕ) → IsOfRun known → outcome ≡ known → wanted ≡ command.Replay workers
@@ -110,8 +113,8 @@ module _ {D : Type 0} (disk : Ghosts D) (old new : D) (left : Option (List ℕ))
       let run = ran before now wanted outcome status.Stalled workers tt is wants stood in
       stalled_by workers run.0 run.1 run.2
 
-  pub has_spent : (before now : ℕ) (wanted : Command) (outcome : Status) (workers : ℕ) → outcome ≡ status.Spent → wanted ≡ command.Replay workers
-      → Stands disk old new left before now wanted outcome text → HasEnded disk old new workers left drive_end.Spent text
-  has_spent before now wanted outcome workers is wants stood =
-      let run = ran before now wanted outcome status.Spent workers tt is wants stood in
-      spent_by workers run.0 run.1 run.2
+  pub has_spent : (before now : ℕ) (wanted : Command) (outcome : Status) (workers : ℕ) (spent : Spent) → outcome ≡ status.Spent spent → wanted ≡ command.Replay workers
+      → Stands disk old new left before now wanted outcome text → HasEnded disk old new workers left (drive_end.Spent spent) text
+  has_spent before now wanted outcome workers spent is wants stood =
+      let run = ran before now wanted outcome (status.Spent spent) workers tt is wants stood in
+      spent_by workers spent run.0 run.1 run.2

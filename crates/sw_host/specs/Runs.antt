@@ -18,7 +18,7 @@ abbrev pub last_of : DriveEnd → End
 last_of (drive_end.Stalled lane) = end.Stalled lane
 last_of (drive_end.DiskFault refused) = end.Disk (map (λ entry. entry.event) refused.items)
 last_of (drive_end.Full happened from needed) = end.Full happened
-last_of drive_end.Spent = end.Spent
+last_of (drive_end.Spent spent) = end.Spent
 last_of _ = end.Done
 
 -- the status of a run
@@ -28,7 +28,7 @@ status_of (drive_end.Stalled lane) = status.Stalled
 status_of (drive_end.DiskFault refused) = status.DiskFault
 status_of (drive_end.Full happened from needed) = status.Full
 status_of drive_end.NoMemory = status.NoMemory
-status_of drive_end.Spent = status.Spent
+status_of (drive_end.Spent spent) = status.Spent spent
 
 -- own: a recording is run by so many workers on a disk to this status, and the text is the transcript of its history: one that is
 -- legal, follows the recording, and with one worker is the one that the pick order fixes, of which a crash at any moment leaves a

@@ -145,7 +145,7 @@ HasReadAll status.NotFormatted = Unit {0}
 HasReadAll status.BadJournal = Unit {0}
 HasReadAll status.Stalled = Unit {0}
 HasReadAll status.Full = Unit {0}
-HasReadAll status.Spent = Unit {0}
+HasReadAll (status.Spent spent) = Unit {0}
 HasReadAll _ = ⊥
 
 -- before writing, this status stands with this text: the source had these bytes left, its count of faults went from before to

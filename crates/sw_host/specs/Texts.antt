@@ -18,7 +18,7 @@ code_of status.Stalled = 9
 code_of status.TooLarge = 10
 code_of status.Full = 11
 code_of status.AlreadyFormatted = 12
-code_of status.Spent = 13
+code_of (status.Spent spent) = 13
 
 -- the text that a refusal of its own prints
 abbrev pub refusal_text : Status → List ℕ

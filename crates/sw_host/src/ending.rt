@@ -45,7 +45,7 @@ fn last_of(alloc: Global, end: DriveEnd) -> Result<End, NoMemory>
         DriveEnd::DiskFault(entries) => Ok(End::Disk(events_of(alloc, entries)?)),
         DriveEnd::Full { event, .. } => Ok(End::Full(event)),
         DriveEnd::NoMemory => Err(NoMemory),
-        DriveEnd::Spent => Ok(End::Spent),
+        DriveEnd::Spent(_) => Ok(End::Spent),
     }
 }
 
@@ -59,7 +59,7 @@ fn status_of(end: &DriveEnd) -> Status
         DriveEnd::DiskFault(_) => Status::DiskFault,
         DriveEnd::Full { .. } => Status::Full,
         DriveEnd::NoMemory => Status::NoMemory,
-        DriveEnd::Spent => Status::Spent,
+        DriveEnd::Spent(spent) => Status::Spent(*spent),
     }
 }
 

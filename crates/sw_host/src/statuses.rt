@@ -3,6 +3,8 @@
 ghost use Rattle.std.specs.Prelude.{◌≡◌, ℕ};
 ghost use Rattle.sw_host.specs.Texts.{code_of, refusal_text};
 
+use sw_lock::Spent;
+
 /// How a run ended. Its number is the program's exit status.
 #[derive(Debug, Clone, Copy, PartialEq, Eq)]
 pub enum Status {
@@ -33,7 +35,7 @@ pub enum Status {
     /// The current part of the disk begins with the header of a format already.
     AlreadyFormatted,
     /// A worker has made all the turns that a worker makes, and nothing else has ended the run.
-    Spent,
+    Spent(Spent),
 }
 
 impl Status {
@@ -55,7 +57,7 @@ impl Status {
             Status::TooLarge => 10,
             Status::Full => 11,
             Status::AlreadyFormatted => 12,
-            Status::Spent => 13,
+            Status::Spent(_) => 13,
         }
     }
 
@@ -78,7 +80,7 @@ impl Status {
             | Status::WriteFault
             | Status::BadJournal
             | Status::Stalled
-            | Status::Spent => "",
+            | Status::Spent(_) => "",
         }
     }
 }

@@ -7,6 +7,7 @@ ghost use Rattle.sw_data.specs.Streams.{AppendsPrefix, ConsumesSome};
 ghost use Rattle.sw_host.specs.declared.command.Command.TheVariants as command;
 ghost use Rattle.sw_host.specs.Stands.{HasEnded, HasReadAll, LeavesAfterBytes, LeavesWithoutMemory, Replays, ReplaysSource, Stands};
 ghost use Rattle.sw_host.specs.Words.{command_of, is_replay};
+ghost use Rattle.sw_lock.specs.declared.pass.Spent.{Spent};
 ghost use Rattle.sw_turns.specs.declared.ends.DriveEnd.TheVariants as drive_end;
 
 use crate::command::{Command, command_of};
@@ -69,10 +70,10 @@ pub fn run<R: Threads + Wait + Sync, S: Source, K: Sink, D: Disk + Send, G: Gate
         × Appends (K.held sink.old) (K.held sink.new) text }
 
     // The same, but for the end that the recording has come to and what the disk keeps then, of a run in which a worker has
-    // made all the turns that a worker makes.
-    ensures spent { result.status ≡ Status.Spent
+    // made all the turns that a worker makes: the status holds what only its pass hands out.
+    ensures spent { (spent : Spent) → result.status ≡ Status.Spent spent
         → (workers : ℕ) → command_of words.now ≡ command.Replay workers → (text : List ℕ)
-        × HasEnded D.Disk disk result.disk workers (S.left source.old) drive_end.Spent text
+        × HasEnded D.Disk disk result.disk workers (S.left source.old) (drive_end.Spent spent) text
         × Appends (K.held sink.old) (K.held sink.new) text }
 
     // Each other status has its cause, and its text was written.

@@ -2,9 +2,9 @@ use super::*;
 use crate::tests::words;
 use std::alloc::Global;
 use std::sync::Wait;
-use std::sync::atomic::{AtomicU32, Ordering};
+use std::sync::atomic::{AtomicBool, AtomicU32, Ordering};
 use std::test::Fail;
-use std::thread::Threads;
+use std::thread::{Threads, yield_now};
 use sw_data::{Bytes, NoMemory, Text};
 use sw_disk::PlainDisk;
 use sw_io::{MemorySink, MemorySource};
@@ -103,26 +103,43 @@ fn one_worker_replays_in_the_pick_order(rt: HostRuntime) -> Result<(), Fail> {
     Ok(())
 }
 
-// A gate that counts who comes.
+// A gate that holds who comes first until another comes, but not for ever.
 #[derive(Drop)]
-struct Counting {
+struct Meeting {
     asked: AtomicU32,
+    met: AtomicBool,
 }
 
-impl Gate for Counting {
-    fn pass(&self, _address: &Text, _ordinal: u32) {
-        let _ = self.asked.fetch_add(1, Ordering::SeqCst);
+impl Meeting {
+    fn wait(&self) {
+        for _ in 0..10_000_000u32 {
+            if self.asked.load(Ordering::SeqCst) > 1 {
+                self.met.store(true, Ordering::SeqCst);
+                return;
+            }
+            yield_now();
+        }
     }
 }
 
-// Each fetch passes the gate once.
+impl Gate for Meeting {
+    fn pass(&self, _address: &Text, _ordinal: u32) {
+        if self.asked.fetch_add(1, Ordering::SeqCst) == 0 {
+            self.wait();
+        }
+    }
+}
+
+// One worker stands at the gate with what it fetches while the other one works on, and comes to the gate too.
 #[test]
-fn each_fetch_passes_the_gate(rt: HostRuntime) -> Result<(), Fail> {
-    let gate = Counting {
+fn workers_fetch_at_the_same_time(rt: HostRuntime) -> Result<(), Fail> {
+    let gate = Meeting {
         asked: AtomicU32::new(0),
+        met: AtomicBool::new(false),
     };
     let (ended, _) = ran(&rt, rt.alloc(), "replay 2", TWO_PAGES, &gate)?;
     assert_eq!(rt; ended.code(), 0);
-    assert_eq!(rt; gate.asked.load(Ordering::SeqCst), 2);
+    assert!(rt; gate.met.load(Ordering::SeqCst), "both at the gate");
+    assert_eq!(rt; gate.asked.load(Ordering::SeqCst), 2, "as many as fetches");
     Ok(())
 }

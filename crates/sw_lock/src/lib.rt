@@ -10,11 +10,9 @@ mod logged;
 mod make;
 mod pass;
 mod rule;
-#[cfg(test)]
-mod tests;
 mod turn;
 mod view;
 
-pub use lock::{Missing, Shared, Spent};
+pub use lock::{Missing, Shared};
 pub use logged::Logged;
-pub use pass::Pass;
+pub use pass::{Pass, Spent};

@@ -24,7 +24,3 @@ pub struct Missing<T: Logged> {
     pub shared: Shared<T>,
     pub passes: Vec<Pass<T>>,
 }
-
-/// The pass has made 2^40 turns.
-#[derive(Debug, Clone, Copy, PartialEq, Eq)]
-pub struct Spent;

@@ -7,7 +7,14 @@ use crate::view::View;
 use atomic_table::Seat;
 
 // A pass makes no more turns than these.
-pub(crate) const MOST_TURNS: u64 = 1 << 40;
+const MOST_TURNS: u64 = 1 << 40;
+
+/// A pass has made 2^40 turns. It is handed out by such a pass alone, so nobody has one without it.
+#[derive(Debug, Clone, Copy, PartialEq, Eq)]
+pub struct Spent {
+    turns: u64,
+    ghost all: { turns ≡ 2 ^ 40 },
+}
 
 /// The right to make turns, for one thread at a time. It knows what of the history it has seen.
 pub struct Pass<T: Logged> {
@@ -21,14 +28,17 @@ pub struct Pass<T: Logged> {
 }
 
 impl<T: Logged> Pass<T> {
-    ghost use Rattle.std.specs.Prelude.{◌==◌};
+    ghost use Rattle.std.specs.Prelude.{◌↔◌, IsSome};
     ghost use Rattle.sw_lock.specs.Passes.{turns};
 
-    /// Whether the pass has made all the turns that a pass makes.
-    pub fn is_spent(&self) -> bool
-        ensures { result ≡ (turns self.now == 2 ^ 40) }
+    /// That the pass has made all the turns that a pass makes, if it has.
+    pub fn spent(&self) -> Option<Spent>
+        ensures { IsSome result ↔ (turns self.now ≡ 2 ^ 40) }
     {
-        self.turns >= MOST_TURNS
+        if self.turns < MOST_TURNS {
+            return None;
+        }
+        Some(Spent { turns: self.turns })
     }
 
     pub(crate) fn into_seat(self) -> Seat<Option<T>, View<T, T::Entry>>

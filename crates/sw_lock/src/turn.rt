@@ -5,9 +5,9 @@ ghost use Rattle.sw_lock.specs.Entries.{ThenOwn};
 ghost use Rattle.sw_lock.specs.Steps.{IsIdle, Found, Advanced, Took, with_ticket, without, counting};
 ghost use Rattle.sw_lock.specs.Passes.{number, seen, known, turns, opened_of, IsPassOf, IsSame, Turned};
 
-use crate::lock::{Shared, Spent};
+use crate::lock::Shared;
 use crate::logged::Logged;
-use crate::pass::{MOST_TURNS, Pass};
+use crate::pass::{Pass, Spent};
 use crate::rule::{Count, Draw, Look, PassOn, See};
 use crate::view::View;
 use atomic_table::Seat;
@@ -134,8 +134,8 @@ impl<T: Logged> Shared<T> {
         ensures counted { IfOk result (λ _. turns pass.new ≡ turns pass.old + 1) }
         ensures known { known pass.old ≤ known pass.new }
     {
-        if pass.turns >= MOST_TURNS {
-            return Err(Spent);
+        if let Some(spent) = pass.spent() {
+            return Err(spent);
         }
         let answer = self.take_turn(rt, &mut pass.seat, given, pass.number);
         pass.turns += 1;

@@ -12,6 +12,7 @@ ghost use Rattle.sw_host.specs.declared.statuses.Status.{Status};
 ghost use Rattle.sw_host.specs.Stands.{HasEnded, LeavesWithoutMemory, Stands};
 ghost use Rattle.sw_host.specs.Texts.{code_of};
 ghost use Rattle.sw_host.specs.Words.{command_of, is_replay};
+ghost use Rattle.sw_lock.specs.declared.pass.Spent.{Spent};
 ghost use Rattle.sw_turns.specs.declared.ends.DriveEnd.TheVariants as drive_end;
 ghost use Rattle.sw_record.specs.declared.limits.TheConstants.{RECORDING_LIMIT};
 
@@ -46,8 +47,9 @@ fn ended<R: Threads + Wait + Sync, S: Source, K: Sink, D: Disk + Send, G: Gate +
         × HasEnded D.Disk disk result.1 workers (S.left source.old) (drive_end.Stalled lane) text
         × Appends (K.held sink.old) (K.held sink.new) text }
     ensures spent { exit_status result.0 ≡ 13
-        → (workers : ℕ) → command_of words.now ≡ command.Replay workers → (text : List ℕ)
-        × HasEnded D.Disk disk result.1 workers (S.left source.old) drive_end.Spent text
+        → (workers : ℕ) → command_of words.now ≡ command.Replay workers
+        → (text : List ℕ) × (spent : Spent)
+        × HasEnded D.Disk disk result.1 workers (S.left source.old) (drive_end.Spent spent) text
         × Appends (K.held sink.old) (K.held sink.new) text }
 
     // The exit status is the number of a status, which has its cause.

@@ -24,7 +24,7 @@ unspent (drive_end.Stalled lane) kept is = absurd cc
 unspent (drive_end.DiskFault refused) kept is = absurd cc
 unspent (drive_end.Full happened from needed) kept is = absurd cc
 unspent drive_end.NoMemory kept is = absurd cc
-unspent drive_end.Spent kept is = kept
+unspent (drive_end.Spent spent) kept is = kept
 
 module _ {D : Type 0} (before after : YardState D) (pass : ℕ) (said : Brief) (step : HasStepped before pass after (turned.Ended said)) where
   kept_end : (ended : DriveEnd) × (after.end ≡ Some ended) × (said ≡ brief_of ended)

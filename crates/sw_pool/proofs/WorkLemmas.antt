@@ -1,8 +1,8 @@
 -- How work has ended, where an end is kept and where none is.
-use Rattle.std.proofs.Common.{◌≡◌, ◌⊎◌, inl, inr, ℕ, Option, Some, None, length, sym, subst}
+use Rattle.std.proofs.Common.{◌≡◌, ℕ, Option, Some, None, length, subst}
 use Rattle.std.specs.Prelude.{unwrap_or}
 use Rattle.sw_disk.specs.declared.disk.Disk.{Ghosts}
-use Rattle.sw_pool.specs.Yards.{HasWorked, Origin, Stands}
+use Rattle.sw_pool.specs.Yards.{HasWorked, IsUnkept, Origin, Stands}
 use Rattle.sw_turns.proofs.EndLemmas.{ends_short, ends_spent}
 use Rattle.sw_turns.specs.Ends.{Ended}
 use Rattle.sw_turns.specs.declared.ends.DriveEnd.{DriveEnd}
@@ -15,10 +15,13 @@ module _ {D : Type 0} (disk : Ghosts D) (origin : Origin D) (now : D) (progress 
       → Ended disk origin.start now origin.passes origin.recording origin.base progress.history.items ended
   counted ended run = subst (λ (workers : ℕ). Ended disk origin.start now workers origin.recording origin.base progress.history.items ended) passes run
 
-  pub worked : (kept : Option DriveEnd) (otherwise : DriveEnd) → Stands disk now origin progress kept → (otherwise ≡ drive_end.NoMemory) ⊎ (otherwise ≡ drive_end.Spent)
+  pub worked : (kept : Option DriveEnd) (otherwise : DriveEnd) → Stands disk now origin progress kept → IsUnkept otherwise
       → HasWorked disk origin now progress (unwrap_or kept otherwise)
-  worked (Some ended) otherwise stands is = stands.0
-  worked None otherwise going (inl is) =
-      subst (HasWorked disk origin now progress) (sym is) (counted drive_end.NoMemory (ends_short disk origin.start now origin.recording origin.base progress going), tt)
-  worked None otherwise going (inr is) =
-      subst (HasWorked disk origin now progress) (sym is) (counted drive_end.Spent (ends_spent disk origin.start now origin.recording origin.base progress going), tt)
+  worked (Some ended) otherwise stands unkept = stands.0
+  worked None drive_end.NoMemory going unkept = (counted drive_end.NoMemory (ends_short disk origin.start now origin.recording origin.base progress going), tt)
+  worked None (drive_end.Spent spent) going unkept =
+      (counted (drive_end.Spent spent) (ends_spent disk origin.start now origin.recording origin.base progress going spent), tt)
+  worked None drive_end.Done going unkept = absurd unkept
+  worked None (drive_end.Stalled lane) going unkept = absurd unkept
+  worked None (drive_end.DiskFault refused) going unkept = absurd unkept
+  worked None (drive_end.Full happened from needed) going unkept = absurd unkept

@@ -47,6 +47,12 @@ HasWorked disk origin now progress ended =
     Ended disk origin.start now origin.passes origin.recording origin.base progress.history.items ended
     × IsAtRest ended origin.base progress
 
+-- own: how a run has ended of which no end is kept: for want of memory, or with a pass that is spent
+abbrev pub IsUnkept : DriveEnd → Type 0
+IsUnkept drive_end.NoMemory = Unit {0}
+IsUnkept (drive_end.Spent spent) = Unit {0}
+IsUnkept _ = ⊥
+
 -- own: the recording is under way, or the run has ended so
 abbrev pub Stands : {D : Type 0} → Ghosts D → D → Origin D → Progress → Option DriveEnd → Type 0
 Stands disk now origin progress None = IsGoing disk origin.start now origin.recording origin.base progress
@@ -65,7 +71,7 @@ brief_of (drive_end.Stalled lane) = brief.Stalled lane
 brief_of (drive_end.DiskFault refused) = brief.DiskFault
 brief_of (drive_end.Full happened from needed) = brief.Full
 brief_of drive_end.NoMemory = brief.NoMemory
-brief_of drive_end.Spent = brief.Spent
+brief_of (drive_end.Spent spent) = brief.Spent
 
 -- what a turn comes to, as a step answers it
 abbrev pub shown : Turn → Turned

@@ -11,7 +11,7 @@ use std::sync::Wait;
 use std::thread::yield_now;
 use sw_data::Text;
 use sw_disk::Disk;
-use sw_lock::{Pass, Shared, Spent};
+use sw_lock::{Pass, Shared};
 use sw_net::Gate;
 
 // Passes the gate once for each of the fetches.
@@ -61,7 +61,7 @@ pub fn drive<R: Wait, D: Disk, G: Gate>(
             Ok(Turned::Fetch { task: _, fetches }) => pass_gate(gate, fetches),
             Ok(Turned::Idle) => rest(lock, pass),
             Ok(Turned::Ended(brief)) => return brief,
-            Err(Spent) => return Brief::Spent,
+            Err(_) => return Brief::Spent,
         }
     }
     unreachable!()

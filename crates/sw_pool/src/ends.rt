@@ -48,7 +48,7 @@ pub(crate) fn brief_of(end: &DriveEnd) -> Brief
         DriveEnd::DiskFault(_) => Brief::DiskFault,
         DriveEnd::Full { .. } => Brief::Full,
         DriveEnd::NoMemory => Brief::NoMemory,
-        DriveEnd::Spent => Brief::Spent,
+        DriveEnd::Spent(_) => Brief::Spent,
     }
 }
 

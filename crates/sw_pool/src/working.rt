@@ -1,18 +1,16 @@
 //! A recording is worked on to its end.
 
-ghost use Rattle.std.specs.Prelude.{◌≡◌, ◌==◌, ◌<◌, ◌≤◌, ◌^◌, ◌⊎◌, All, true, length, vec_len};
-ghost use Rattle.std.specs.List.{list_any};
-ghost use Rattle.sw_lock.specs.Passes.{IsPassOf, made_of, opened_of, turns};
-ghost use Rattle.sw_pool.specs.Yards.{HasWorked, origin_of};
+ghost use Rattle.std.specs.Prelude.{◌≡◌, ◌<◌, ◌≤◌, All, length, vec_len};
+ghost use Rattle.sw_lock.specs.Passes.{IsPassOf, made_of, opened_of};
+ghost use Rattle.sw_pool.specs.Yards.{HasWorked, IsUnkept, origin_of};
 ghost use Rattle.sw_turns.specs.Turns.{IsGoing};
-ghost use Rattle.sw_turns.specs.declared.ends.DriveEnd.TheVariants as drive_end;
 
 use crate::driving::drive;
 use crate::yard::Yard;
 use std::alloc::Global;
 use std::snapshot::Snapshot;
 use std::sync::Wait;
-use std::thread::Threads;
+use std::thread::{Threads, for_each_mut};
 use sw_data::{Kept, NoMemory, Recording};
 use sw_disk::Disk;
 use sw_lock::{Pass, Shared};
@@ -28,9 +26,8 @@ pub struct Worked<D> {
 
 // What a yard comes to where no end is kept but this one.
 fn end_of<D: Disk>(yard: Yard<D>, otherwise: DriveEnd) -> Worked<D>
-    requires { (otherwise ≡ drive_end.NoMemory) ⊎ (otherwise ≡ drive_end.Spent) }
-    ensures worked { HasWorked D.Disk yard.origin result.disk result.progress result.end }
-    ensures spent { result.end ≡ drive_end.Spent → otherwise ≡ drive_end.Spent }
+    requires { IsUnkept otherwise }
+    ensures { HasWorked D.Disk yard.origin result.disk result.progress result.end }
 {
     let (disk, progress, end) = yard.into_parts();
     Worked {
@@ -40,8 +37,8 @@ fn end_of<D: Disk>(yard: Yard<D>, otherwise: DriveEnd) -> Worked<D>
     }
 }
 
-// Each pass works, one after the other: the first to the end, which the others are answered.
-fn drive_all<R: Wait, D: Disk, G: Gate>(
+// Each pass works, on a thread of its own where one can be made.
+fn drive_all<R: Threads + Wait + Sync, D: Disk + Send, G: Gate + Sync>(
     rt: &R,
     lock: &Shared<Yard<D>>,
     passes: &mut [Pass<Yard<D>>],
@@ -51,21 +48,23 @@ fn drive_all<R: Wait, D: Disk, G: Gate>(
     ensures all { All (IsPassOf lock.now) passes.new }
     ensures count { length passes.new ≡ length passes.old }
 {
-    for at in 0..passes.len() {
-        let _ = drive(rt, lock, &mut passes[at], gate);
-    }
+    for_each_mut(
+        rt,
+        passes,
+        64,
+        &|_, pass| {
+            let _ = drive(rt, lock, pass, gate);
+        },
+    );
 }
 
 // How a run has ended of which no end is kept: for want of turns, or of memory.
 fn unkept<D: Disk>(passes: &[Pass<Yard<D>>]) -> DriveEnd
-    ensures either { (result ≡ drive_end.NoMemory) ⊎ (result ≡ drive_end.Spent) }
-    ensures spent { result ≡ drive_end.Spent
-        → list_any (λ pass. turns pass == 2 ^ 40) passes.now ≡ true }
+    ensures { IsUnkept result }
 {
-    if passes.iter().any(|pass| pass.is_spent()) {
-        DriveEnd::Spent
-    } else {
-        DriveEnd::NoMemory
+    match passes.iter().find_map(|pass| pass.spent()) {
+        Some(spent) => DriveEnd::Spent(spent),
+        None => DriveEnd::NoMemory,
     }
 }
 
@@ -73,9 +72,7 @@ fn unkept<D: Disk>(passes: &[Pass<Yard<D>>]) -> DriveEnd
 fn close<D: Disk>(lock: Shared<Yard<D>>, passes: Vec<Pass<Yard<D>>>) -> Worked<D>
     requires passes { All (IsPassOf lock) passes.items }
     requires all { vec_len passes ≡ made_of lock }
-    ensures worked { HasWorked D.Disk (opened_of lock).origin result.disk result.progress result.end }
-    ensures spent { result.end ≡ drive_end.Spent
-        → list_any (λ pass. turns pass == 2 ^ 40) passes.items ≡ true }
+    ensures { HasWorked D.Disk (opened_of lock).origin result.disk result.progress result.end }
 {
     let otherwise = unkept(&passes);
     match lock.close(passes) {
@@ -84,7 +81,8 @@ fn close<D: Disk>(lock: Shared<Yard<D>>, passes: Vec<Pass<Yard<D>>>) -> Worked<D
     }
 }
 
-/// Works on a recording to its end, with as many workers as it has passes. They come one after the other, so far.
+/// Works on a recording to its end, with as many workers as it has passes, each on a thread of its own where one can be
+/// made.
 pub fn work<R: Threads + Wait + Sync, D: Disk + Send, G: Gate + Sync>(
     rt: &R,
     alloc: Global,

@@ -17,6 +17,7 @@ use Rattle.sw_lane.proofs.Saying.{says}
 use Rattle.sw_lane.specs.Left.{Left}
 use Rattle.sw_lane.specs.Picked.{picked}
 use Rattle.sw_lane.specs.declared.picks.Pick.TheVariants as pick
+use Rattle.sw_lock.specs.declared.pass.Spent.{Spent}
 use Rattle.sw_laws.proofs.LawProofs.{is_always_controlled, rests_without_work}
 use Rattle.sw_turns.proofs.ChangeLemmas.{all_front, each_front, kept_durable, legal_front}
 use Rattle.sw_turns.specs.Ends.{Ended, GoesOn, IsRunOn, KeepsAtEnd}
@@ -172,5 +173,5 @@ module _ {D : Type 0} (disk : Ghosts D) (start now : D) (recording : Recording) 
       ends_unmade disk start now workers recording base p.history.items p.store going.at_work
       (played workers recording base p.history.items p.lanes (state_of p.store.core) (so_far_here workers recording base p.history.items p.lanes p.store going.under_way going.quiet.staged))
 
-  pub ends_spent : Ended disk start now (length p.flights.items) recording base p.history.items drive_end.Spent
-  ends_spent = ends_short
+  pub ends_spent : (spent : Spent) → Ended disk start now (length p.flights.items) recording base p.history.items (drive_end.Spent spent)
+  ends_spent spent = ends_short

@@ -160,7 +160,7 @@ cut_kept (drive_end.Stalled lane) cut = tt
 cut_kept (drive_end.DiskFault refused) cut = tt
 cut_kept (drive_end.Full happened from needed) cut = tt
 cut_kept drive_end.NoMemory cut = tt
-cut_kept drive_end.Spent cut = cut
+cut_kept (drive_end.Spent spent) cut = cut
 
 -- and isn't done
 pub cut_rests : (ended : DriveEnd) (base : Kept) (p : Progress) → IsCutShort ended → IsAtRest ended base p
@@ -169,7 +169,7 @@ cut_rests (drive_end.Stalled lane) base p cut = tt
 cut_rests (drive_end.DiskFault refused) base p cut = tt
 cut_rests (drive_end.Full happened from needed) base p cut = tt
 cut_rests drive_end.NoMemory base p cut = tt
-cut_rests drive_end.Spent base p cut = tt
+cut_rests (drive_end.Spent spent) base p cut = tt
 
 -- what didn't stop for want of room in its record is over
 pub not_held : (stopped : Stop) → ((happened : Event) → stopped ≡ stop.NoRoom happened → ⊥) → IsOver stopped

@@ -63,7 +63,7 @@ Ended disk start now workers recording base history (drive_end.Full happened fro
     × IsFull disk now base history entry from needed
 Ended disk start now workers recording base history drive_end.NoMemory =
     IsRunOn disk start now workers recording base history [] (λ entries state. Unit {0})
-Ended disk start now workers recording base history drive_end.Spent =
+Ended disk start now workers recording base history (drive_end.Spent spent) =
     IsRunOn disk start now workers recording base history [] (λ entries state. Unit {0})
 
 -- own: the disk or want of memory has ended a run
@@ -74,5 +74,5 @@ IsCutShort _ = ⊥
 
 -- own: an end that a turn comes to
 abbrev pub IsKept : DriveEnd → Type 0
-IsKept drive_end.Spent = ⊥
+IsKept (drive_end.Spent spent) = ⊥
 IsKept _ = Unit {0}

@@ -1,6 +1,7 @@
 //! How the work on a recording ends.
 
 use sw_data::{Entry, Event, Task, Text};
+use sw_lock::Spent;
 
 /// How the work on a recording ends.
 #[derive(Drop)]
@@ -19,7 +20,7 @@ pub enum DriveEnd {
     },
     NoMemory,
     /// A pass has made all the turns that a pass makes, and no other end is known.
-    Spent,
+    Spent(Spent),
 }
 
 /// What a turn of a pass came to.

@@ -18,8 +18,8 @@ returns-clause-stalled g c = λ is workers wants.
     (stood.0, run.0, run.1, stood.2)
 
 pub returns-clause-spent : goal.returns-clause-spent
-returns-clause-spent g c = λ is workers wants.
+returns-clause-spent g c = λ spent is workers wants.
     let stood = c.run_on.ensures.stands (λ none. cc) (λ fault. cc) in
     let run = has_spent g.D.Disk c.args.disk c.run_on.result.disk (g.S.Source.left c.args.source.now) stood.0
-    (g.S.Source.faults c.args.source.now) (g.S.Source.faults c.run_on.new.source) (command_of c.args.words.now) c.run_on.result.status workers is wants stood.1 in
+    (g.S.Source.faults c.args.source.now) (g.S.Source.faults c.run_on.new.source) (command_of c.args.words.now) c.run_on.result.status workers spent is wants stood.1 in
     (stood.0, run, stood.2)

@@ -3,6 +3,6 @@ use Rattle.std.proofs.Common.{subst}
 use Rattle.sw_pool.proofs.working.close.Goals as goal
 use Rattle.sw_pool.specs.Yards.{HasWorked, Origin}
 
-pub returns-clause-worked : goal.returns-clause-worked
-returns-clause-worked g c =
-    subst (λ (origin : Origin g.row.D.Denot). HasWorked g.D.Disk origin c.end_of.result.disk c.end_of.result.progress c.end_of.result.end) c.in-Ok.ensures.base c.end_of.ensures.worked
+pub returns : goal.returns
+returns g c =
+    subst (λ (origin : Origin g.row.D.Denot). HasWorked g.D.Disk origin c.end_of.result.disk c.end_of.result.progress c.end_of.result.end) c.in-Ok.ensures.base c.end_of.ensures

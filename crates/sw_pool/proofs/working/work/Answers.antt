@@ -18,9 +18,9 @@ close-requires-clause-all g c =
 pub returns-in-Ok : goal.returns-in-Ok
 returns-in-Ok g c =
     subst (λ (origin : Origin g.row.D.Denot). HasWorked g.D.Disk origin c.close.result.disk c.close.result.progress c.close.result.end)
-    (ap (λ (yard : YardState g.row.D.Denot). yard.origin) c.in-Ok.ensures.opened ∙ c.new-yard.ensures.origin) c.close.ensures.worked
+    (ap (λ (yard : YardState g.row.D.Denot). yard.origin) c.in-Ok.ensures.opened ∙ c.new-yard.ensures.origin) c.close.ensures
 
 pub returns-in-Err : goal.returns-in-Err
 returns-in-Err g c =
     subst (λ (origin : Origin g.row.D.Denot). HasWorked g.D.Disk origin c.end_of.result.disk c.end_of.result.progress c.end_of.result.end)
-    (ap (λ (yard : YardState g.row.D.Denot). yard.origin) c.in-Err.ensures.back ∙ c.new-yard.ensures.origin) c.end_of.ensures.worked
+    (ap (λ (yard : YardState g.row.D.Denot). yard.origin) c.in-Err.ensures.back ∙ c.new-yard.ensures.origin) c.end_of.ensures

@@ -1,0 +1,12 @@
+-- A run that ends with the number of a spent one is spent.
+use Rattle.std.proofs.Common.{◌≡◌, rules}
+use Rattle.sw_host.specs.Texts.{code_of}
+use Rattle.sw_main.proofs.SpentStatus.{spent_of}
+use Rattle.sw_main.proofs.ended.Goals as goal
+
+pub returns-clause-spent : goal.returns-clause-spent
+returns-clause-spent g c = λ is workers wants.
+    let code : code_of c.run-outcome.result.status ≡ 13 = search (c.from.ensures, c.code.ensures, is, rules) in
+    let made = spent_of c.run-outcome.result.status code in
+    let run = c.run-outcome.ensures.spent made.0 made.1 workers wants in
+    (run.0, made.0, run.1, run.2)
