@@ -23,6 +23,3 @@ pub use hits::Found;
 pub use ops::apply_ops;
 pub use rules::has_http_scheme;
 pub use table::{CachePlan, Caches, Hit, NewCache};
-
-#[cfg(test)]
-mod tests;

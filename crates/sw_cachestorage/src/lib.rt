@@ -22,10 +22,3 @@ pub use event::{finish_on_caches, is_on_caches, prepare_on_caches};
 pub use forgetting::{forget, forget_one, is_busy, mapped_many};
 pub use place::place_key;
 pub use writes::{batch_ops, delete_request, parsed_ops, put_response};
-
-#[cfg(test)]
-mod adding_tests;
-#[cfg(test)]
-mod ended_tests;
-#[cfg(test)]
-mod tests;

@@ -10,6 +10,3 @@ mod registrations;
 
 pub use checkpoint::changes_of;
 pub use content::{Content, fold_all};
-
-#[cfg(test)]
-mod tests;

@@ -10,8 +10,6 @@ ghost use Rattle.sw_rules.specs.Rows.{changed, is_client, without};
 ghost use Rattle.sw_client.specs.Table.{Fits, clients_of, controlled_by, handed, is_open, uncontrolled, users_of, uses};
 
 mod counts;
-#[cfg(test)]
-mod tests;
 
 use indexmap::IndexMap;
 use std::alloc::Global;

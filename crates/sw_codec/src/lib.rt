@@ -12,6 +12,3 @@ mod writing;
 pub use error::ReadError;
 pub use reading::read;
 pub use writing::write;
-
-#[cfg(test)]
-mod tests;

@@ -4,8 +4,6 @@
 mod calls;
 mod exchange;
 mod sameness;
-#[cfg(test)]
-mod tests;
 
 pub use calls::{copy_call, copy_calls, copy_fetched, copy_handlers, copy_line};
 pub use exchange::{copy_op, copy_request};

@@ -20,6 +20,3 @@ pub use part::Part;
 pub use plain::PlainDisk;
 pub use sw_data::Failed;
 pub use synced::write_synced;
-
-#[cfg(test)]
-mod tests;

@@ -19,6 +19,3 @@ pub use claiming::claim_changes;
 pub use jobs::{evaluated_changes, fetched_changes, installed_changes, unregister_changes};
 pub use laws::register_has_no_changes;
 pub use preloading::preload_changes;
-
-#[cfg(test)]
-mod tests;

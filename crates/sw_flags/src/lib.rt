@@ -5,6 +5,3 @@ mod flags;
 mod places;
 
 pub use flags::Flags;
-
-#[cfg(test)]
-mod tests;

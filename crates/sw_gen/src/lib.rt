@@ -12,8 +12,6 @@ use sw_data::{Bytes, NoMemory};
 
 mod lines;
 mod made;
-#[cfg(test)]
-mod tests;
 
 /// The recording of this number with `size` clients, from 1 to 4096, as its bytes in UTF-8.
 #[tactic(auto, using(crate::proofs::Growing::more_clients))]

@@ -12,6 +12,3 @@ pub use fault::HttpFault;
 pub use lines::{good_names, good_values, normal_lines};
 pub use media::is_javascript;
 pub use message::{BODY_LIMIT, normal_method, request, response};
-
-#[cfg(test)]
-mod tests;

@@ -19,6 +19,3 @@ pub use source::Source;
 pub use standard::{StdSink, StdSource};
 pub use sw_data::Failed;
 pub use whole::{ReadAllError, read_all, write_all};
-
-#[cfg(test)]
-mod tests;

@@ -12,6 +12,3 @@ mod version;
 pub use formatting::{InitError, init};
 pub use journal::{AppendError, Journal};
 pub use reopening::ReopenError;
-
-#[cfg(test)]
-mod tests;

@@ -10,6 +10,3 @@ pub use appending::append;
 pub use checkpoint::{contents_of, go_over};
 pub use opening::{OpenError, open};
 pub use sw_twin::{AppendError, CheckpointError, InitError, Twin, init};
-
-#[cfg(test)]
-mod tests;

@@ -11,6 +11,3 @@ pub use draws::{Draws, NewDraw, NewDraws};
 pub use preloads::{NewPreload, Preloads};
 pub use promises::{Awaited, NewPromise, Promises};
 pub use tasks::{NewTask, TaskRow, Tasks};
-
-#[cfg(test)]
-mod tests;

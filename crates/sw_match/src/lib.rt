@@ -13,6 +13,3 @@ mod vary;
 pub use matching::{finds_nothing, is_get, matches_pair, number_of, query, request_matches};
 pub use values::{combined, same_values};
 pub use vary::varies_on_all;
-
-#[cfg(test)]
-mod tests;

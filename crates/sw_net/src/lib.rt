@@ -12,9 +12,6 @@ use std::alloc::Global;
 use std::marker::Model;
 use sw_data::{FetchLine, Items, NoMemory, Text};
 
-#[cfg(test)]
-mod tests;
-
 /// Where a worker stands for a moment before it takes what it fetched. It means nothing.
 pub trait Gate {
     /// Stands there for the fetch of this number of an address.

@@ -19,8 +19,6 @@ mod faults;
 mod kept;
 mod lines;
 mod lists;
-#[cfg(test)]
-mod tests;
 
 /// The transcript of a history and its end, in UTF-8: a line for each entry in order, and the last line.
 pub fn print_history(alloc: Global, history: &[Entry], end: &End) -> Result<Text, NoMemory>

@@ -9,8 +9,6 @@ mod line;
 mod queues;
 mod ready;
 mod scopes;
-#[cfg(test)]
-mod tests;
 
 pub use calls::{JobNotes, NewJob, NotReady, Scheduled};
 pub use queues::Queues;

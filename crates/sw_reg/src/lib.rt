@@ -5,6 +5,3 @@ mod edit;
 mod registrations;
 
 pub use registrations::{NewRegistration, Registrations};
-
-#[cfg(test)]
-mod tests;

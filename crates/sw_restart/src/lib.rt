@@ -9,6 +9,3 @@ mod tables;
 pub use keeping::kept;
 pub use restart::restored;
 pub use tables::Restored;
-
-#[cfg(test)]
-mod tests;

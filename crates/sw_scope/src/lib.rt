@@ -11,6 +11,3 @@ mod steps;
 pub use plain_scan::scan;
 pub use scope_map::{NewScope, ScopeMap};
 pub use steps::Steps;
-
-#[cfg(test)]
-mod tests;

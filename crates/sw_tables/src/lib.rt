@@ -23,10 +23,3 @@ pub use refusal::NotNow;
 pub use slots::{
     become_activated, become_waiting, discard, end_handler, note_call, set_skip, to_installing,
 };
-
-#[cfg(test)]
-mod activation_tests;
-#[cfg(test)]
-mod slots_tests;
-#[cfg(test)]
-mod tests;

@@ -11,6 +11,3 @@ pub use formatting::init;
 pub use sw_journal::{AppendError, InitError, ReopenError};
 pub use twin::{CheckpointError, Twin};
 pub use whole::part_of;
-
-#[cfg(test)]
-mod tests;

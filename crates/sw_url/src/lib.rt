@@ -17,6 +17,3 @@ pub use fault::UrlFault;
 pub use origin::{is_within_bound, key_of, max_scope, same_origin};
 pub use page::{PageFault, page_key};
 pub use trust::is_trustworthy;
-
-#[cfg(test)]
-mod tests;

@@ -7,6 +7,3 @@ mod workers;
 
 pub use made::{BeginFault, NewEvent, NewWorker, NoEvent, WrongState};
 pub use workers::Workers;
-
-#[cfg(test)]
-mod tests;

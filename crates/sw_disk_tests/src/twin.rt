@@ -1,0 +1,296 @@
+ghost use Rattle.std.specs.Prelude.{◌≡◌, ◌≤◌, ◌<◌, ◌^◌, [], ◌∷◌, length, IfOk, IfSome, IsTrue};
+ghost use Rattle.sw_journal.specs.Format.{format_2};
+ghost use Rattle.sw_journal.specs.WholePart.{IsWhole};
+ghost use Rattle.sw_twin.specs.Twin.{StandsFor};
+
+use std::alloc::Global;
+use std::test::Fail;
+use sw_data::{Bytes, NoMemory};
+use sw_disk::{CallKind, Disk, Failing, MemoryDisk, Part};
+use sw_twin::*;
+
+const LIMIT: u64 = 4_294_967_296;
+
+// A whole part with one payload.
+fn whole(alloc: Global, payload: &[u8]) -> Result<Bytes, NoMemory>
+    requires { length payload.now < 2 ^ 32 }
+    ensures { IfOk result (λ part. IsWhole (payload.now ∷ []) part) }
+{
+    let payloads = [Bytes::of(alloc, payload)?];
+    part_of(alloc, &payloads)
+}
+
+fn with_parts(
+    alloc: Global,
+    root: &[u8],
+    left: &[u8],
+    right: &[u8],
+    failing: Vec<Failing>,
+) -> Result<MemoryDisk, NoMemory> {
+    let root = Bytes::of(alloc, root)?;
+    let left = Bytes::of(alloc, left)?;
+    Ok(MemoryDisk::new(root, left, Bytes::of(alloc, right)?, failing))
+}
+
+// The first byte of the last payload, and 0 where there is no record; None for a bad part or a fault.
+fn last_of<D: Disk>(alloc: Global, disk: &mut D) -> Option<u8> {
+    match Twin::reopen(alloc, disk, LIMIT) {
+        Ok((_, records)) => match records.last() {
+            Some(record) => record.1.as_bytes().first().copied(),
+            None => Some(0),
+        },
+        Err(ReopenError::NotFormatted) => Some(0),
+        Err(_) => None,
+    }
+}
+
+#[test]
+fn a_whole_part_has_its_bytes(rt: HostRuntime) -> Result<(), Fail> {
+    let part = whole(rt.alloc(), &[10])?;
+    assert_eq!(rt;
+        part.as_bytes(),
+        b"SWHOST-JOURNAL-2\x01\x00\x00\x00\x01\x00\x00\x00\x00\x00\x00\x00\x00\x0a\x00".as_slice()
+    );
+    Ok(())
+}
+
+// Which part is current by so many ones, and what follows them.
+#[test]
+fn root_tells_the_current_part(rt: HostRuntime) -> Result<(), Fail> {
+    let alloc = rt.alloc();
+    let left = whole(alloc, &[1])?;
+    let right = whole(alloc, &[2])?;
+    let rows: [(&[u8], u8); 7] = [
+        (&[], 1),
+        (&[0, 1], 1),
+        (&[7], 1),
+        (&[1], 2),
+        (&[1, 0, 1, 1], 2),
+        (&[1, 1], 1),
+        (&[1, 1, 1, 255], 2),
+    ];
+    for (root, want) in rows {
+        let (left, right) = (left.as_bytes(), right.as_bytes());
+        let mut disk = with_parts(alloc, root, left, right, Vec::new(alloc))?;
+        assert_eq!(rt; last_of(alloc, &mut disk), Some(want), "{root:?}");
+    }
+    let long = vec![in alloc; 1u8; 8193]?;
+    let mut disk = with_parts(
+        alloc,
+        &long,
+        left.as_bytes(),
+        right.as_bytes(),
+        Vec::new(alloc),
+    )?;
+    assert_eq!(rt; last_of(alloc, &mut disk), Some(2));
+    assert_eq!(rt; last_of(alloc, &mut disk.crash(&[1, 0, 0])?), Some(2));
+    Ok(())
+}
+
+// Reopens a disk whose current part has format 2.
+fn reopened<D: Disk>(alloc: Global, disk: &mut D, limit: u64) -> Option<Twin>
+    requires { limit ≤ 2 ^ 32 }
+    ensures format { IfSome result (λ twin. twin.journal.format ≡ format_2) }
+    ensures stands { IfSome result (λ twin. StandsFor twin D.Disk disk.new) }
+{
+    match Twin::reopen(alloc, disk, limit) {
+        Ok((twin, _)) => { if twin.format() == 2 { Some(twin) } else { None } }
+        Err(_) => None,
+    }
+}
+
+// Appends a payload of one byte, and says whether it was acknowledged.
+fn added<D: Disk>(twin: &mut Twin, disk: &mut D, byte: u8) -> Result<bool, NoMemory>
+    requires format { twin.old.journal.format ≡ format_2 }
+    requires stands { StandsFor twin.old D.Disk disk.old }
+    ensures stands { IfOk result (λ done. IsTrue done → StandsFor twin.new D.Disk disk.new) }
+{
+    twin.reserve(1)?;
+    match twin.append(disk, &[byte]) {
+        Ok(()) => Ok(true),
+        Err(_) => Ok(false),
+    }
+}
+
+// Makes a part with a payload of one byte the current one, and says whether it was acknowledged.
+fn replaced<D: Disk>(
+    alloc: Global,
+    twin: &mut Twin,
+    disk: &mut D,
+    byte: u8,
+) -> Result<bool, NoMemory>
+    requires stands { StandsFor twin.old D.Disk disk.old }
+    ensures format { IfOk result (λ done. IsTrue done → twin.new.journal.format ≡ format_2) }
+    ensures stands { IfOk result (λ done. IsTrue done → StandsFor twin.new D.Disk disk.new) }
+{
+    let contents = whole(alloc, &[byte])?;
+    match twin.checkpoint(disk, contents.as_bytes()) {
+        Ok(()) => Ok(true),
+        Err(_) => Ok(false),
+    }
+}
+
+#[test]
+fn the_limit_is_exact(rt: HostRuntime) -> Result<(), Fail> {
+    let alloc = rt.alloc();
+    let left = whole(alloc, &[7])?;
+    let mut disk = with_parts(alloc, &[], left.as_bytes(), b"rest", Vec::new(alloc))?;
+    let Some(mut twin) = reopened(alloc, &mut disk, 31) else {
+        return Err(Fail::new("not reopened"));
+    };
+    assert_eq!(rt; (twin.next(), twin.limit()), (31, 31));
+    twin.reserve(1)?;
+    assert_eq!(rt;
+        twin.append(&mut disk, &[8]),
+        Err(AppendError::Full {
+            length: 31,
+            needed: 14
+        })
+    );
+    Ok(())
+}
+
+#[test]
+fn contents_past_the_limit_are_not_written(rt: HostRuntime) -> Result<(), Fail> {
+    let alloc = rt.alloc();
+    let left = whole(alloc, &[7])?;
+    let mut disk = with_parts(alloc, &[], left.as_bytes(), b"rest", Vec::new(alloc))?;
+    let Some(mut twin) = reopened(alloc, &mut disk, 31) else {
+        return Err(Fail::new("not reopened"));
+    };
+    let contents = whole(alloc, &[1, 2])?;
+    assert_eq!(rt;
+        twin.checkpoint(&mut disk, contents.as_bytes()),
+        Err(CheckpointError::Full)
+    );
+    assert_eq!(rt; disk.image(Part::Right), b"rest".as_slice());
+    Ok(())
+}
+
+#[test]
+fn the_current_part_is_formatted(rt: HostRuntime) -> Result<(), Fail> {
+    let alloc = rt.alloc();
+    let mut disk = with_parts(alloc, &[1], &[], b"rest", Vec::new(alloc))?;
+    assert_eq!(rt; init(&mut disk), Ok(()));
+    assert_eq!(rt; init(&mut disk), Err(InitError::AlreadyFormatted));
+    assert_eq!(rt; disk.image(Part::Left), [].as_slice());
+    assert_eq!(rt; disk.image(Part::Right), b"SWHOST-JOURNAL-2\x00".as_slice());
+    Ok(())
+}
+
+#[test]
+fn a_checkpoint_goes_over_to_the_other_part(rt: HostRuntime) -> Result<(), Fail> {
+    let alloc = rt.alloc();
+    let left = whole(alloc, &[7])?;
+    let mut disk = with_parts(alloc, &[], left.as_bytes(), b"rest", Vec::new(alloc))?;
+    let Some(mut twin) = reopened(alloc, &mut disk, 31) else {
+        return Err(Fail::new("not reopened"));
+    };
+    if !replaced(alloc, &mut twin, &mut disk, 9)? {
+        return Err(Fail::new("no checkpoint"));
+    }
+    assert_eq!(rt; (twin.format(), twin.next(), twin.needed(1)), (2, 31, 14));
+    assert_eq!(rt; disk.image(Part::Root), [1, 0].as_slice());
+    assert_eq!(rt; disk.image(Part::Left), left.as_bytes());
+    assert_eq!(rt; last_of(alloc, &mut disk), Some(9));
+    Ok(())
+}
+
+// A disk with one record, of whose calls to cut a part the first fails.
+#[test]
+fn a_part_that_is_not_cut_is_not_gone_over_to(rt: HostRuntime) -> Result<(), Fail> {
+    let alloc = rt.alloc();
+    let failing = vec![in alloc; Failing {
+        call: CallKind::Cut,
+        from: 0,
+        to: 0
+    }; 1]?;
+    let left = whole(alloc, &[1])?;
+    let mut disk = with_parts(alloc, &[], left.as_bytes(), &[], failing)?;
+    let Some(mut twin) = reopened(alloc, &mut disk, LIMIT) else {
+        return Err(Fail::new("not reopened"));
+    };
+    if replaced(alloc, &mut twin, &mut disk, 2)? {
+        return Err(Fail::new("a checkpoint"));
+    }
+    assert_eq!(rt; disk.image(Part::Root), [].as_slice());
+    assert_eq!(rt; last_of(alloc, &mut disk), Some(1));
+    Ok(())
+}
+
+// Formats, appends 1, makes 2 by a checkpoint, appends 3 and makes 4 by a checkpoint, up to the first fault. Says how
+// far it came.
+fn play<D: Disk>(alloc: Global, disk: &mut D) -> Result<u8, NoMemory>
+    ensures { IfOk result (λ last. last ≤ 4) }
+{
+    if init(disk) == Err(InitError::DiskFault) {
+        return Ok(0);
+    }
+    let Some(mut twin) = reopened(alloc, disk, LIMIT) else {
+        return Ok(0);
+    };
+    if !added(&mut twin, disk, 1)? {
+        return Ok(0);
+    }
+    if !replaced(alloc, &mut twin, disk, 2)? {
+        return Ok(1);
+    }
+    if !added(&mut twin, disk, 3)? {
+        return Ok(2);
+    }
+    if !replaced(alloc, &mut twin, disk, 4)? {
+        return Ok(3);
+    }
+    Ok(4)
+}
+
+// Whether a crash has left this payload as the last, or the next, and a checkpoint of 9 is made after it.
+fn is_kept(alloc: Global, mut disk: MemoryDisk, last: u8) -> Result<bool, NoMemory> {
+    let found = match last_of(alloc, &mut disk) {
+        Some(found) => found,
+        None => return Ok(false),
+    };
+    if found < last || found - last > 1 {
+        return Ok(false);
+    }
+    let Some(mut twin) = reopened(alloc, &mut disk, LIMIT) else {
+        return Ok(found == 0);
+    };
+    if !replaced(alloc, &mut twin, &mut disk, 9)? {
+        return Ok(false);
+    }
+    let mut after = disk.crash(&[1])?;
+    Ok(last_of(alloc, &mut after) == Some(9))
+}
+
+#[test]
+fn a_crash_keeps_what_was_acknowledged(rt: HostRuntime) -> Result<(), Fail> {
+    let alloc = rt.alloc();
+    let picks: [[u8; 48]; 6] = [
+        [0; 48],
+        [1; 48],
+        [255; 48],
+        *b"\x01\x00\x00\x00\x00\x00\x00\x00\x00\x00\x00\x00\x00\x00\x00\x00\x00\x00\x00\x00\x00\x00\x00\x00\x00\x00\x00\x00\x00\x00\x00\x00\x00\x00\x00\x00\x00\x00\x00\x00\x00\x00\x00\x00\x00\x00\x00\x00",
+        *b"\x01\xff\xff\xff\xff\xff\xff\xff\xff\xff\xff\xff\xff\xff\xff\xff\xff\xff\xff\xff\xff\xff\xff\xff\xff\xff\xff\xff\xff\xff\xff\xff\xff\xff\xff\xff\xff\xff\xff\xff\xff\xff\xff\xff\xff\xff\xff\xff",
+        *b"\x01\x01\x07\x00\x01\x9c\x01\x01\x00\x52\x00\x00\x01\x33\xee\x04\x01\x00\xff\x11\x00\x00\x00\x01\x01\x02\xfe\x00\x08\x01\x01\x61\x01\x00\x01\x01\x00\x02\x01\x01\x01\x00\x00\x01\x01\x01\x01\x00",
+    ];
+    let roots: [&[u8]; 3] = [&[], &[0, 1, 1], &[1, 7, 1, 1]];
+    for root in roots {
+        for after in 0..45u64 {
+            for pick in &picks {
+                let (left, right) = (Bytes::of(alloc, &[])?, Bytes::of(alloc, &[])?);
+                let mut disk = MemoryDisk::stopping(Bytes::of(alloc, root)?, left, right, after);
+                let last = play(alloc, &mut disk)?;
+                assert!(rt;
+                    is_kept(alloc, disk.crash(pick)?, last)?,
+                    "{root:?} {after}"
+                );
+            }
+        }
+    }
+    let mut disk = with_parts(alloc, &[], &[], &[], Vec::new(alloc))?;
+    assert_eq!(rt; play(alloc, &mut disk)?, 4);
+    assert_eq!(rt; disk.image(Part::Root), [1, 1, 0].as_slice());
+    assert_eq!(rt; last_of(alloc, &mut disk), Some(4));
+    Ok(())
+}
