@@ -16,4 +16,6 @@ mod durable;
 #[cfg(test)]
 mod matching;
 #[cfg(test)]
+mod named;
+#[cfg(test)]
 mod restart;

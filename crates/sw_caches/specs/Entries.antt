@@ -3,8 +3,9 @@ use Rattle.std.specs.Prelude.{ℕ, Bool, List, map}
 use Rattle.std.specs.BTreeSet.{BTreeSet}
 use Rattle.sw_rules.specs.Matching.{Pair}
 use Rattle.sw_caches.specs.declared.entries.Entry.{Entry}
-use Rattle.sw_caches.specs.Slots.{Slot, address_digest}
-use Rattle.sw_caches.specs.Numbered.{IsIndexed}
+use Rattle.sw_index.specs.Slots.{Slot}
+use Rattle.sw_caches.specs.Slots.{address_digest}
+use Rattle.sw_index.specs.Numbered.{IsIndexed}
 
 abbrev pub number : Entry → ℕ
 number entry = entry.number

@@ -1,6 +1,6 @@
 pub mod Entries
 pub mod Hits
-pub mod Numbered
+pub mod Places
 pub mod Plans
 pub mod Slots
 pub mod Tables

@@ -13,8 +13,8 @@ use Rattle.sw_rules.specs.Batch as rules
 use Rattle.sw_caches.specs.declared.fault.BatchFault.{BatchFault}
 use Rattle.sw_caches.specs.declared.fault.BatchFault.TheVariants as fault
 use Rattle.sw_caches.specs.declared.plan.PairsPlan.{PairsPlan}
-use Rattle.sw_caches.specs.Slots.{Slot}
-use Rattle.sw_caches.specs.Numbered.{AllBelow, AllFrom}
+use Rattle.sw_index.specs.Slots.{Slot}
+use Rattle.sw_index.specs.Numbered.{AllBelow, AllFrom}
 use Rattle.sw_caches.specs.Entries.{AreIndexed, number, pairs}
 
 -- a pair is taken out by one of the queries, or by a put in whose place it stands

@@ -1,5 +1,5 @@
 -- The caches of all keys, as a list of rows beside what plans need to know of their indexes.
-use Rattle.std.specs.Prelude.{◌≡◌, ℕ, ◌+◌, ◌<◌, ◌^◌, true, length, slice_index_or, List, [], ◌∷◌, map, filter, set, bytes_eq, slice_get, option_map, Option, Some, None, Ok, if◌then◌else◌}
+use Rattle.std.specs.Prelude.{◌≡◌, ℕ, ◌+◌, ◌<◌, ◌≤◌, ◌^◌, true, length, drop, List, [], ◌∷◌, map, filter, set, bytes_eq, slice_get, option_map, Option, Some, None, Ok, if◌then◌else◌}
 use Rattle.std.specs.Option.{option_map_or}
 use Rattle.std.specs.List.{range_with_len}
 use Rattle.sw_data.specs.declared.exchange.Op.{Op}
@@ -8,46 +8,38 @@ use Rattle.sw_data.specs.declared.exchange.Request.{Request}
 use Rattle.sw_data.specs.declared.storage.KeptCache.{KeptCache}
 use Rattle.sw_rules.specs.Matching.{Pair, first_match, query_of}
 use Rattle.sw_rules.specs.Batch.{batch}
-use Rattle.sw_rules.specs.Storage.{with_cache}
 use Rattle.sw_rules.specs.Caching.{pairs_of, with_pairs}
 use Rattle.sw_caches.specs.declared.fault.BatchFault.{BatchFault}
 use Rattle.sw_caches.specs.declared.fault.BatchFault.TheVariants as fault
 use Rattle.sw_caches.specs.declared.table.CachePlan.{CachePlan}
-use Rattle.sw_caches.specs.declared.row.Row.{Row}
+use Rattle.sw_index.specs.Named as named
+use Rattle.sw_index.specs.Named.{Label, Listing, values}
 use Rattle.sw_caches.specs.Plans.{Fits, Indexed, IsThrown, carried}
 
 -- a cache that was just made (Service Workers, CacheStorage, "open()")
 abbrev pub empty_cache : List ℕ → List ℕ → KeptCache
 empty_cache key name = record { key = key; name = name; pairs = [] }
 
--- the caches in order of creation over all keys, their indexes, and for how many more caches there is room
+-- a cache under its key and its name: its pairs, and what their plans need to know
+abbrev pub Row : Type 0
+Row = Label × Indexed
+
+-- a cache as it is kept
+abbrev pub kept_row : Row → KeptCache
+kept_row row = record { key = row.0.0; name = row.0.1; pairs = row.1.pairs }
+
+-- the caches in order of creation over all keys, their indexes, and how they are found
 pub record Table : Type 0 where
   pub rows : List KeptCache
   pub indexes : List Indexed
-  pub spare : ℕ
+  pub listing : Listing Indexed
 
-abbrev pub kept_row : Row → KeptCache
-kept_row row = record { key = row.key; name = row.name; pairs = row.pairs.pairs }
+abbrev pub table : Listing Indexed → Table
+table listing = record { rows = map kept_row listing.rows; indexes = values listing.rows; listing = listing }
 
-abbrev pub index_of : Row → Indexed
-index_of row = row.pairs
-
-abbrev pub table : List Row → ℕ → Table
-table rows spare = record { rows = map kept_row rows; indexes = map index_of rows; spare = spare }
-
--- there is room for one more cache
-pub record HasRoom (caches : Table) : Type 0 where
-  pub spare : 0 < caches.spare
-  pub few : length caches.rows + 1 < 2 ^ 32
-
--- the cache of a key and a name is the row at this place
-pub record IsPlace (key name : List ℕ) (rows : List Row) (place : ℕ) : Type 0 where
-  pub within : place < length rows
-  pub row : Row
-  pub stands : (d : Row) → slice_index_or rows place d ≡ row
-  pub found : pairs_of key name (map kept_row rows) ≡ Some row.pairs.pairs
-  pub changed : (f : KeptCache → KeptCache)
-      → with_cache key name f (map kept_row rows) ≡ set (map kept_row rows) place (f (kept_row row))
+-- a cache was made for this table, which has a place in the index for it, and room
+abbrev pub FitsNew : KeptCache → Table → Type 0
+FitsNew new caches = named.Fits (record { key = new.key; name = new.name }) caches.listing
 
 abbrev pub key_and_name : KeptCache → List ℕ × List ℕ
 key_and_name row = (row.key, row.name)
@@ -87,6 +79,17 @@ IsRefused key name ops rows why = IsRefusedOf (pairs_of key name rows) ops why
 -- the caches of a key, in order of creation
 abbrev pub caches_of : List ℕ → List KeptCache → List KeptCache
 caches_of key rows = filter (λ row. bytes_eq row.key key) rows
+
+-- the caches of a key from a place on
+abbrev pub caches_from : List ℕ → ℕ → List Row → List KeptCache
+caches_from key from rows = caches_of key (map kept_row (drop from rows))
+
+-- the caches of a key from a place on are this one and those from the next place on
+pub record IsNext (key : List ℕ) (from : ℕ) (rows : List Row) (row : KeptCache) (next : ℕ) : Type 0 where
+  pub later : from < next
+  pub within : next ≤ length rows
+  pub few : next < 2 ^ 32
+  pub caches : caches_from key from rows ≡ row ∷ caches_from key next rows
 
 -- the first place that matches in a cache, where it is asked: it has this name, or no name is given
 abbrev pub hit_in : Option (List ℕ) → Request → Options → KeptCache → Option ℕ

@@ -1,14 +1,14 @@
 //! A plan is carried out: pairs are taken out where all room was made before.
 
 ghost use Rattle.std.specs.Prelude.{◌≡◌, ◌≤◌, [], vec_capacity, vec_len};
-ghost use Rattle.sw_caches.specs.Numbered.{KeepsAbove};
+ghost use Rattle.sw_index.specs.Numbered.{KeepsAbove};
 ghost use Rattle.sw_caches.specs.Entries.{AreIndexed, number, pairs};
 ghost use Rattle.sw_caches.specs.Plans.{left_by};
 
 use crate::entries::{Entry, drop_matching};
 use crate::plan::NO_OPTIONS;
-use crate::slots::Slots;
 use sw_data::{Options, Request};
+use sw_index::Slots;
 
 /// Takes out what the queries match; it takes no memory.
 pub(crate) fn drop_deleted(

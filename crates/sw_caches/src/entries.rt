@@ -4,12 +4,14 @@ ghost use Rattle.std.specs.Prelude.{◌≡◌, ◌<◌, ◌≤◌, true, MatchOp
 ghost use Rattle.std.specs.List.{All, AllPairs};
 ghost use Rattle.sw_rules.specs.Matching.{first_match, matches_pair, query_of};
 ghost use Rattle.sw_rules.specs.Batch.{matches_added, without_matching};
-ghost use Rattle.sw_caches.specs.Numbered.{KeepsAbove, NoneOfNumber, StandsAt, first_by, places_by};
+ghost use Rattle.sw_index.specs.Numbered.{KeepsAbove, NoneOfNumber, StandsAt, first_by};
+ghost use Rattle.sw_caches.specs.Places.{places_by};
 ghost use Rattle.sw_caches.specs.Entries.{AreIndexed, number, pair, pairs};
 
-use crate::slots::{Slots, address_digest, next_number, unmark};
+use crate::slots::{address_digest, unmark};
 use std::alloc::Global;
 use sw_data::{Items, NoMemory, Options, Request, Response};
+use sw_index::{Slots, next_number};
 use sw_match::{finds_nothing, matches_pair, number_of};
 
 /// A request and the response that is kept under it.
@@ -86,7 +88,7 @@ fn first_matching<'a>(
 }
 
 /// A query matches one of the pairs.
-#[tactic(auto, using(crate::proofs::FindLemmas::found_any))]
+#[tactic(auto, using(sw_index::proofs::FindLemmas::found_any))]
 pub(crate) fn has_matching(
     entries: &[Entry],
     slots: &Slots,

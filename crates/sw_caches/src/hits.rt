@@ -7,13 +7,16 @@ ghost use Rattle.sw_rules.specs.Caching as rules;
 ghost use Rattle.sw_rules.specs.Caching.{asked_caches};
 ghost use Rattle.sw_caches.specs.Hits.{found_answer};
 ghost use Rattle.sw_caches.specs.Tables.{caches_of, hit_from, hit_in, kept_row};
+ghost use Rattle.sw_index.specs.Named.{named_row};
 
-use crate::row::Row;
+use crate::pairs::Pairs;
+use crate::rows::next_cache;
 use crate::table::Hit;
 use sw_data::{Options, Request, Response, Text};
+use sw_index::{Named, Row};
 
 // The cache has this name, or no name is given.
-fn is_asked(row: &Row, name: Option<&Text>) -> bool
+fn is_asked(row: &Row<Pairs>, name: Option<&Text>) -> bool
     ensures { result ≡ option_map_or (bytes_eq row.now.name) (option_copied name.entry) true }
 {
     match name {
@@ -23,13 +26,14 @@ fn is_asked(row: &Row, name: Option<&Text>) -> bool
 }
 
 // The first place that matches in a cache that is asked.
-fn hit_in(row: &Row, name: Option<&Text>, query: &Request, options: Options) -> Option<u32>
-    ensures { result ≡ hit_in (option_copied name.entry) query.now options (kept_row row.now) }
+fn hit_in(row: &Row<Pairs>, name: Option<&Text>, query: &Request, options: Options) -> Option<u32>
+    ensures { result
+        ≡ hit_in (option_copied name.entry) query.now options (kept_row (named_row row.now)) }
 {
     if !is_asked(row, name) {
         return None;
     }
-    match row.pairs.first(query, options) {
+    match row.value.first(query, options) {
         Some((place, _)) => Some(place as u32),
         None => None,
     }
@@ -37,25 +41,24 @@ fn hit_in(row: &Row, name: Option<&Text>, query: &Request, options: Options) -> 
 
 /// The first match in the caches of a key.
 pub(crate) fn first_hit(
-    rows: &[Row],
+    rows: &Named<Pairs>,
     key: &Text,
     name: Option<&Text>,
     query: &Request,
     options: Options,
 ) -> Option<Hit>
-    requires { length rows.now < 2 ^ 32 }
     ensures { option_map (λ hit. (hit.cache, hit.place)) result
         ≡ hit_from 0 (option_copied name.entry) query.now options
-        (caches_of key.now (map kept_row rows.now)) }
+        (caches_of key.now (map kept_row rows.now.rows)) }
 {
     let mut cache: u32 = 0;
-    for row in rows {
-        if row.key == *key {
-            if let Some(place) = hit_in(row, name, query, options) {
-                return Some(Hit { cache, place });
-            }
-            cache += 1;
+    let mut from = 0;
+    while let Some((row, next)) = next_cache(rows, key, from) {
+        if let Some(place) = hit_in(row, name, query, options) {
+            return Some(Hit { cache, place });
         }
+        cache += 1;
+        from = next;
     }
     None
 }
@@ -70,7 +73,7 @@ pub struct Found<'a> {
 
 /// The first match in the caches of a key, with its response.
 pub(crate) fn first_found<'a>(
-    rows: &'a [Row],
+    rows: &'a Named<Pairs>,
     key: &Text,
     name: Option<&Text>,
     query: &Request,
@@ -78,11 +81,12 @@ pub(crate) fn first_found<'a>(
 ) -> Option<Found<'a>>
     ensures { option_map_or found_answer result answer.None
         ≡ rules.first_hit query.now options
-        (asked_caches key.now (option_copied name.entry) (map kept_row rows.now)) }
+        (asked_caches key.now (option_copied name.entry) (map kept_row rows.now.rows)) }
 {
-    for row in rows {
-        if row.key == *key && is_asked(row, name) {
-            if let Some((place, pair)) = row.pairs.first(query, options) {
+    let mut from = 0;
+    while let Some((row, next)) = next_cache(rows, key, from) {
+        if is_asked(row, name) {
+            if let Some((place, pair)) = row.value.first(query, options) {
                 return Some(Found {
                     name: &row.name,
                     place: place as u32,
@@ -90,6 +94,7 @@ pub(crate) fn first_found<'a>(
                 });
             }
         }
+        from = next;
     }
     None
 }

@@ -3,7 +3,9 @@
 //! The pairs of a cache stand in the order of their puts, each behind a number of its own, and an
 //! index finds the numbers of an address by its digests, without fragment and also without query.
 //! The index may hold more than it must: a number that it finds is looked up, and its pair is
-//! tested. So no other pair is moved, copied or compared for a put or a query.
+//! tested. So no other pair is moved, copied or compared for a put or a query. In the same way the
+//! caches stand in the order of their creation, and an index finds those of a key, and that of a
+//! key and a name.
 #![tactic(auto)]
 
 mod carry;
@@ -13,7 +15,7 @@ mod hits;
 mod ops;
 mod pairs;
 mod plan;
-mod row;
+mod rows;
 mod rules;
 mod slots;
 mod table;

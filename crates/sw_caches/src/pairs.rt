@@ -5,7 +5,7 @@ ghost use Rattle.std.specs.List.{range_with_len};
 ghost use Rattle.std.specs.Option.{IfSome};
 ghost use Rattle.sw_rules.specs.Matching.{Pair, first_match, query_of};
 ghost use Rattle.sw_rules.specs.Batch.{batch, op_size};
-ghost use Rattle.sw_caches.specs.Numbered.{AllFrom};
+ghost use Rattle.sw_index.specs.Numbered.{AllFrom};
 ghost use Rattle.sw_caches.specs.Entries.{number};
 ghost use Rattle.sw_caches.specs.Plans.{Fits, IsThrown, carried};
 
@@ -14,11 +14,11 @@ use crate::entries::{Entry, Pair, copy_pairs, first_of, into_pairs, places_of};
 use crate::fault::BatchFault;
 use crate::plan::{PairsPlan, add_all, unmark_all, work_out};
 use crate::rules::{QUOTA, size_of};
-use crate::slots::Slots;
 use std::alloc::Global;
 use std::collections::BTreeSet;
 use std::marker::Model;
 use sw_data::{Items, NoMemory, Op, Options, Request};
+use sw_index::Slots;
 use sw_match::number_of;
 
 // The most pairs that a cache may have.
@@ -35,7 +35,7 @@ pub(crate) struct Pairs {
 
 impl Model for Pairs {
     ghost use Rattle.std.specs.Prelude.{◌<◌, ◌-◌, ◌^◌, length, vec_len, vec_capacity};
-    ghost use Rattle.sw_caches.specs.Numbered.{AllBelow};
+    ghost use Rattle.sw_index.specs.Numbered.{AllBelow};
     ghost use Rattle.sw_caches.specs.Entries.{AreIndexed, number, pairs};
     ghost use Rattle.sw_caches.specs.Plans.{Indexed};
 

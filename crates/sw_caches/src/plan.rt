@@ -5,17 +5,18 @@ ghost use Rattle.sw_data.specs.declared.exchange.Op.{Op};
 ghost use Rattle.sw_data.specs.declared.exchange.Op.TheVariants as op;
 ghost use Rattle.sw_rules.specs.Matching.{Pair};
 ghost use Rattle.sw_rules.specs.Batch.{go, put_fault};
-ghost use Rattle.sw_caches.specs.Slots.{KeepsBelow, KeepsSlots};
-ghost use Rattle.sw_caches.specs.Numbered.{AllBelow, AllFrom};
+ghost use Rattle.sw_index.specs.Slots.{KeepsBelow, KeepsSlots};
+ghost use Rattle.sw_index.specs.Numbered.{AllBelow, AllFrom};
 ghost use Rattle.sw_caches.specs.Entries.{AreIndexed, number, pairs};
 ghost use Rattle.sw_caches.specs.Plans.{IsDraft, IsThrown, carried, left_by};
 
 use crate::entries::{Entry, has_matching};
 use crate::fault::BatchFault;
 use crate::rules::put_fault;
-use crate::slots::{Slots, mark, unmark};
+use crate::slots::{mark, unmark};
 use std::alloc::Global;
 use sw_data::{NoMemory, Op, Options, Request, Response};
+use sw_index::Slots;
 use sw_match::finds_nothing;
 
 /// No option is set.

@@ -12,38 +12,31 @@ ghost use Rattle.sw_data.specs.declared.answers.Answer.TheVariants as answer;
 ghost use Rattle.std.specs.Option.{option_map_or};
 ghost use Rattle.sw_caches.specs.Hits.{found_answer};
 ghost use Rattle.sw_caches.specs.Plans.{Fits, IsThrown, carried};
-ghost use Rattle.sw_caches.specs.Tables.{FitsTable, HasRoom, IsBatch, IsRefused, asked_places, caches_of, carried_rows, empty_cache, hit_from, kept_row, key_and_name};
+ghost use Rattle.sw_caches.specs.Tables.{FitsNew, FitsTable, IsBatch, IsRefused, asked_places, caches_of, carried_rows, empty_cache, hit_from, key_and_name};
 
 use crate::fault::{BatchFault, CacheFault};
 use crate::hits::{Found, first_found, first_hit};
 use crate::pairs::Pairs;
 use crate::plan::PairsPlan;
-use crate::row::{
-    Row, drop_cache, drop_key, has_key, into_kept, kept_of, names_of, place_in, rows_of,
-};
+use crate::rows::{into_kept, kept_of, names_of, next_cache, rows_of};
 use std::alloc::Global;
 use std::marker::Model;
 use sw_data::{KeptCache, NoMemory, Op, Options, Request, Response, Text};
+use sw_index::{Named, NewRow};
 
-// The most caches that there may be.
-const CACHES_LIMIT: usize = 4_294_967_295;
-
-/// The caches of all keys, in order of creation (Service Workers, "name to cache map").
+/// The caches of all keys, in order of creation (Service Workers, "name to cache map"). An index
+/// finds those of a key, or that of a key and a name, in the time that they take themselves.
 #[derive(Drop)]
 pub struct Caches {
-    rows: Vec<Row>,
+    rows: Named<Pairs>,
 }
 
 impl Model for Caches {
-    ghost use Rattle.std.specs.Prelude.{◌<◌, ◌-◌, ◌^◌, length, vec_len, vec_capacity};
     ghost use Rattle.sw_caches.specs.Tables.{Table, table};
 
     ghost Value = { Table };
 
-    ghost view = { λ caches.
-        table caches.rows.items (vec_capacity caches.rows - vec_len caches.rows) };
-
-    ghost invariant = { λ caches. length caches.rows.items < 2 ^ 32 };
+    ghost view = { λ caches. table caches.rows };
 }
 
 /// Where a match is: the place of the cache among those of its key, and the place of the pair.
@@ -56,16 +49,20 @@ pub struct Hit {
 /// A cache that was made and isn't in the table yet.
 #[derive(Drop)]
 pub struct NewCache {
-    row: Row,
+    row: NewRow,
+    pairs: Pairs,
 }
 
 impl Model for NewCache {
     ghost use Rattle.sw_data.specs.declared.storage.KeptCache.{KeptCache};
-    ghost use Rattle.sw_caches.specs.Tables.{kept_row};
 
     ghost Value = { KeptCache };
 
-    ghost view = { λ new. kept_row new.row };
+    ghost view = { λ new. record {
+      key = new.row.key;
+      name = new.row.name;
+      pairs = new.pairs.pairs;
+    } };
 }
 
 /// A batch on a cache, worked out.
@@ -75,21 +72,21 @@ pub struct CachePlan {
     pub(crate) change: PairsPlan,
 }
 
-// A batch on the cache at a place, worked out.
-fn plan_row(
-    row: &mut Row,
+// A batch on the cache at a place, which has these pairs, worked out.
+fn plan_pairs(
+    pairs: &mut Pairs,
     alloc: Global,
     place: usize,
     ops: Vec<Op>,
 ) -> Result<CachePlan, BatchFault>
-    ensures same { kept_row row.new ≡ kept_row row.old }
+    ensures same { pairs.new.pairs ≡ pairs.old.pairs }
     ensures place { IfOk result (λ plan. plan.place ≡ place) }
-    ensures fits { IfOk result (λ plan. Fits plan.change row.new.pairs) }
+    ensures fits { IfOk result (λ plan. Fits plan.change pairs.new) }
     ensures ok { IfOk result (λ plan.
-        batch row.old.pairs.pairs ops.items ≡ Ok (carried plan.change row.old.pairs.pairs)) }
-    ensures err { IfErr result (λ fault. IsThrown fault (batch row.old.pairs.pairs ops.items)) }
+        batch pairs.old.pairs ops.items ≡ Ok (carried plan.change pairs.old.pairs)) }
+    ensures err { IfErr result (λ fault. IsThrown fault (batch pairs.old.pairs ops.items)) }
 {
-    match row.pairs.plan(alloc, ops) {
+    match pairs.plan(alloc, ops) {
         Ok(change) => Ok(CachePlan { place, change }),
         Err(fault) => Err(fault),
     }
@@ -101,7 +98,7 @@ impl Caches {
         ensures { result.rows ≡ [] }
     {
         Caches {
-            rows: Vec::new(alloc),
+            rows: Named::new(alloc),
         }
     }
 
@@ -109,9 +106,6 @@ impl Caches {
     pub fn from_kept(alloc: Global, kept: Vec<KeptCache>) -> Result<Caches, NoMemory>
         ensures { IfOk result (λ caches. caches.rows ≡ kept.items) }
     {
-        if kept.len() > CACHES_LIMIT {
-            return Err(NoMemory);
-        }
         let rows = rows_of(alloc, kept)?;
         Ok(Caches { rows })
     }
@@ -120,23 +114,31 @@ impl Caches {
     pub fn to_kept(&self, alloc: Global) -> Result<Vec<KeptCache>, NoMemory>
         ensures { IfOk result (λ kept. kept.items ≡ self.now.rows) }
     {
-        kept_of(alloc, &self.rows)
+        kept_of(alloc, self.rows.rows())
     }
 
     /// The caches as they are kept, none of their pairs copied.
     pub fn into_kept(self, alloc: Global) -> Result<Vec<KeptCache>, NoMemory>
         ensures { IfOk result (λ kept. kept.items ≡ self.rows) }
     {
-        into_kept(alloc, self.rows)
+        into_kept(alloc, self.rows.into_rows())
     }
 
     /// Whether a key has a cache of this name; it takes no memory.
     pub fn has(&self, key: &Text, name: &Text) -> bool
         ensures { result ≡ is_some (pairs_of key.now name.now self.now.rows) }
     {
-        match place_in(&self.rows, key, name) {
-            Some(_) => true,
-            None => false,
+        self.pairs(key, name).is_some()
+    }
+
+    // The pairs of the cache of this name.
+    fn pairs(&self, key: &Text, name: &Text) -> Option<&Pairs>
+        ensures { option_map (λ pairs. pairs.now.pairs) result
+            ≡ pairs_of key.now name.now self.now.rows }
+    {
+        match self.rows.place(key, name) {
+            Some(place) => Some(&self.rows.row(place).value),
+            None => None,
         }
     }
 
@@ -144,27 +146,22 @@ impl Caches {
     pub fn make_row(&mut self, alloc: Global, key: &Text, name: &Text) -> Result<NewCache, NoMemory>
         ensures same { self.new.rows ≡ self.old.rows }
         ensures row { IfOk result (λ new. new ≡ empty_cache key.now name.now) }
-        ensures fits { OnOk result (HasRoom self.new) }
+        ensures fits { IfOk result (λ new. FitsNew new self.new) }
     {
-        if self.rows.len() >= CACHES_LIMIT {
-            return Err(NoMemory);
-        }
-        self.rows.reserve(1)?;
+        let row = self.rows.make_row(key.copy(alloc)?, name.copy(alloc)?)?;
         Ok(NewCache {
-            row: Row {
-                key: key.copy(alloc)?,
-                name: name.copy(alloc)?,
-                pairs: Pairs::new(alloc),
-            },
+            row,
+            pairs: Pairs::new(alloc),
         })
     }
 
     /// Adds a cache that was made; it takes no memory.
     pub fn make_put(&mut self, new: NewCache)
-        requires { HasRoom self.old }
+        requires { FitsNew new self.old }
         ensures { self.new.rows ≡ self.old.rows ++ new ∷ [] }
     {
-        self.rows.push_reserved(new.row);
+        let NewCache { row, pairs } = new;
+        self.rows.put(row, pairs);
     }
 
     /// Makes an empty cache where the key has none of this name, and says whether it did.
@@ -191,23 +188,22 @@ impl Caches {
             ≡ filter (λ row. not (is_cache key.now name.now row)) self.old.rows }
     {
         let found = self.has(key, name);
-        drop_cache(&mut self.rows, key, name);
+        self.rows.remove_named(key, name);
         found
     }
 
     /// Whether the key has no cache; it takes no memory.
-    #[tactic(auto, using(crate::proofs::TableLemmas::any_mapped))]
     pub fn is_empty_key(&self, key: &Text) -> bool
         ensures { result ≡ not (list_any (λ row. bytes_eq row.key key.now) self.now.rows) }
     {
-        !has_key(&self.rows, key)
+        next_cache(&self.rows, key, 0).is_none()
     }
 
     /// Removes the caches of a key; it takes no memory.
     pub fn drop_key(&mut self, key: &Text)
         ensures { self.new.rows ≡ filter (λ row. not (bytes_eq row.key key.now)) self.old.rows }
     {
-        drop_key(&mut self.rows, key);
+        self.rows.remove_key(key);
     }
 
     /// The names of a key's caches, in order of creation.
@@ -231,16 +227,21 @@ impl Caches {
         ensures { option_map (λ found. (found.0.now, found.1.now)) result
             ≡ option_map key_and_name (slice_get self.now.rows place) }
     {
-        let row = self.rows.get(place as usize)?;
-        Some((&row.key, &row.name))
+        let place = place as usize;
+        if place < self.rows.len() {
+            let row = self.rows.row(place);
+            Some((&row.key, &row.name))
+        } else {
+            None
+        }
     }
 
     /// How many pairs the cache of this name has; it takes no memory.
     pub fn len_of(&self, key: &Text, name: &Text) -> Option<usize>
         ensures { result ≡ option_map length (pairs_of key.now name.now self.now.rows) }
     {
-        match place_in(&self.rows, key, name) {
-            Some(place) => Some(self.rows[place].pairs.len()),
+        match self.pairs(key, name) {
+            Some(pairs) => Some(pairs.len()),
             None => None,
         }
     }
@@ -250,8 +251,8 @@ impl Caches {
         ensures { option_copied result ≡ option_and_then (λ pairs. slice_get pairs place)
             (pairs_of key.now name.now self.now.rows) }
     {
-        match place_in(&self.rows, key, name) {
-            Some(row) => self.rows[row].pairs.get(place as usize),
+        match self.pairs(key, name) {
+            Some(pairs) => pairs.get(place as usize),
             None => None,
         }
     }
@@ -271,7 +272,7 @@ impl Caches {
             (carried_rows plan self.old.rows)) }
         ensures err { IfErr result (IsRefused key.now name.now ops.items self.old.rows) }
     {
-        match place_in(&self.rows, key, name) {
+        match self.rows.place(key, name) {
             Some(place) => self.plan_at(alloc, place, ops),
             None => Err(BatchFault::CacheGone),
         }
@@ -294,7 +295,7 @@ impl Caches {
             → slice_get self.old.rows place ≡ Some row
             → IsThrown fault (batch row.pairs ops.items)) }
     {
-        plan_row(&mut self.rows[place], alloc, place, ops)
+        plan_pairs(self.rows.value_mut(place), alloc, place, ops)
     }
 
     /// Carries a plan out; it takes no memory.
@@ -303,7 +304,7 @@ impl Caches {
         ensures { self.new.rows ≡ carried_rows plan self.old.rows }
     {
         let CachePlan { place, change } = plan;
-        self.rows[place].pairs.carry_out(change);
+        self.rows.value_mut(place).carry_out(change);
     }
 
     /// A batch on the cache of this name (Service Workers, Appendix A, "Batch Cache Operations").
@@ -339,8 +340,8 @@ impl Caches {
         ensures gone { IsErrOf result CacheFault.CacheGone
             ↔ (pairs_of key.now name.now self.now.rows ≡ None) }
     {
-        match place_in(&self.rows, key, name) {
-            Some(place) => Ok(self.rows[place].pairs.places(alloc, query, options)?),
+        match self.pairs(key, name) {
+            Some(pairs) => Ok(pairs.places(alloc, query, options)?),
             None => Err(CacheFault::CacheGone),
         }
     }
@@ -373,8 +374,8 @@ impl Caches {
         ensures gone { IsErrOf result CacheFault.CacheGone
             ↔ (pairs_of key.now name.now self.now.rows ≡ None) }
     {
-        match place_in(&self.rows, key, name) {
-            Some(place) => Ok(self.rows[place].pairs.all(alloc)?),
+        match self.pairs(key, name) {
+            Some(pairs) => Ok(pairs.all(alloc)?),
             None => Err(CacheFault::CacheGone),
         }
     }
@@ -390,8 +391,8 @@ impl Caches {
         ensures { result ≡ option_map (λ pairs. is_some (first_match pairs query.now options))
             (pairs_of key.now name.now self.now.rows) }
     {
-        match place_in(&self.rows, key, name) {
-            Some(place) => Some(self.rows[place].pairs.first(query, options).is_some()),
+        match self.pairs(key, name) {
+            Some(pairs) => Some(pairs.first(query, options).is_some()),
             None => None,
         }
     }

@@ -1,6 +1,6 @@
 -- What an action on caches does to them (own).
 use Rattle.std.specs.Prelude.{◌≡◌, not, List, [], ◌∷◌, ◌++◌, filter}
-use Rattle.sw_caches.specs.Tables.{FitsTable, HasRoom, Table, carried_rows}
+use Rattle.sw_caches.specs.Tables.{FitsNew, FitsTable, Table, carried_rows}
 use Rattle.sw_cachestorage.specs.declared.act.CacheAct.{CacheAct}
 use Rattle.sw_cachestorage.specs.declared.act.CacheAct.TheVariants as act
 use Rattle.sw_cachestorage.specs.declared.act.CacheStep.{CacheStep}
@@ -19,7 +19,7 @@ acted (act.Carry plan) rows = carried_rows plan rows
 -- there is room for an act on these caches
 abbrev pub FitsAct : CacheAct → Table → Type 0
 FitsAct act.Nothing caches = Unit {0}
-FitsAct (act.Make new) caches = HasRoom caches
+FitsAct (act.Make new) caches = FitsNew new caches
 FitsAct (act.Drop key name) caches = Unit {0}
 FitsAct (act.Carry plan) caches = FitsTable plan caches.indexes
 

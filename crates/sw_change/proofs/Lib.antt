@@ -1,7 +1,6 @@
 pub mod Apart
 pub mod CacheLemmas
 pub mod Entries
-pub mod Keyed
 pub mod LawLemmas
 pub mod Rebuilt
 pub mod Sound

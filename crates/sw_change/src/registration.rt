@@ -74,10 +74,9 @@ impl Registration {
     }
 
     /// What is kept of the registration at this place; it takes no memory.
-    pub(crate) fn into_row(self, place: (Text, Text)) -> KeptRegistration
-        ensures { result ≡ kept_row (place, self) }
+    pub(crate) fn into_row(self, key: Text, scope: Text) -> KeptRegistration
+        ensures { result ≡ kept_row ((key, scope), self) }
     {
-        let (key, scope) = place;
         KeptRegistration {
             key,
             scope,
@@ -94,13 +93,14 @@ impl Registration {
     pub(crate) fn to_row(
         &self,
         alloc: Global,
-        place: &(Text, Text),
+        key: &Text,
+        scope: &Text,
     ) -> Result<KeptRegistration, NoMemory>
-        ensures { IfOk result (λ row. row ≡ kept_row (place.now, self.now)) }
+        ensures { IfOk result (λ row. row ≡ kept_row ((key.now, scope.now), self.now)) }
     {
         Ok(KeptRegistration {
-            key: place.0.copy(alloc)?,
-            scope: place.1.copy(alloc)?,
+            key: key.copy(alloc)?,
+            scope: scope.copy(alloc)?,
             mode: self.mode,
             waiting: copy_option(alloc, &self.waiting)?,
             active: copy_option(alloc, &self.active)?,

@@ -1,20 +1,20 @@
 //! The table of kept registrations, by key and scope, in order of making.
 
-ghost use Rattle.std.specs.Prelude.{◌≡◌, ◌++◌, ◌∷◌, [], true, false, not, map, filter, bytes_eq, IfOk, OnOk, OnErr};
+ghost use Rattle.std.specs.Prelude.{◌≡◌, ◌++◌, ◌∷◌, [], false, not, map, filter, bytes_eq, IfOk, OnOk, OnErr};
 ghost use Rattle.std.specs.List.{list_any};
 ghost use Rattle.sw_rules.specs.Storage.{is_registration, with_registration, with_waiting, promoted};
-ghost use Rattle.sw_change.specs.Table.{edited, kept_row, promoted_registration};
+ghost use Rattle.sw_change.specs.Table.{edited, kept_row};
 
 use crate::registration::{Edit, Registration};
-use indexmap::IndexMap;
 use std::alloc::Global;
 use std::marker::Model;
 use sw_data::{KeptRegistration, KeptWorker, Mode, NoMemory, Text};
+use sw_index::Named;
 
 /// The kept registrations, found by key and scope.
 #[derive(Drop)]
 pub(crate) struct Registrations {
-    rows: IndexMap<(Text, Text), Registration>,
+    rows: Named<Registration>,
 }
 
 impl Model for Registrations {
@@ -26,9 +26,9 @@ impl Model for Registrations {
 
     ghost Value = { List KeptRegistration };
 
-    ghost view = { λ table. kept_rows table.rows.entries };
+    ghost view = { λ table. kept_rows table.rows.rows };
 
-    ghost invariant = { λ table. IsDistinct is_same (keys_of table.rows.entries) };
+    ghost invariant = { λ table. IsDistinct is_same (keys_of table.rows.rows) };
 }
 
 impl Registrations {
@@ -37,7 +37,7 @@ impl Registrations {
         ensures { result ≡ [] }
     {
         Registrations {
-            rows: IndexMap::new(alloc),
+            rows: Named::new(alloc),
         }
     }
 
@@ -46,8 +46,8 @@ impl Registrations {
         ensures { IfOk result (λ rows. rows.items ≡ self) }
     {
         let mut rows = Vec::new(alloc);
-        for (place, row) in self.rows {
-            rows.push(row.into_row(place))?;
+        for row in self.rows.into_rows() {
+            rows.push(row.value.into_row(row.key, row.name))?;
         }
         Ok(rows)
     }
@@ -57,8 +57,8 @@ impl Registrations {
         ensures { IfOk result (λ rows. rows.items ≡ self.now) }
     {
         let mut rows = Vec::new(alloc);
-        for (place, row) in self.rows.iter() {
-            rows.push(row.to_row(alloc, place)?)?;
+        for row in self.rows.rows() {
+            rows.push(row.value.to_row(alloc, &row.key, &row.name)?)?;
         }
         Ok(rows)
     }
@@ -67,15 +67,15 @@ impl Registrations {
     fn has(&self, place: &(Text, Text)) -> bool
         ensures { result ≡ list_any (is_registration place.now.0 place.now.1) self.now }
     {
-        self.rows.contains_key(place)
+        self.rows.place(&place.0, &place.1).is_some()
     }
 
     /// Carries an edit out where the registration is there; it takes no memory.
     pub(crate) fn edit(&mut self, place: &(Text, Text), edit: Edit)
         ensures { self.new ≡ with_registration place.now.0 place.now.1 (edited edit) self.old }
     {
-        if let Some(row) = self.rows.get_mut(place) {
-            row.edit(edit);
+        if let Some(at) = self.rows.place(&place.0, &place.1) {
+            self.rows.value_mut(at).edit(edit);
         }
     }
 
@@ -85,7 +85,9 @@ impl Registrations {
         ensures ok { OnOk result (self.new ≡ self.old ++ kept_row (place, row) ∷ []) }
         ensures err { OnErr result (self.new ≡ self.old) }
     {
-        self.rows.insert(place, row)?;
+        let (key, scope) = place;
+        let new = self.rows.make_row(key, scope)?;
+        self.rows.put(new, row);
         Ok(())
     }
 
@@ -113,32 +115,22 @@ impl Registrations {
         ensures { self.new
             ≡ filter (λ row. not (is_registration place.now.0 place.now.1 row)) self.old }
     {
-        let _ = self.rows.shift_remove(place);
+        self.rows.remove_named(&place.0, &place.1);
     }
 
     /// Removes the registrations of a key; it takes no memory.
     pub(crate) fn remove_key(&mut self, key: &Text)
         ensures { self.new ≡ filter (λ row. not (bytes_eq row.key key.now)) self.old }
     {
-        self.rows.retain(
-            |place: &(Text, Text), row: &mut Registration| -> bool
-                ensures { (result ≡ not (bytes_eq place.now.0 key.entry.now))
-                    × (row.new ≡ row.old) }
-            { place.0 != *key },
-        );
+        self.rows.remove_key(key);
     }
 
     /// Each waiting worker becomes the active one; it takes no memory.
     pub(crate) fn restarted(&mut self)
         ensures { self.new ≡ map promoted self.old }
     {
-        self.rows.retain(
-            |_place: &(Text, Text), row: &mut Registration| -> bool
-                ensures { (result ≡ true) × (row.new ≡ promoted_registration row.old) }
-            {
-                row.promote();
-                true
-            },
-        );
+        for place in 0..self.rows.len() {
+            self.rows.value_mut(place).promote();
+        }
     }
 }

@@ -4,7 +4,6 @@ use Rattle.std.specs.List.{find, list_any, IsDistinct, AllByRecursion}
 use Rattle.std.specs.Option.{is_some}
 use Rattle.std.specs.Map.{lookup, set_value, remove_entry, keys_of, values_of}
 use Rattle.std.proofs.lemmas.Bool.Decides.{nat_tests}
-use Rattle.indexmap.specs.IndexMap.{insert_entry}
 use Rattle.sw_rules.specs.Rows.{changed, without}
 use Rattle.sw_client.specs.Keyed.{keyed}
 
@@ -20,10 +19,6 @@ module _ {X : Type 0} (number : X → ℕ) where
   pub some_keyed : (n : ℕ) (rows : List X) → is_some (lookup (nat_eq n) (keyed number rows)) ≡ list_any (λ row. number row == n) rows
   some_keyed n [] = refl
   some_keyed n (x ∷ xs) = grind (arith, nat_tests, some_keyed n xs)
-
-  pub insert_keyed : (n : ℕ) (new : X) (rows : List X) → number new ≡ n → list_any (λ row. number row == n) rows ≡ false → insert_entry nat_eq (keyed number rows) n new ≡ keyed number (rows ++ new ∷ [])
-  insert_keyed n new [] is fresh = grind arith
-  insert_keyed n new (x ∷ xs) is fresh = grind (arith, nat_tests, insert_keyed n new xs is)
 
   -- no row has this number
   none : (f : X → X) (n : ℕ) (rows : List X) → AllByRecursion (λ k. nat_eq n k ≡ false) (keys_of (keyed number rows)) → (changed (λ row. number row == n) f rows ≡ rows) × (without (λ row. number row == n) rows ≡ rows)

@@ -1,18 +1,18 @@
 -- The entries of the table of clients, its rows and its counts: what each call does to them.
-use Rattle.std.proofs.Common.{◌≡◌, ◌∙◌, ◌<◌, ◌≤◌, ◌+◌, ◌-◌, ◌^◌, ℕ, Bool, true, false, not, nat_eq, List, [], ◌∷◌, ◌++◌, map, length, slice_get, slice_index_or, length-append, Option, Some, None, option_map, IfSome, Result, Ok, Err, refl, sym, ap, subst, arith, if◌then◌else◌}
-use Rattle.std.proofs.lemmas.List.{length-map}
+use Rattle.std.proofs.Common.{◌≡◌, ◌∙◌, ◌<◌, ◌≤◌, ◌+◌, ◌-◌, ◌^◌, ℕ, Bool, true, false, not, nat_eq, List, [], ◌∷◌, ◌++◌, map, length, slice_get, slice_index_or, length-append, Option, Some, None, option_map, IfSome, true≢false, refl, sym, ap, subst, arith, if◌then◌else◌}
+use Rattle.std.proofs.lemmas.List.{length-map, map-append}
+use Rattle.std.proofs.lemmas.Map.{keys-set_value}
+use Rattle.std.proofs.lemmas.Option.{slice_get-map}
 use Rattle.std.proofs.lemmas.Bool.Decides.{nat_tests}
 use Rattle.std.specs.List.{find, list_any, IsDistinct}
 use Rattle.std.specs.Option.{is_some, option_map_or}
-use Rattle.std.specs.Result.{OnOk, IsOk}
 use Rattle.std.specs.Map.{lookup, set_value, remove_entry, keys_of, values_of}
-use Rattle.indexmap.specs.IndexMap.{insert_entry}
 use Rattle.sw_data.specs.declared.rows.ClientRow.{ClientRow}
 use Rattle.sw_rules.specs.Rows.{changed, is_client, is_number, without}
 use Rattle.sw_client.specs.declared.OpenClient.{OpenClient}
 use Rattle.sw_client.specs.Keyed.{keyed, IsKeyed}
 use Rattle.sw_client.specs.Table.{IsCounted, controlled_by, is_open, uncontrolled, users_of, uses}
-use Rattle.sw_client.proofs.KeyedRows.{count_changed, count_least, count_others, count_pushed, count_removed, count_within, insert_keyed, lookup_keyed, remove_keyed, set_keyed, some_keyed, values_keyed}
+use Rattle.sw_client.proofs.KeyedRows.{count_changed, count_least, count_others, count_pushed, count_removed, count_within, lookup_keyed, remove_keyed, set_keyed, some_keyed, values_keyed}
 
 abbrev pub Entries : Type 0
 Entries = List (ℕ × OpenClient)
@@ -29,9 +29,8 @@ pub found_client : (n : ℕ) (rows : List OpenClient) → find (is_client n) (ma
 found_client n [] = refl
 found_client n (x ∷ xs) = grind (arith, found_client n xs)
 
-pub client_at : (i : ℕ) (es : Entries) → slice_get (map client (values_of es)) i ≡ option_map (λ e. e.1.client) (slice_get es i)
-client_at i [] = refl
-client_at i (e ∷ es) = grind (arith, client_at (i - 1) es)
+pub client_at : (i : ℕ) (rows : List OpenClient) → slice_get (map client rows) i ≡ option_map client (slice_get rows i)
+client_at i rows = slice_get-map client rows i
 
 any_client : (n : ℕ) (rows : List OpenClient) → list_any (is_client n) (map client rows) ≡ list_any (is_open n) rows
 any_client n [] = refl
@@ -69,13 +68,16 @@ keys_are (x ∷ xs) = ap (λ (ns : List ℕ). number x ∷ ns) (keys_are xs)
 pub numbers_apart : (es : Entries) → IsKeyed number es → IsDistinct nat_eq (map (λ row. row.number) (map client (values_of es)))
 numbers_apart es is = subst (IsDistinct nat_eq) (keys_are (values_of es)) (apart_now es is)
 
-none_numbered : (n : ℕ) (rows : List OpenClient) → list_any (is_client n) (map client rows) ≡ false → list_any (is_open n) rows ≡ false
-none_numbered n rows none = sym (any_client n rows) ∙ none
+pub unused : (n : ℕ) (es : Entries) → IsKeyed number es → list_any (is_client n) (map client (values_of es)) ≡ false → lookup (nat_eq n) es ≡ None
+unused n es is none = by (lookup (nat_eq n) es) refl
+  where
+    by : (found : Option OpenClient) → lookup (nat_eq n) es ≡ found → lookup (nat_eq n) es ≡ None
+    by None e = e
+    by (Some x) e = absurd (true≢false (sym (ap is_some e) ∙ (is_there n es is ∙ none)))
 
-inserted : (new : OpenClient) (es : Entries) → IsKeyed number es → list_any (is_client new.client.number) (map client (values_of es)) ≡ false → insert_entry nat_eq es new.client.number new ≡ keyed number (values_of es ++ new ∷ [])
-inserted new es is fresh =
-    ap (λ (xs : Entries). insert_entry nat_eq xs new.client.number new) is.rows
-    ∙ insert_keyed number new.client.number new (values_of es) refl (none_numbered new.client.number (values_of es) fresh)
+added : (new : OpenClient) (es : Entries) → IsKeyed number es → es ++ (number new, new) ∷ [] ≡ keyed number (values_of es ++ new ∷ [])
+added new es is =
+    ap (λ (xs : Entries). xs ++ (number new, new) ∷ []) is.rows ∙ sym (map-append (λ (row : OpenClient). (number row, row)) (values_of es) (new ∷ []))
 
 removed : (n : ℕ) (es : Entries) → IsKeyed number es → remove_entry (nat_eq n) es ≡ keyed number (without (is_open n) (values_of es))
 removed n es is = ap (remove_entry (nat_eq n)) is.rows ∙ remove_keyed number n (values_of es) (apart_now es is)
@@ -127,14 +129,14 @@ raised_again n r es counts x sound there =
     let other = count_others number (uses r) n (values_of es) x found in
     grind (arith, nat_tests, sound.users r, other, sound.few)
 
-pub added_counted : (new : OpenClient) (es after : Entries) (counts now : List ℕ) → IsCounted es counts → list_any (is_client new.client.number) (map client (values_of es)) ≡ false → length (values_of es) < 2 ^ 32 - 1
-    → after ≡ insert_entry nat_eq es new.client.number new → IsDistinct nat_eq (keys_of after) → ((r : ℕ) → slice_index_or now r 0 ≡ slice_index_or counts r 0 + one_of new.registration r) → IsCounted after now
-added_counted new es after counts now sound fresh few is apart more =
-    now_counted after (values_of es ++ new ∷ []) now (is ∙ inserted new es sound.keyed fresh) apart
+pub added_counted : (new : OpenClient) (es after : Entries) (counts now : List ℕ) → IsCounted es counts → length (values_of es) < 2 ^ 32 - 1
+    → after ≡ es ++ (number new, new) ∷ [] → IsDistinct nat_eq (keys_of after) → ((r : ℕ) → slice_index_or now r 0 ≡ slice_index_or counts r 0 + one_of new.registration r) → IsCounted after now
+added_counted new es after counts now sound few is apart more =
+    now_counted after (values_of es ++ new ∷ []) now (is ∙ added new es sound.keyed) apart
     (λ r. omega (arith, more r, sound.users r, count_pushed number (uses r) (values_of es) new)) (omega (arith, few, length-append (values_of es) (new ∷ [])))
 
-pub added_rows : (new : OpenClient) (es after : Entries) → IsKeyed number es → list_any (is_client new.client.number) (map client (values_of es)) ≡ false → after ≡ insert_entry nat_eq es new.client.number new → values_of after ≡ values_of es ++ new ∷ []
-added_rows new es after sound fresh is = ap values_of (is ∙ inserted new es sound fresh) ∙ values_keyed number (values_of es ++ new ∷ [])
+pub added_rows : (new : OpenClient) (es after : Entries) → after ≡ es ++ (number new, new) ∷ [] → values_of after ≡ values_of es ++ new ∷ []
+added_rows new es after is = ap values_of is ∙ map-append (λ (entry : ℕ × OpenClient). entry.1) es ((number new, new) ∷ [])
 
 pub removed_counted : (n : ℕ) (es after : Entries) (counts now : List ℕ) (x : OpenClient) → IsCounted es counts → lookup (nat_eq n) es ≡ Some x
     → after ≡ remove_entry (nat_eq n) es → IsDistinct nat_eq (keys_of after) → ((r : ℕ) → slice_index_or now r 0 ≡ slice_index_or counts r 0 - one_of x.registration r) → IsCounted after now
@@ -147,9 +149,10 @@ pub removed_rows : (n : ℕ) (es after : Entries) → IsKeyed number es → afte
 removed_rows n es after sound is = ap values_of (is ∙ removed n es sound) ∙ values_keyed number (without (is_open n) (values_of es))
 
 pub given_counted : (n : ℕ) (f : OpenClient → OpenClient) (es after : Entries) (counts now : List ℕ) (x : OpenClient) → ((row : OpenClient) → number (f row) ≡ number row) → IsCounted es counts → lookup (nat_eq n) es ≡ Some x
-    → after ≡ set_value (nat_eq n) es (f x) → IsDistinct nat_eq (keys_of after)
+    → after ≡ set_value (nat_eq n) es (f x)
     → ((r : ℕ) → slice_index_or now r 0 ≡ slice_index_or counts r 0 - one_of x.registration r + one_of (f x).registration r) → IsCounted after now
-given_counted n f es after counts now x keeps sound there is apart shifted =
+given_counted n f es after counts now x keeps sound there is shifted =
+    let apart = subst (IsDistinct nat_eq) (sym (ap keys_of is ∙ keys-set_value (nat_eq n) es (f x))) sound.keyed.apart in
     let found : find (is_open n) (values_of es) ≡ Some x = sym (found_by n es sound.keyed) ∙ there in
     now_counted after (changed (is_open n) f (values_of es)) now (is ∙ given n f es x keeps sound.keyed there) apart
     (λ r. omega (arith, shifted r, sound.users r, count_least number (uses r) n (values_of es) x found, count_changed number (uses r) f n (values_of es) x (apart_now es sound.keyed) found))
@@ -205,8 +208,3 @@ removed_clients n es after sound is = ap (map client) (removed_rows n es after s
 pub given_clients : (n : ℕ) (c : ℕ × ℕ) (es after : Entries) (x : OpenClient) → IsKeyed number es → lookup (nat_eq n) es ≡ Some x → after ≡ set_value (nat_eq n) es (controlled_by c x)
     → map client (values_of after) ≡ changed (is_client n) (λ row. record row { controller = Some c.0 }) (map client (values_of es))
 given_clients n c es after x sound there is = ap (map client) (given_rows n (controlled_by c) es after x (λ _. refl) sound there is) ∙ changed_clients n c (values_of es)
-
--- what holds after Ok, of a call that succeeds
-pub on_ok : {T E : Type 0} {P : Type 0} (r : Result T E) → OnOk r P → IsOk r → P
-on_ok (Ok v) says is = says
-on_ok (Err v) says is = absurd cc

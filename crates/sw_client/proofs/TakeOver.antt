@@ -1,28 +1,37 @@
 -- A new worker of a registration for the clients that use it: the loops over them.
-use Rattle.std.proofs.Common.{◌≡◌, ◌∙◌, ◌<◌, ◌+◌, ℕ, Bool, true, suc, zero, nat_eq, List, [], ◌∷◌, ◌++◌, map, filter, length, take, drop, get_or, slice_get, Some, refl, sym, ap, subst, arith}
+use Rattle.std.proofs.Common.{◌≡◌, ◌∙◌, ◌≤◌, ◌+◌, ℕ, Bool, suc, zero, nat_eq, List, [], ◌∷◌, ◌++◌, map, filter, length, take, drop, slice_get, Some, refl, sym, ap, subst, arith}
 use Rattle.std.proofs.lemmas.List.{length-map}
+use Rattle.std.specs.Option.{option_to_list}
 use Rattle.std.proofs.lemmas.Bool.Decides.{nat_tests}
 use Rattle.std.specs.List.{IsDistinct}
 use Rattle.std.specs.Map.{keys_of, values_of}
-use Rattle.indexmap.specs.IndexMap.{set_value_at}
+use Rattle.sw_order.specs.Sequence.{with_value_at}
 use Rattle.sw_rules.specs.Rows.{changed}
 use Rattle.sw_client.specs.declared.OpenClient.{OpenClient}
 use Rattle.sw_client.specs.Keyed.{keyed}
 use Rattle.sw_client.specs.Table.{IsCounted, controlled_by, handed, users_of, uses}
 use Rattle.sw_client.proofs.OfClients.{Entries, number, now_counted}
 
--- before a row that passes, fewer rows pass than in all
-pub room_left : {X : Type 0} (p : X → Bool) (xs : List X) (i : ℕ) (d : X) → i < length xs → p (get_or xs i d) ≡ true → length (filter p (take i xs)) < length (filter p xs)
-room_left p [] i d below passes = omega (arith, below)
-room_left p (x ∷ xs) zero d below passes = grind arith
-room_left p (x ∷ xs) (suc i) d below passes = grind (arith, room_left p xs i d)
+-- the rows that pass among those up to a place, and the row there, are no more than all that pass
+pub passed_within : {X : Type 0} (p : X → Bool) (xs : List X) (i : ℕ) → length (filter p (take i xs)) + length (filter p (option_to_list (slice_get xs i))) ≤ length (filter p xs)
+passed_within p [] zero = omega arith
+passed_within p [] (suc i) = omega arith
+passed_within p (x ∷ xs) zero = grind arith
+passed_within p (x ∷ xs) (suc i) = grind (arith, passed_within p xs i)
+
+-- the rows that pass among one row more
+pub passed_more : {X : Type 0} (p : X → Bool) (xs : List X) (i : ℕ) → filter p (take (i + 1) xs) ≡ filter p (take i xs) ++ filter p (option_to_list (slice_get xs i))
+passed_more p [] zero = refl
+passed_more p [] (suc i) = grind arith
+passed_more p (x ∷ xs) zero = grind arith
+passed_more p (x ∷ xs) (suc i) = grind (arith, passed_more p xs i)
 
 -- the values of the entries are changed
 abbrev pub edited : {X : Type 0} → (X → X) → List (ℕ × X) → List (ℕ × X)
 edited f es = map (λ e. (e.0, f e.1)) es
 
 edited_turn : {X : Type 0} (f : X → X) (es : List (ℕ × X)) (i : ℕ) (x : X) → slice_get (values_of (edited f (take i es) ++ drop i es)) i ≡ Some x
-    → set_value_at (edited f (take i es) ++ drop i es) i (f x) ≡ edited f (take (i + 1) es) ++ drop (i + 1) es
+    → with_value_at (edited f (take i es) ++ drop i es) i (f x) ≡ edited f (take (i + 1) es) ++ drop (i + 1) es
 edited_turn f [] zero x is = absurd cc
 edited_turn f [] (suc i) x is = absurd cc
 edited_turn f (e ∷ es) zero x is = grind arith
@@ -30,10 +39,10 @@ edited_turn f (e ∷ es) (suc i) x is = grind (arith, edited_turn f es i x)
 
 -- a turn of a loop that puts f x in the place of each value x
 pub edited_more : {X : Type 0} (f : X → X) (es now : List (ℕ × X)) (i : ℕ) (x new : X) → now ≡ edited f (take i es) ++ drop i es → slice_get (values_of now) i ≡ Some x → new ≡ f x
-    → set_value_at now i new ≡ edited f (take (i + 1) es) ++ drop (i + 1) es
+    → with_value_at now i new ≡ edited f (take (i + 1) es) ++ drop (i + 1) es
 edited_more {X} f es now i x new are there is =
-    ap (λ (rows : List (ℕ × X)). set_value_at rows i new) are
-    ∙ ap (λ (value : X). set_value_at (edited f (take i es) ++ drop i es) i value) is
+    ap (λ (rows : List (ℕ × X)). with_value_at rows i new) are
+    ∙ ap (λ (value : X). with_value_at (edited f (take i es) ++ drop i es) i value) is
     ∙ edited_turn f es i x (ap (λ (rows : List (ℕ × X)). slice_get (values_of rows) i) (sym are) ∙ there)
 
 edited_keys : {X : Type 0} (f : X → X) (es : List (ℕ × X)) → keys_of (edited f es) ≡ keys_of es

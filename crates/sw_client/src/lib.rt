@@ -3,18 +3,18 @@
 
 ghost use Rattle.std.specs.Prelude.{◌≡◌, ◌↔◌, ◌+◌, ◌-◌, ◌<◌, ◌≤◌, ◌^◌, ℕ, [], ◌++◌, ◌∷◌, true, false, max, nat_eq, length, filter, find, map, slice_get, IfSome, IfOk, IsErr, OnOk, OnErr, Some, None};
 ghost use Rattle.std.specs.List.{IsDistinct, list_any};
-ghost use Rattle.std.specs.Option.{option_and_then, option_copied, option_map, option_map_or};
-ghost use Rattle.indexmap.specs.IndexMap.{IsUnique, shift_remove_entry, spare};
+ghost use Rattle.std.specs.Option.{option_and_then, option_copied, option_map, option_map_or, option_to_list};
+ghost use Rattle.std.specs.Map.{values_of};
 ghost use Rattle.sw_data.specs.declared.answers.Notice.TheVariants as notice;
 ghost use Rattle.sw_rules.specs.Rows.{changed, is_client, without};
 ghost use Rattle.sw_client.specs.Table.{Fits, clients_of, controlled_by, handed, is_open, uncontrolled, users_of, uses};
 
 mod counts;
 
-use indexmap::IndexMap;
 use std::alloc::Global;
 use std::marker::Model;
 use sw_data::{ClientRow, NoMemory, Notice, Text};
+use sw_order::Ordered;
 use sw_rules::Notices;
 
 /// A client that is open, with the registration of its controller where it has one.
@@ -27,14 +27,13 @@ pub struct OpenClient {
 /// The clients, in order of opening. The hash of a number is fixed, so numbers can be chosen that collide.
 #[derive(Drop)]
 pub struct Clients {
-    rows: IndexMap<u32, OpenClient>,
+    rows: Ordered<OpenClient>,
     counts: Vec<u32>,
 }
 
 impl Model for Clients {
     ghost use Rattle.std.specs.Map.{values_of};
     ghost use Rattle.std.specs.Vec.{vec_len};
-    ghost use Rattle.indexmap.specs.IndexMap.{spare};
     ghost use Rattle.sw_client.specs.Table.{IsCounted, Table};
 
     ghost Value = { Table };
@@ -42,7 +41,7 @@ impl Model for Clients {
     ghost view = { λ clients. record {
       rows = values_of clients.rows.entries;
       known = vec_len clients.counts;
-      spare = spare clients.rows;
+      spare = clients.rows.spare;
     } };
 
     ghost invariant = { λ clients. IsCounted clients.rows.entries clients.counts.items };
@@ -72,15 +71,6 @@ pub enum AddFault {
 /// No client has this number.
 #[derive(Debug, Clone, Copy, PartialEq, Eq)]
 pub struct NoClient;
-
-// Takes a client out; the others keep their order.
-fn take_out(rows: &mut IndexMap<u32, OpenClient>, number: u32)
-    ensures entries { rows.new.entries ≡ shift_remove_entry (nat_eq number) rows.old.entries }
-    ensures unique { IsUnique nat_eq rows.new }
-    ensures room { spare rows.old ≤ spare rows.new }
-{
-    let _ = rows.shift_remove(&number);
-}
 
 // Gives a client a controller, a worker of a registration.
 fn give(row: &mut OpenClient, controller: (u32, u32))
@@ -118,19 +108,34 @@ fn is_one_user(row: Option<&OpenClient>, registration: u32) -> bool
     }
 }
 
-// Tells the clients that use a registration of their new controller.
-#[tactic(auto, using(crate::proofs::TakeOver::room_left))]
-fn tell(rows: &[OpenClient], registration: u32, notices: &mut Notices)
-    requires { users_of registration rows.now ≤ notices.old.spare }
+// Tells a client, where there is one and it uses a registration, of its new controller.
+fn tell_one(row: Option<&OpenClient>, registration: u32, notices: &mut Notices)
+    requires { users_of registration (option_to_list (option_copied row)) ≤ notices.old.spare }
     ensures told { notices.new.rows ≡ notices.old.rows
         ++ map (λ row. notice.ControllerChange row.client.number)
-        (filter (uses registration) rows.now) }
-    ensures room { notices.new.spare + users_of registration rows.now ≡ notices.old.spare }
+        (filter (uses registration) (option_to_list (option_copied row.entry))) }
+    ensures room { notices.new.spare
+        + users_of registration (option_to_list (option_copied row.entry)) ≡ notices.old.spare }
 {
-    for row in rows {
-        if is_user(row, registration) {
+    match row {
+        Some(row) if is_user(row, registration) => {
             notices.push(Notice::ControllerChange(row.client.number));
         }
+        _ => {}
+    }
+}
+
+// Tells the clients that use a registration of their new controller.
+fn tell(rows: &Ordered<OpenClient>, registration: u32, notices: &mut Notices)
+    requires { users_of registration (values_of rows.now.entries) ≤ notices.old.spare }
+    ensures told { notices.new.rows ≡ notices.old.rows
+        ++ map (λ row. notice.ControllerChange row.client.number)
+        (filter (uses registration) (values_of rows.now.entries)) }
+    ensures room { notices.new.spare + users_of registration (values_of rows.now.entries)
+        ≡ notices.old.spare }
+{
+    for place in 0..rows.len() {
+        tell_one(rows.at(place), registration, notices);
     }
 }
 
@@ -144,13 +149,13 @@ fn pass_on(row: &mut OpenClient, registration: u32, worker: u32)
 }
 
 // The clients that use a registration get this worker of it.
-fn hand_over(rows: &mut IndexMap<u32, OpenClient>, registration: u32, worker: u32)
+fn hand_over(rows: &mut Ordered<OpenClient>, registration: u32, worker: u32)
     ensures entries { rows.new.entries
         ≡ map (λ entry. (entry.0, handed registration worker entry.1)) rows.old.entries }
-    ensures room { spare rows.new ≡ spare rows.old }
+    ensures room { rows.new.spare ≡ rows.old.spare }
 {
     for place in 0..rows.len() {
-        pass_on(&mut rows[place], registration, worker);
+        pass_on(rows.at_mut(place), registration, worker);
     }
 }
 
@@ -161,7 +166,7 @@ impl Clients {
         ensures known { result.known ≡ 0 }
     {
         Clients {
-            rows: IndexMap::new(alloc),
+            rows: Ordered::new(alloc),
             counts: Vec::new(alloc),
         }
     }
@@ -191,7 +196,7 @@ impl Clients {
     fn found(&self, number: u32) -> Option<&OpenClient>
         ensures { option_copied result ≡ find (is_open number) self.now.rows }
     {
-        self.rows.get(&number)
+        self.rows.get(number)
     }
 
     /// The client of a number. It takes no memory.
@@ -215,7 +220,7 @@ impl Clients {
         ensures { result
             ≡ users_of registration (changed (is_open number) uncontrolled self.now.rows) }
     {
-        if is_one_user(self.rows.get(&number), registration) {
+        if is_one_user(self.rows.get(number), registration) {
             self.users(registration) - 1
         } else {
             self.users(registration)
@@ -227,8 +232,7 @@ impl Clients {
     pub fn at(&self, place: u32) -> Option<&ClientRow>
         ensures { option_copied result ≡ slice_get (clients_of self.now) place }
     {
-        let (_, row) = self.rows.get_index(place as usize)?;
-        Some(&row.client)
+        Some(&self.rows.at(place as usize)?.client)
     }
 
     /// No two clients have one number. A call does nothing; its clause is the law.
@@ -250,7 +254,7 @@ impl Clients {
     fn has(&self, number: u32) -> bool
         ensures { result ≡ list_any (is_client number) (clients_of self.now) }
     {
-        self.rows.contains_key(&number)
+        self.rows.contains(number)
     }
 
     // Makes room for one more client; the rows stay.
@@ -263,7 +267,7 @@ impl Clients {
         if self.len() == u32::MAX {
             return Err(NoMemory);
         }
-        self.rows.reserve(1)?;
+        self.rows.make_room()?;
         Ok(())
     }
 
@@ -324,7 +328,7 @@ impl Clients {
         ensures room { self.old.spare ≤ self.new.spare + 1 }
     {
         counts::raise(&mut self.counts, row.row.registration);
-        let _ = self.rows.insert(row.row.client.number, row.row);
+        self.rows.add(row.row.client.number, row.row);
     }
 
     /// A client leaves. It takes no memory.
@@ -338,11 +342,11 @@ impl Clients {
         ensures known { self.new.known ≡ self.old.known }
         ensures room { self.old.spare ≤ self.new.spare }
     {
-        let Some(gone) = self.rows.get(&number) else {
+        let Some(gone) = self.rows.get(number) else {
             return Err(NoClient);
         };
         counts::lower(&mut self.counts, gone.registration);
-        take_out(&mut self.rows, number);
+        let _ = self.rows.remove(number);
         Ok(())
     }
 
@@ -358,7 +362,7 @@ impl Clients {
         ensures clients { OnOk result (clients_of self.new ≡ changed (is_client number)
             (λ row. record row { controller = Some controller.0 }) (clients_of self.old)) }
     {
-        let Some(row) = self.rows.get_mut(&number) else {
+        let Some(row) = self.rows.get_mut(number) else {
             return Err(NoClient);
         };
         counts::exchange(&mut self.counts, row.registration, controller.1);
@@ -374,7 +378,7 @@ impl Clients {
         ensures users { (registration : ℕ)
             → users_of registration self.new.rows ≤ users_of registration self.old.rows }
     {
-        let Some(row) = self.rows.get_mut(&number) else {
+        let Some(row) = self.rows.get_mut(number) else {
             return;
         };
         counts::lower(&mut self.counts, row.registration);
@@ -397,7 +401,7 @@ impl Clients {
         if self.users(registration) == 0 {
             return;
         }
-        tell(self.rows.values().as_slice(), registration, notices);
+        tell(&self.rows, registration, notices);
         hand_over(&mut self.rows, registration, worker);
     }
 }

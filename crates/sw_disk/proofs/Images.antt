@@ -4,6 +4,7 @@ use Rattle.std.specs.Prelude.{OnOk}
 use Rattle.sw_disk.specs.declared.part.Part.{Part}
 use Rattle.sw_disk.specs.declared.part.Part.TheVariants.{Root, Left, Right}
 use Rattle.sw_disk.specs.Image.{Image, get, put}
+use Rattle.sw_disk.specs.declared.part.Parts.{Parts}
 use Rattle.sw_disk.specs.DiskRule.{ForTold, BothTold, OnPart}
 
 pub get-put : (part : Part) (bytes : List ℕ) (image : Image) → get part (put part bytes image) ≡ bytes
@@ -16,10 +17,10 @@ put-put Root bytes other image = refl
 put-put Left bytes other image = refl
 put-put Right bytes other image = refl
 
-pub put-get : (part : Part) (image : Image) → put part (get part image) image ≡ image
-put-get Root image = refl
-put-get Left image = refl
-put-get Right image = refl
+pub put-get : {T : Type 0} (part : Part) (parts : Parts T) → put part (get part parts) parts ≡ parts
+put-get Root parts = refl
+put-get Left parts = refl
+put-get Right parts = refl
 
 -- what holds of each image that is told
 pub told_some : (seen : Option Image) (Q : Image → Type 0) → ((image : Image) → seen ≡ Some image → Q image) → ForTold seen Q
@@ -66,7 +67,3 @@ done part step bytes old new is stepped =
       here = subst (step (get part old)) (sym there) stepped;
       elsewhere = is ∙ ap (λ b. put part b old) (sym there);
     }
-
-pub told_both : (seen : Option Image) (P Q R : Image → Type 0) → ForTold seen P → ForTold seen Q → ((image : Image) → seen ≡ Some image → P image → Q image → R image) → ForTold seen R
-told_both None P Q R one two each = tt
-told_both (Some image) P Q R one two each = each image refl one two

@@ -3,7 +3,6 @@ mod Lifted
 mod Marks
 mod Moved
 mod PickSteps
-mod Sure
 pub mod Images
 pub mod Moments
 pub mod Stages

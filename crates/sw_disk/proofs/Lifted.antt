@@ -1,6 +1,7 @@
 -- From a call on one part to the whole image.
-use Rattle.std.proofs.Common.{◌≡◌, ◌⊎◌, inl, inr, ℕ, List, refl, sym, ◌∙◌, ap, subst}
-use Rattle.std.specs.Prelude.{Result, Ok, Err, OnOk, OnErr}
+use Rattle.std.proofs.Common.{◌≡◌, ◌⊎◌, inl, inr, ⊎_elim, ℕ, List, refl, sym, ◌∙◌, ap, subst}
+use Rattle.std.specs.Prelude.{Result, OnOk, OnErr}
+use Rattle.std.proofs.lemmas.Result.{on_ok_weaker, on_err_weaker}
 use Rattle.sw_disk.specs.declared.part.Part.{Part}
 use Rattle.sw_disk.specs.declared.part.Part.TheVariants.{Root, Left, Right}
 use Rattle.sw_disk.specs.Image.{get, put}
@@ -9,6 +10,7 @@ use Rattle.sw_disk.specs.Doubts.{Exactly}
 use Rattle.sw_disk.specs.Memory.{PartLeaves, MayLeave, image_of}
 use Rattle.sw_disk.specs.declared.memory.part.MemoryPart.{MemoryPart}
 use Rattle.sw_disk.specs.declared.part.Parts.{Parts}
+use Rattle.sw_disk.proofs.Images.{put-get}
 
 pub lifted : (part : Part) (step : List ℕ → List ℕ → Type 0) (old : Parts MemoryPart) (now : MemoryPart)
     → Exactly step (PartLeaves (get part old)) (PartLeaves now) → Exactly (OnPart part step) (MayLeave old) (MayLeave (put part now old))
@@ -42,11 +44,6 @@ bytes_of Root old = refl
 bytes_of Left old = refl
 bytes_of Right old = refl
 
-put_get : (part : Part) (old : Parts MemoryPart) → put part (get part old) old ≡ old
-put_get Root old = refl
-put_get Left old = refl
-put_get Right old = refl
-
 -- a call on the part that was lent, by the bytes that it had
 module _ {T E : Type 0} (result : Result T E) (part : Part) (step : List ℕ → List ℕ → List ℕ → Type 0) (old : Parts MemoryPart) (was now : MemoryPart) (is : was ≡ get part old) where
   there : Exactly (step was.bytes.items) (PartLeaves was) (PartLeaves now) → Exactly (OnPart part (step (get part (image_of old)))) (MayLeave old) (MayLeave (put part now old))
@@ -55,18 +52,8 @@ module _ {T E : Type 0} (result : Result T E) (part : Part) (step : List ℕ →
       (lifted part (step (get part old).bytes.items) old now (subst (λ p. Exactly (step p.bytes.items) (PartLeaves p) (PartLeaves now)) is exact))
 
   pub lifted_ok : OnOk result (Exactly (step was.bytes.items) (PartLeaves was) (PartLeaves now)) → OnOk result (Exactly (OnPart part (step (get part (image_of old)))) (MayLeave old) (MayLeave (put part now old)))
-  lifted_ok = by result
-    where
-      by : (r : Result T E) → OnOk r (Exactly (step was.bytes.items) (PartLeaves was) (PartLeaves now)) → OnOk r (Exactly (OnPart part (step (get part (image_of old)))) (MayLeave old) (MayLeave (put part now old)))
-      by (Ok done) exact = there exact
-      by (Err e) exact = tt
+  lifted_ok = on_ok_weaker result there
 
   pub lifted_err : OnErr result ((now ≡ was) ⊎ Exactly (step was.bytes.items) (PartLeaves was) (PartLeaves now))
       → OnErr result ((put part now old ≡ old) ⊎ Exactly (OnPart part (step (get part (image_of old)))) (MayLeave old) (MayLeave (put part now old)))
-  lifted_err = by result
-    where
-      by : (r : Result T E) → OnErr r ((now ≡ was) ⊎ Exactly (step was.bytes.items) (PartLeaves was) (PartLeaves now))
-          → OnErr r ((put part now old ≡ old) ⊎ Exactly (OnPart part (step (get part (image_of old)))) (MayLeave old) (MayLeave (put part now old)))
-      by (Ok done) either = tt
-      by (Err e) (inl same) = inl (ap (λ p. put part p old) (same ∙ is) ∙ put_get part old)
-      by (Err e) (inr exact) = inr (there exact)
+  lifted_err = on_err_weaker result (λ either. ⊎_elim (λ same. inl (ap (λ p. put part p old) (same ∙ is) ∙ put-get part old)) (λ exact. inr (there exact)) either)

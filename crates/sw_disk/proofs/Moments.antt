@@ -2,21 +2,9 @@
 use Rattle.std.proofs.Common.{inl, inr, ⊎_elim, arith}
 use Rattle.sw_disk.specs.Image.{Image}
 use Rattle.sw_disk.specs.declared.disk.Disk.{Ghosts}
-use Rattle.sw_disk.specs.DiskRule.{Elapses}
 use Rattle.sw_disk.specs.Meanings.{LeavesOnly}
 
 module _ {D : Type 0} (disk : Ghosts D) where
-  -- before the first call
-  pub started : (old : D) (P : Image → Type 0) → LeavesOnly disk old old P
-  started old P = record { later = omega arith; before = λ t c le left. inl left }
-
-  -- one call more, at whose exit a crash leaves what has P
-  pub goes_on : (old mid new : D) (P : Image → Type 0) → LeavesOnly disk old mid P → Elapses disk.clock disk.left_since disk.may_leave mid new → ((c : Image) → disk.may_leave new c → P c) → LeavesOnly disk old new P
-  goes_on old mid new P so_far time here = record {
-    later = omega (arith, so_far.later, time.later);
-    before = λ t c le left. ⊎_elim (so_far.before t c le) (λ now. inr (here c now)) (time.nothing_else t c (omega (arith, le, so_far.later)) left);
-  }
-
   -- one run after another
   pub both : (old mid new : D) (P : Image → Type 0) → LeavesOnly disk old mid P → LeavesOnly disk mid new P → LeavesOnly disk old new P
   both old mid new P first second = record {

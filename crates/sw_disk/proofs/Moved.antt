@@ -5,11 +5,11 @@ use Rattle.std.specs.List.{All}
 use Rattle.std.proofs.lemmas.List.Elements.{All-weaker}
 use Rattle.sw_data.specs.Faults.{Rose}
 use Rattle.sw_disk.specs.Image.{Image}
-use Rattle.sw_disk.specs.DiskRule.{Within, OnPart, capped, Elapses}
+use Rattle.sw_disk.specs.DiskRule.{Within, OnPart, capped}
 use Rattle.sw_disk.specs.declared.part.Part.{Part}
 use Rattle.sw_disk.specs.declared.part.Part.TheVariants.{Root, Left, Right}
 use Rattle.sw_disk.specs.Doubts.{Exactly}
-use Rattle.sw_disk.specs.Memory.{clock_of, LeftSince, CrashLeaves, HadLeft, MayLeave, Keeps, image_of}
+use Rattle.sw_disk.specs.Memory.{HadLeft, MayLeave, Keeps, image_of}
 use Rattle.sw_disk.specs.MemoryLaws.{leaves_image}
 use Rattle.sw_disk.specs.declared.memory.part.MemoryPart.{MemoryPart}
 use Rattle.sw_disk.specs.declared.part.Parts.{Parts}
@@ -20,24 +20,16 @@ use Rattle.sw_disk.specs.declared.memory.history.Past.{Past}
 pub later_all : (old new : ℕ) (past : List Past) → new ≡ capped (old + 1) → All (λ p. Rose p.clock old) past → All (λ p. Rose p.clock new) past
 later_all old new past is before = All-weaker (λ p. Rose p.clock old) (λ p. Rose p.clock new) (λ p rose goes. omega (arith, is, goes, rose (omega (arith, is, goes)))) past before
 
--- what a crash had left with one more moment that is past
-pub had_left_pushed : (past : List Past) (was : Past) (t : ℕ) (c : Image) → HadLeft (past ++ was ∷ []) t c ↔ (HadLeft past t c ⊎ ((t ≤ was.clock) × MayLeave was.parts c))
-had_left_pushed [] was t c = (λ had. ⊎_elim inr (λ none. absurd none) had, λ either. ⊎_elim (λ none. absurd none) inl either)
-had_left_pushed (p ∷ past) was t c = let rest = had_left_pushed past was t c in (
+-- what a crash had left with one more moment that is past, at which it may leave what has P
+pub had_left_pushed : (past : List Past) (was : Past) (t : ℕ) (c : Image) (P : Type 0) → MayLeave was.parts c ↔ P → HadLeft (past ++ was ∷ []) t c ↔ (HadLeft past t c ⊎ ((t ≤ was.clock) × P))
+had_left_pushed [] was t c P same =
+    (λ had. ⊎_elim (λ new. inr (new.0, same.0 new.1)) (λ none. absurd none) had, λ either. ⊎_elim (λ none. absurd none) (λ new. inl (new.0, same.1 new.1)) either)
+had_left_pushed (p ∷ past) was t c P same = let rest = had_left_pushed past was t c P same in (
   λ had. ⊎_elim (λ here. inl (inl here)) (λ there. ⊎_elim (λ old. inl (inr old)) inr (rest.0 there)) had,
   λ either. ⊎_elim (λ old. ⊎_elim inl (λ there. inr (rest.1 (inl there))) old) (λ new. inr (rest.1 (inr new))) either,
 )
 
--- a call that leaves alone what is past
-pub same_time : (old new : MemoryDisk) → new.history.clock ≡ capped (old.history.clock + 1) → old.history.clock ≤ new.history.clock → new.history.past.items ≡ old.history.past.items
-    → Elapses clock_of LeftSince CrashLeaves old new
-same_time old new ticks later same = record {
-  ticks = ticks;
-  later = later;
-  nothing_else = λ t c le left. ⊎_elim inr (λ had. inl (inr (subst (λ past. HadLeft past t c) same had))) left;
-}
-
--- and after which a crash may leave all that it might have left before
+-- a call that leaves alone what is past, and after which a crash may leave all that it might have left before
 pub same_kept : (old new : MemoryDisk) → new.history.past.items ≡ old.history.past.items → Within (MayLeave old.parts) (MayLeave new.parts) → Keeps old new
 same_kept old new same more t c le left = ⊎_elim (λ now. inl (more c now)) (λ had. inr (subst (λ past. HadLeft past t c) (sym same) had)) left
 

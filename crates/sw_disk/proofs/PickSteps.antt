@@ -1,7 +1,7 @@
 -- One place more of the image that a crash leaves.
 use Rattle.std.proofs.Common.{◌≡◌, ◌<◌, ◌≤◌, ◌+◌, ℕ, suc, List, [], ◌∷◌, ◌++◌, Bool, true, false, if◌then◌else◌, length, take, drop, set, get_or, refl, sym, ◌∙◌, ap, arith, append_assoc}
 use Rattle.std.proofs.lemmas.List.{drop_more, drop-drop, take_more_set, drop-set-lt}
-use Rattle.sw_disk.specs.Picks.{in_doubt, later_marks, first_pick, later_picks, picked, picks_left, picked_of, part_picked, part_left, image_picked}
+use Rattle.sw_disk.specs.Picks.{in_doubt, later_marks, first_pick, later_picks, picked, picks_left, picked_of, part_picked, image_picked}
 use Rattle.sw_disk.specs.declared.part.Part.{Part}
 use Rattle.sw_disk.specs.declared.part.Part.TheVariants.{Root, Left, Right}
 use Rattle.sw_disk.specs.Image.{get}
@@ -9,7 +9,6 @@ use Rattle.sw_disk.specs.Memory.{PartLeaves, MayLeave, image_of}
 use Rattle.sw_disk.specs.declared.memory.part.MemoryPart.{MemoryPart}
 use Rattle.sw_disk.specs.declared.part.Parts.{Parts}
 use Rattle.sw_disk.specs.Doubts.{Fits, Leaves}
-use Rattle.std.proofs.lemmas.Bool.{false≢true}
 
 later_drop : (marks : List Bool) → later_marks marks ≡ drop 1 marks
 later_drop [] = refl
@@ -54,40 +53,32 @@ module _ (marks : List Bool) (first now new picks rest : List ℕ) (i : ℕ) (wi
 picked_fits : (bytes : List ℕ) (marks : List Bool) (picks : List ℕ) → length marks ≤ length bytes → Fits bytes marks (picked marks bytes picks)
 picked_fits bytes [] picks short = tt
 picked_fits [] (mark ∷ marks) picks short = absurd (omega (arith, short))
-picked_fits (byte ∷ bytes) (true ∷ marks) picks short = (λ is. absurd (false≢true (sym is)), picked_fits bytes marks (later_picks picks) (omega (arith, short)))
+picked_fits (byte ∷ bytes) (true ∷ marks) picks short = (λ is. absurd (cc), picked_fits bytes marks (later_picks picks) (omega (arith, short)))
 picked_fits (byte ∷ bytes) (false ∷ marks) picks short = (λ is. refl, picked_fits bytes marks picks (omega (arith, short)))
 
--- what is picked is one of the images that a crash may leave
-pub picked_leaves : (touched : Bool) (marks : List Bool) (bytes picks : List ℕ) → length marks ≤ length bytes → Leaves touched marks bytes (picked_of touched marks bytes picks)
+picked_leaves : (touched : Bool) (marks : List Bool) (bytes picks : List ℕ) → length marks ≤ length bytes → Leaves touched marks bytes (picked_of touched marks bytes picks)
 picked_leaves false marks bytes picks short = refl
 picked_leaves true marks bytes picks short = picked_fits bytes marks picks short
 
--- and as long as what reads give
+part_leaves : (part : MemoryPart) (picks : List ℕ) → PartLeaves part (part_picked part picks)
+part_leaves part picks = picked_leaves part.touched part.doubts.items part.bytes.items picks part.short
+
+-- what is picked is one of the images that a crash may leave
+pub picked_allowed : (parts : Parts MemoryPart) (picks : List ℕ) → MayLeave parts (image_picked parts picks)
+picked_allowed parts picks = record { root = part_leaves parts.root _; left = part_leaves parts.left _; right = part_leaves parts.right _ }
+
 length-picked : (marks : List Bool) (bytes picks : List ℕ) → length (picked marks bytes picks) ≡ length bytes
 length-picked marks [] picks = refl
 length-picked [] (byte ∷ bytes) picks = ap suc (length-picked [] bytes (later_picks picks))
 length-picked (true ∷ marks) (byte ∷ bytes) picks = ap suc (length-picked marks bytes (later_picks picks))
 length-picked (false ∷ marks) (byte ∷ bytes) picks = ap suc (length-picked marks bytes picks)
 
-pub length-picked_of : (touched : Bool) (marks : List Bool) (bytes picks : List ℕ) → length (picked_of touched marks bytes picks) ≡ length bytes
+length-picked_of : (touched : Bool) (marks : List Bool) (bytes picks : List ℕ) → length (picked_of touched marks bytes picks) ≡ length bytes
 length-picked_of false marks bytes picks = refl
 length-picked_of true marks bytes picks = length-picked marks bytes picks
 
--- so is the image of the three parts
-pub picked_allowed : (parts : Parts MemoryPart) (picks : List ℕ) → MayLeave parts (image_picked parts picks)
-picked_allowed parts picks = record {
-  root = part_leaves parts.root picks;
-  left = part_leaves parts.left (part_left parts.root picks);
-  right = part_leaves parts.right (part_left parts.left (part_left parts.root picks));
-}
-  where
-    part_leaves : (part : MemoryPart) (picks : List ℕ) → PartLeaves part (part_picked part picks)
-    part_leaves part picks = picked_leaves part.touched part.doubts.items part.bytes.items picks part.short
-
-pub length-part_picked : (part : MemoryPart) (picks : List ℕ) → length (part_picked part picks) ≡ length part.bytes.items
-length-part_picked part picks = length-picked_of part.touched part.doubts.items part.bytes.items picks
-
+-- and each part is as long as what reads give
 pub lengths_picked : (parts : Parts MemoryPart) (picks : List ℕ) (part : Part) → length (get part (image_picked parts picks)) ≡ length (get part (image_of parts))
-lengths_picked parts picks Root = length-part_picked parts.root picks
-lengths_picked parts picks Left = length-part_picked parts.left (part_left parts.root picks)
-lengths_picked parts picks Right = length-part_picked parts.right (part_left parts.left (part_left parts.root picks))
+lengths_picked parts picks Root = length-picked_of parts.root.touched _ _ _
+lengths_picked parts picks Left = length-picked_of parts.left.touched _ _ _
+lengths_picked parts picks Right = length-picked_of parts.right.touched _ _ _

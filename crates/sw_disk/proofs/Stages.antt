@@ -9,6 +9,14 @@ use Rattle.sw_disk.proofs.Moved.{still}
 use Rattle.sw_disk.proofs.Moments.{both, weaker, all_since}
 use Rattle.sw_disk.proofs.Images.{get-put, put-put, told_some, told_at, told_next, told_then, two_steps, done}
 
+-- at every moment more comes by a step than by a narrower one
+pub wider : {D : Type 0} (disk : Ghosts D) (old new : D) (step more : Image → Image → Image → Type 0)
+    → ((image : Image) → disk.seen old ≡ Some image → (a c : Image) → disk.may_leave old a → step image a c → more image a c) → LeavesSteps disk old new step → LeavesSteps disk old new more
+wider disk old new step more so run =
+    told_some (disk.seen old) (λ image. LeavesOnly disk old new (Stepped (more image) (disk.may_leave old))) (λ image is.
+    weaker disk old new (Stepped (step image) (disk.may_leave old)) (Stepped (more image) (disk.may_leave old)) (λ c from. (from.0, from.1, so image is from.0 c from.1 from.2))
+    (told_at (disk.seen old) (λ image. LeavesOnly disk old new (Stepped (step image) (disk.may_leave old))) image is run))
+
 module _ {D : Type 0} (disk : Ghosts D) (part : Part) where
   -- what was put stands in this relation to what was there
   pub put_so : (old new : D) (change : List ℕ → List ℕ) (step : List ℕ → List ℕ → Type 0) → ((image : Image) → disk.seen old ≡ Some image → step (get part image) (change (get part image)))
@@ -35,10 +43,8 @@ module _ {D : Type 0} (disk : Ghosts D) (part : Part) where
     pub first_write : ((image : Image) (old new : List ℕ) → Torn (length (get part image)) at n old new → step image old new)
         → LeavesSteps disk start middle (TornWrite part at n) → LeavesSteps disk start middle (λ image. OnPart part (step image))
     first_write so run =
-        told_some (disk.seen start) (λ image. LeavesOnly disk start middle (Stepped (OnPart part (step image)) (disk.may_leave start))) (λ image is.
-        weaker disk start middle (Stepped (TornWrite part at n image) (disk.may_leave start)) (Stepped (OnPart part (step image)) (disk.may_leave start))
-        (λ c from. (from.0, from.1, record { here = so image (get part from.0) (get part c) from.2.here; elsewhere = from.2.elsewhere }))
-        (told_at (disk.seen start) (λ image. LeavesOnly disk start middle (Stepped (TornWrite part at n image) (disk.may_leave start))) image is run))
+        wider disk start middle (TornWrite part at n) (λ image. OnPart part (step image))
+        (λ image is a c left torn. record { here = so image (get part a) (get part c) torn.here; elsewhere = torn.elsewhere }) run
 
   -- the second begins where the first is on the disk, and nothing else
   module _ (start middle end : D) (change : List ℕ → List ℕ) (at n : ℕ) (became : Becomes disk start middle (Puts part change)) (durable : IsDurable disk middle)

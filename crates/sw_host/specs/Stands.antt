@@ -113,11 +113,16 @@ pub record IsFormatted {D : Type 0} (disk : Ghosts D) (old new : D) : Type 0 whe
 abbrev pub IsAlready : {D : Type 0} → Ghosts D → D → Type 0
 IsAlready disk old = ForTold (disk.seen old) (λ image. IsSome (format_of (get (current image) image)))
 
+-- own: a disk whose current part begins with the header of a format is left as it is
+abbrev pub IsLeftAlone : {D : Type 0} → Ghosts D → (old new : D) → Type 0
+IsLeftAlone disk old new =
+    ForTold (disk.seen old) (λ image. IsSome (format_of (get (current image) image)) → IsQuiet disk old new)
+
 -- own: the disk is formatted with this status and text
 abbrev pub Formats : {D : Type 0} → Ghosts D → (old new : D) → Status → List ℕ → Type 0
 Formats disk old new status.Done text = (text ≡ codes "formatted\n") × IsFormatted disk old new
 Formats disk old new status.DiskFault text =
-    (text ≡ refusal_text status.DiskFault) × Rose (disk.faults old) (disk.faults new)
+    (text ≡ refusal_text status.DiskFault) × Rose (disk.faults old) (disk.faults new) × IsLeftAlone disk old new
 Formats disk old new status.AlreadyFormatted text =
     (text ≡ refusal_text status.AlreadyFormatted) × IsQuiet disk old new × IsAlready disk old
 Formats disk old new _ text = ⊥
@@ -173,7 +178,7 @@ LeavesAfterBytes disk old new workers bytes =
 
 -- own: what is left of the disk where there was no memory
 abbrev pub LeavesWithoutMemory : {D : Type 0} → Ghosts D → (old new : D) → Option (List ℕ) → Command → Type 0
-LeavesWithoutMemory disk old new left command.Init = Unit {0}
+LeavesWithoutMemory disk old new left command.Init = IsLeftAlone disk old new
 LeavesWithoutMemory disk old new left (command.Replay workers) =
     (new ≡ old) ⊎ ((bytes : List ℕ) × IsRead left bytes × LeavesAfterBytes disk old new workers bytes)
 LeavesWithoutMemory disk old new left command.Show = IsQuiet disk old new

@@ -1,7 +1,7 @@
 //! The commands on the disk alone.
 
 ghost use Rattle.std.specs.Prelude.{◌≡◌, IfOk, OnErr};
-ghost use Rattle.sw_host.specs.Stands.{Formats, Shows};
+ghost use Rattle.sw_host.specs.Stands.{Formats, IsLeftAlone, Shows};
 ghost use Rattle.sw_journal.specs.Quiet.{IsQuiet};
 ghost use Rattle.sw_print.specs.Showing.{shown};
 
@@ -20,8 +20,9 @@ pub(crate) const LIMIT: u64 = 4_294_967_296;
 /// Formats the current part of the disk.
 #[tactic(auto, using(crate::proofs::StoringLemmas::formatted))]
 pub(crate) fn format<D: Disk>(alloc: Global, disk: &mut D) -> Result<Report, NoMemory>
-    ensures { IfOk result (λ report.
+    ensures formats { IfOk result (λ report.
         Formats D.Disk disk.old disk.new report.status report.text) }
+    ensures alone { OnErr result (IsLeftAlone D.Disk disk.old disk.new) }
 {
     match init(disk) {
         Ok(()) => Ok(Report {

@@ -1,24 +1,21 @@
 -- What a part stands for while a record is added.
-use Rattle.std.proofs.Common.{◌≡◌, ◌≢◌, inl, inr, ℕ, ◌+◌, ◌-◌, ◌^◌, ◌<◌, List, [], ◌∷◌, ◌++◌, length, take, drop, ◌⊎◌, Option, Some, None, refl, sym, ◌∙◌, ap, subst, arith, append_assoc, length-append}
+use Rattle.std.proofs.Common.{◌≡◌, inl, inr, ⊎_elim, ℕ, ◌+◌, ◌-◌, ◌^◌, ◌<◌, List, [], ◌∷◌, ◌++◌, length, take, drop, Option, Some, None, sym, ◌∙◌, ap, subst, arith, append_assoc, length-append}
 use Rattle.std.proofs.lemmas.Bool.{cases_eq}
-use Rattle.std.proofs.lemmas.List.{take_at, drop_at, length-take-le}
+use Rattle.std.proofs.lemmas.List.{length-take-le}
 use Rattle.sw_disk.specs.declared.part.Part.{Part}
 use Rattle.sw_disk.specs.declared.disk.Disk.{Ghosts}
 use Rattle.sw_disk.specs.Image.{Image, get}
 use Rattle.sw_disk.specs.DiskRule.{ForTold, BothTold, OnPart, Puts, Only, Stepped, written}
 use Rattle.sw_disk.specs.Meanings.{Becomes, IsDurable, LeavesOnly, LeavesSteps}
 use Rattle.sw_disk.proofs.Images.{put-get, told_some, told_at, told_next}
-use Rattle.sw_disk.proofs.Moments.{started, weaker, all_since}
-use Rattle.sw_disk.proofs.Stages.{put_so}
+use Rattle.sw_disk.proofs.Moments.{all_since}
+use Rattle.sw_disk.proofs.Stages.{put_so, wider}
 use Rattle.sw_journal.specs.Format.{Format, format_2, record_bytes, needed_length}
 use Rattle.sw_journal.specs.Content.{IsPart}
 use Rattle.sw_journal.specs.Journal.{JournalState, StandsIn, StandsFor, appended, HasMore, HasSameOrMore, Since}
-use Rattle.sw_journal.specs.Gate.{IsTornRecord}
+use Rattle.sw_journal.specs.Gate.{HasBehind, IsTornRecord}
+use Rattle.sw_journal.proofs.PartLemmas.{parts_at}
 use Rattle.sw_journal.proofs.PartChanges.{gate_there, closed_still, closed_kept, opened_adds}
-
--- a gate of 0 is closed
-pub zero_is_closed : (byte : ℕ) → byte ≡ 0 → byte ≢ 1
-zero_is_closed byte is one = omega (arith, is, one)
 
 -- what stands behind the gate of a record
 abbrev spelled : JournalState → List ℕ → List ℕ
@@ -52,11 +49,12 @@ module _ {D : Type 0} (disk : Ghosts D) (journal : JournalState) (start : D) (st
         (told_at (disk.seen start) (λ image. LeavesOnly disk start end P) image is run))
 
     pub since_start : ForTold (disk.seen start) (λ image. Since disk start start (Stepped (OnPart journal.part (HasSameOrMore journal payload)) (disk.may_leave start)))
-    since_start =
-        since_entry start (told_some (disk.seen start) (λ image. LeavesOnly disk start start (Stepped (OnPart journal.part (HasSameOrMore journal payload)) (disk.may_leave start)))
-        (λ image is. started disk start (Stepped (OnPart journal.part (HasSameOrMore journal payload)) (disk.may_leave start))))
+    since_start = since_entry start (grind (arith))
 
 module _ {journal : JournalState} {payload : List ℕ} {part : Part} {gate : ℕ} {bytes : List ℕ} (it : IsAppend journal payload part gate bytes) where
+  there : (P : Part → ℕ → List ℕ → Type 0) → P part gate bytes → P journal.part journal.gate (spelled journal payload)
+  there P is = subst (λ p. P p journal.gate (spelled journal payload)) it.part_is (subst (λ g. P part g (spelled journal payload)) it.gate_is (subst (P part gate) it.bytes_are is))
+
   adds : (old new : List ℕ) (records : List (ℕ × List ℕ)) → length records ≡ journal.count → IsPart journal.format records journal.gate old → take journal.gate new ≡ take journal.gate old
       → (rest : List ℕ) → drop journal.gate new ≡ 1 ∷ (spelled journal payload ++ rest)
       → IsPart journal.format (records ++ (journal.gate, payload) ∷ []) (journal.gate + needed_length journal.format (length payload)) new
@@ -64,35 +62,28 @@ module _ {journal : JournalState} {payload : List ℕ} {part : Part} {gate : ℕ
       let there : drop journal.gate new ≡ 1 ∷ (record_bytes journal.format (length records) payload ++ (0 ∷ rest)) =
       behind ∙ ap (λ (l : List ℕ). 1 ∷ l) (append_assoc (record_bytes journal.format journal.count payload) (0 ∷ []) rest)
       ∙ ap (λ (n : ℕ). 1 ∷ (record_bytes journal.format n payload ++ (0 ∷ rest))) (sym count) in
-      opened_adds journal.format (inr (ap (λ (f : Format). f.width) it.second)) records journal.gate old new was front payload 0 rest (omega (arith, it.few, count)) it.short (zero_is_closed 0 refl) there
+      opened_adds journal.format (inr (ap (λ (f : Format). f.width) it.second)) records journal.gate old new was front payload 0 rest (omega (arith, it.few, count)) it.short (λ one. omega (arith, one)) there
 
   -- the record is added
   has_more : (old : List ℕ) → StandsIn journal old → HasMore journal payload old (written journal.gate (appended journal payload) old)
   has_more old stands =
-      let size : length (take journal.gate old) ≡ journal.gate = length-take-le journal.gate old (omega (arith, gate_there journal.format stands.0 journal.gate old stands.2)) in
+      let new = written journal.gate (appended journal payload) old in
       let rest = drop (journal.gate + length (appended journal payload)) old in
-      let split : written journal.gate (appended journal payload) old ≡ take journal.gate old ++ (appended journal payload ++ rest) = append_assoc (take journal.gate old) (appended journal payload) rest in
-      record {
-        records = stands.0;
-        count = stands.1;
-        was = stands.2;
-        now = adds old (written journal.gate (appended journal payload) old) stands.0 stands.1 stands.2
-            (ap (λ (l : List ℕ). take journal.gate l) split ∙ take_at (take journal.gate old) (appended journal payload ++ rest) journal.gate size)
-            rest (ap (λ (l : List ℕ). drop journal.gate l) split ∙ drop_at (take journal.gate old) (appended journal payload ++ rest) journal.gate size);
-      }
+      let size = length-take-le journal.gate old (omega (arith, gate_there journal.format stands.0 journal.gate old stands.2)) in
+      let it = parts_at (take journal.gate old) (appended journal payload ++ rest) new journal.gate (append_assoc (take journal.gate old) (appended journal payload) rest) size in
+      record { records = stands.0; count = stands.1; was = stands.2; now = adds old new stands.0 stands.1 stands.2 it.0 rest it.1 }
 
   -- the record may be torn, or the gate
   same_or_more : (old new : List ℕ) → StandsIn journal old → IsTornRecord journal.gate (spelled journal payload) old new → HasSameOrMore journal payload old new
-  same_or_more old new stands torn = record { records = stands.0; count = stands.1; was = stands.2; now = now torn }
-    where
-      now : IsTornRecord journal.gate (spelled journal payload) old new
-          → IsPart journal.format stands.0 journal.gate new ⊎ IsPart journal.format (stands.0 ++ (journal.gate, payload) ∷ []) (journal.gate + needed_length journal.format (length payload)) new
-      now (inl kept) = inl (closed_kept journal.format stands.0 journal.gate old new stands.2 kept)
-      now (inr behind) =
-          elim (cases_eq behind.byte 1) [
-            | inl is_open ↦ inr (adds old new stands.0 stands.1 stands.2 behind.front behind.rest (behind.behind ∙ ap (λ (b : ℕ). b ∷ (spelled journal payload ++ behind.rest)) is_open))
-            | inr shut ↦ inl (closed_still journal.format stands.0 journal.gate old new stands.2 behind.front behind.byte (spelled journal payload ++ behind.rest) shut behind.behind)
-          ]
+  same_or_more old new stands torn = record {
+    records = stands.0;
+    count = stands.1;
+    was = stands.2;
+    now = ⊎_elim (λ kept. inl (closed_kept journal.format stands.0 journal.gate old new stands.2 kept)) (λ (behind : HasBehind journal.gate (spelled journal payload) old new). elim (cases_eq behind.byte 1) [
+      | inl is_open ↦ inr (adds old new stands.0 stands.1 stands.2 behind.front behind.rest (behind.behind ∙ ap (λ (b : ℕ). b ∷ (spelled journal payload ++ behind.rest)) is_open))
+      | inr shut ↦ inl (closed_still journal.format stands.0 journal.gate old new stands.2 behind.front behind.byte (spelled journal payload ++ behind.rest) shut behind.behind)
+    ]) torn;
+  }
 
   module _ {D : Type 0} (disk : Ghosts D) (start end : D) (stands : StandsFor journal disk start) where
     -- its gate is within the part
@@ -103,22 +94,12 @@ module _ {journal : JournalState} {payload : List ℕ} {part : Part} {gate : ℕ
 
     pub any_moment : LeavesSteps disk start end (λ image. OnPart part (IsTornRecord gate bytes)) → LeavesSteps disk start end (λ image. OnPart journal.part (HasSameOrMore journal payload))
     any_moment run =
-        told_some (disk.seen start) (λ image. LeavesOnly disk start end (Stepped (OnPart journal.part (HasSameOrMore journal payload)) (disk.may_leave start))) (λ image is.
-        weaker disk start end (Stepped (OnPart part (IsTornRecord gate bytes)) (disk.may_leave start)) (Stepped (OnPart journal.part (HasSameOrMore journal payload)) (disk.may_leave start))
-        (λ c from.
-        let on : OnPart journal.part (IsTornRecord journal.gate (spelled journal payload)) from.0 c =
-        subst (λ p. OnPart p (IsTornRecord journal.gate (spelled journal payload)) from.0 c) it.part_is
-        (subst (λ g. OnPart part (IsTornRecord g (spelled journal payload)) from.0 c) it.gate_is (subst (λ b. OnPart part (IsTornRecord gate b) from.0 c) it.bytes_are from.2)) in (
-          from.0,
-          from.1,
-          record { here = same_or_more (get journal.part from.0) (get journal.part c) ((stands_at disk journal start stands image is).1 from.0 from.1) on.here; elsewhere = on.elsewhere },
-        ))
-        (told_at (disk.seen start) (λ image. LeavesOnly disk start end (Stepped (OnPart part (IsTornRecord gate bytes)) (disk.may_leave start))) image is run))
+        wider disk start end (λ image. OnPart journal.part (IsTornRecord journal.gate (spelled journal payload))) (λ image. OnPart journal.part (HasSameOrMore journal payload))
+        (λ image is a c left on. record { here = same_or_more (get journal.part a) (get journal.part c) ((stands_at disk journal start stands image is).1 a left) on.here; elsewhere = on.elsewhere })
+        (there (λ p g b. LeavesSteps disk start end (λ image. OnPart p (IsTornRecord g b))) run)
 
     pub put_record : Becomes disk start end (Puts part (written gate (1 ∷ bytes))) → Becomes disk start end (Puts journal.part (written journal.gate (appended journal payload)))
-    put_record became =
-        subst (λ p. Becomes disk start end (Puts p (written journal.gate (appended journal payload)))) it.part_is
-        (subst (λ g. Becomes disk start end (Puts part (written g (appended journal payload)))) it.gate_is (subst (λ b. Becomes disk start end (Puts part (written gate (1 ∷ b)))) it.bytes_are became))
+    put_record became = there (λ p g b. Becomes disk start end (Puts p (written g (1 ∷ b)))) became
 
     pub added : Becomes disk start end (Puts journal.part (written journal.gate (appended journal payload))) → Becomes disk start end (OnPart journal.part (HasMore journal payload))
     added = put_so disk journal.part start end (written journal.gate (appended journal payload)) (HasMore journal payload) (λ image is. has_more (get journal.part image) (stands_at disk journal start stands image is).0)
@@ -145,10 +126,8 @@ stands_more disk start end journal next payload part format gate count became du
         subst (λ p. StandsIn next (get p b)) (sym part) (
           more.records ++ (journal.gate, payload) ∷ [],
           omega (arith, more.count, count, length-append more.records ((journal.gate, payload) ∷ [])),
-          (λ (g : ℕ) (f : Format) (same_gate : g ≡ next.gate) (same_format : f ≡ next.format) (is : IsPart f (more.records ++ (journal.gate, payload) ∷ []) g (get journal.part b)).
-              subst (λ x. IsPart next.format (more.records ++ (journal.gate, payload) ∷ []) x (get journal.part b)) same_gate
-              (subst (λ x. IsPart x (more.records ++ (journal.gate, payload) ∷ []) g (get journal.part b)) same_format is))
-              (journal.gate + needed_length journal.format (length payload)) journal.format (sym gate) (sym format) more.now,
+          subst (λ f. IsPart f (more.records ++ (journal.gate, payload) ∷ []) next.gate (get journal.part b)) (sym format)
+              (subst (λ g. IsPart journal.format (more.records ++ (journal.gate, payload) ∷ []) g (get journal.part b)) (sym gate) more.now),
         )
 
     both : (old new : Option Image) → BothTold old new (OnPart journal.part (HasMore journal payload)) → ForTold new (λ image. Only image (disk.may_leave end))

@@ -1,8 +1,5 @@
 mod Appends
-mod Fresh
-pub mod FreshParts
-mod Gates
-mod Headers
+mod FreshParts
 mod ParseSteps
 pub mod PartChanges
 pub mod PartLemmas

@@ -1,28 +1,17 @@
 -- What reading gives, and that it changes nothing.
-use Rattle.std.proofs.Common.{◌≡◌, ℕ, ◌+◌, ◌-◌, ◌^◌, ◌<◌, ◌≤◌, List, ◌++◌, length, take, drop, Option, Some, None, Result, Ok, Err, refl, sym, ◌∙◌, subst, arith, take-append-drop}
-use Rattle.std.proofs.lemmas.List.{take_at, drop_at, take-take, take-append-le, drop-take, length-take-le}
+use Rattle.std.proofs.Common.{◌≡◌, ℕ, ◌+◌, ◌-◌, ◌^◌, ◌<◌, ◌≤◌, List, ◌++◌, length, take, drop, Option, Some, None, Result, Ok, Err, refl, sym, ◌∙◌, subst, arith}
+use Rattle.std.proofs.lemmas.List.{take_at, drop_at, take-append-le, length-take-le}
 use Rattle.std.specs.Prelude.{IfOk}
 use Rattle.sw_disk.specs.declared.disk.Disk.{Ghosts}
 use Rattle.sw_disk.specs.Image.{Image}
-use Rattle.sw_disk.specs.DiskRule.{ForTold, Only, Within, Elapses}
+use Rattle.sw_disk.specs.DiskRule.{ForTold, Only, Elapses}
 use Rattle.sw_disk.proofs.Images.{told_some, told_at}
-use Rattle.sw_disk.proofs.Moments.{started, goes_on, both, weaker, all_since}
+use Rattle.sw_disk.proofs.Moments.{both, weaker, all_since}
 use Rattle.sw_journal.specs.Quiet.{IsQuiet}
+use Rattle.sw_journal.proofs.PartLemmas.{take_both}
 
 module _ {D : Type 0} (disk : Ghosts D) where
-  pub quiet_start : (now : D) → IsQuiet disk now now
-  quiet_start now = record { same = refl; crash = λ c left. left; moments = started disk now (disk.may_leave now); count = omega arith }
-
-  -- one call that changes nothing
-  pub quiet_call : (old new : D) → disk.seen new ≡ disk.seen old → Within (disk.may_leave new) (disk.may_leave old) → Elapses disk.clock disk.left_since disk.may_leave old new
-      → disk.faults old ≤ disk.faults new → IsQuiet disk old new
-  quiet_call old new same crash time count = record {
-    same = same;
-    crash = crash;
-    moments = goes_on disk old old new (disk.may_leave old) (started disk old (disk.may_leave old)) time crash;
-    count = count;
-  }
-
+  -- calls that change nothing, one after another
   pub quiet_then : (old mid new : D) → IsQuiet disk old mid → IsQuiet disk mid new → IsQuiet disk old new
   quiet_then old mid new one two = record {
     same = two.same ∙ one.same;
@@ -42,22 +31,6 @@ module _ {D : Type 0} (disk : Ghosts D) where
       (all_since disk synced end (disk.may_leave synced) (λ f was. only_now f (omega (arith, ticked, going)) was) (λ f was. was) quiet.moments c
       (subst (λ t. disk.left_since end t c) ticked left)))
 
--- one part of a list, and then the next
-pub take_both : (m n : ℕ) (l : List ℕ) → take (m + n) l ≡ take m l ++ take n (drop m l)
-take_both m n l =
-    sym (take-append-drop m (take (m + n) l)) ∙ (λ i. take-take m (m + n) l (le m n) i ++ drop-take m n l i)
-  where
-    le : (m n : ℕ) → m ≤ m + n
-    le m n = omega arith
-
--- n more bytes were read behind the first
-pub read_more : (at n : ℕ) (part old into : List ℕ) → length old ≡ at → old ≡ take at part → take n into ≡ take n (drop at part) → take (at + n) (old ++ into) ≡ take (at + n) part
-read_more at n part old into size same read =
-    take_both at n (old ++ into)
-    ∙ (λ i. take_at old into at size i ++ take n (drop_at old into at size i))
-    ∙ (λ i. same i ++ read i)
-    ∙ sym (take_both at n part)
-
 -- what is known of an answer, where the disk tells
 pub told_ok : {T E : Type 0} (seen : Option Image) (result : Result T E) (P Q : Image → T → Type 0) (R : T → Type 0)
     → ForTold seen (λ image. IfOk result (P image)) → IfOk result R → ((image : Image) (t : T) → seen ≡ Some image → R t → P image t → Q image t) → ForTold seen (λ image. IfOk result (Q image))
@@ -69,4 +42,8 @@ told_ok (Some image) (Err e) P Q R told known each = tt
 pub read_into : (at n : ℕ) (part old into rest : List ℕ) → at ≤ length old → n ≤ length into → take at old ≡ take at part → take n into ≡ take n (drop at part)
     → take (at + n) (take at old ++ (into ++ rest)) ≡ take (at + n) part
 read_into at n part old into rest fits few same read =
-    read_more at n part (take at old) (into ++ rest) (length-take-le at old fits) same (take-append-le n into rest few ∙ read)
+    let size = length-take-le at old fits in
+    take_both at n (take at old ++ (into ++ rest))
+    ∙ (λ i. take_at (take at old) (into ++ rest) at size i ++ take n (drop_at (take at old) (into ++ rest) at size i))
+    ∙ (λ i. same i ++ (take-append-le n into rest few ∙ read) i)
+    ∙ sym (take_both at n part)

@@ -8,6 +8,8 @@ mod flags;
 #[cfg(test)]
 mod ledgers;
 #[cfg(test)]
+mod order;
+#[cfg(test)]
 mod queue;
 #[cfg(test)]
 mod reg;

@@ -4,8 +4,7 @@ use Rattle.std.specs.List.{list_any, IsDistinct, AllByRecursion}
 use Rattle.std.specs.Option.{option_map}
 use Rattle.std.specs.Map.{lookup, remove_entry, keys_of}
 use Rattle.std.proofs.lemmas.Bool.Decides.{nat_tests}
-use Rattle.std.proofs.lemmas.List.{get_or_default, get_or_past, length-set}
-use Rattle.indexmap.specs.IndexMap.{insert_entry}
+use Rattle.std.proofs.lemmas.List.{get_or_default, get_or_past, length-set, map-append}
 use Rattle.sw_data.specs.declared.rows.WorkerRow.{WorkerRow}
 use Rattle.sw_rules.specs.Rows.{is_number, without}
 use Rattle.sw_rules.specs.State.{FetchEvent}
@@ -52,17 +51,13 @@ none_ended n (e ∷ es) none = grind (arith, nat_tests, none_ended n es)
 
 -- ---- one more event
 
-one_more : (n w : ℕ) (entries : Entries) → is_pending n (events_of entries) ≡ false → insert_entry nat_eq entries n w ≡ entries ++ (n, w) ∷ []
-one_more n w [] fresh = refl
-one_more n w (e ∷ es) fresh = grind (arith, nat_tests, one_more n w es)
+-- a number that isn't pending is not found
+pub unused : (n : ℕ) (entries : Entries) → is_pending n (events_of entries) ≡ false → lookup (nat_eq n) entries ≡ None
+unused n [] fresh = refl
+unused n (e ∷ es) fresh = grind (arith, nat_tests, unused n es)
 
-more_events : (n w : ℕ) (entries : Entries) → events_of (entries ++ (n, w) ∷ []) ≡ events_of entries ++ record { number = n; worker = w } ∷ []
-more_events n w [] = refl
-more_events n w (e ∷ es) = ap (λ (rest : List FetchEvent). record { number = e.0; worker = e.1 } ∷ rest) (more_events n w es)
-
-pub begun : (n w : ℕ) (entries : Entries) → is_pending n (events_of entries) ≡ false
-    → events_of (insert_entry nat_eq entries n w) ≡ events_of entries ++ record { number = n; worker = w } ∷ []
-begun n w entries fresh = ap events_of (one_more n w entries fresh) ∙ more_events n w entries
+pub begun : (n w : ℕ) (entries : Entries) → events_of (entries ++ (n, w) ∷ []) ≡ events_of entries ++ record { number = n; worker = w } ∷ []
+begun n w entries = map-append (λ (e : ℕ × ℕ). record { number = e.0; worker = e.1 }) entries ((n, w) ∷ [])
 
 -- how many events are on a worker
 abbrev many_on : ℕ → Entries → ℕ
@@ -170,12 +165,12 @@ counted_ended counts entries n w d counted found k =
     grind (arith, nat_tests)
 
 pub kept_begun : (rows : List WorkerRow) (counts : List ℕ) (entries new : Entries) (flags : List Bool) (n w d : ℕ) → IsKept rows counts entries flags → w < length counts
-    → is_pending n (events_of entries) ≡ false → new ≡ insert_entry nat_eq entries n w → IsDistinct nat_eq (keys_of new)
+    → new ≡ entries ++ (n, w) ∷ [] → IsDistinct nat_eq (keys_of new)
     → IsKept rows (slice_set counts w (slice_index_or counts w d + 1)) new flags
-kept_begun rows counts entries new flags n w d kept below fresh is apart = record {
+kept_begun rows counts entries new flags n w d kept below is apart = record {
   workers = kept.workers;
   many = length-set counts w (slice_index_or counts w d + 1) ∙ kept.many;
-  counted = subst (Counted (slice_set counts w (slice_index_or counts w d + 1))) (sym (is ∙ one_more n w entries fresh)) (counted_begun counts entries n w d kept.counted below);
+  counted = subst (Counted (slice_set counts w (slice_index_or counts w d + 1))) (sym is) (counted_begun counts entries n w d kept.counted below);
   apart = apart;
   activating = kept.activating;
 }

@@ -9,11 +9,11 @@ ghost use Rattle.sw_worker.specs.Table.{event_at, events_on, has_calls_left, has
 
 use crate::edit::{Edit, carry_out};
 use crate::made::{BeginFault, NewEvent, NewWorker, NoEvent, WrongState};
-use indexmap::IndexMap;
 use std::alloc::Global;
 use std::marker::Model;
 use sw_data::{Bytes, Handlers, Kind, NoMemory, Phase, Text, WorkerRow, WorkerState};
 use sw_flags::Flags;
+use sw_order::Ordered;
 
 /// The workers in order of making, where a worker's number is its place, and the fetch events that are pending, in order
 /// of beginning.
@@ -23,7 +23,7 @@ pub struct Workers {
     // How many fetch events are pending on each worker.
     counts: Vec<u64>,
     // The worker of each fetch event that is pending.
-    events: IndexMap<u32, u32>,
+    events: Ordered<u32>,
     // On which of them a handler of phase activate runs.
     activating: Flags,
 }
@@ -31,7 +31,6 @@ pub struct Workers {
 impl Model for Workers {
     ghost use Rattle.std.specs.Prelude.{◌-◌, min};
     ghost use Rattle.std.specs.Vec.{vec_len, vec_capacity};
-    ghost use Rattle.indexmap.specs.IndexMap.{spare};
     ghost use Rattle.sw_worker.specs.Kept.{IsKept, events_of};
     ghost use Rattle.sw_worker.specs.Table.{Table};
 
@@ -43,7 +42,7 @@ impl Model for Workers {
       spare_rows = min
           (min (vec_capacity w.rows - vec_len w.rows) (vec_capacity w.counts - vec_len w.counts))
           w.activating.spare;
-      spare_events = spare w.events;
+      spare_events = w.events.spare;
     } };
 
     ghost invariant = { λ w.
@@ -103,7 +102,7 @@ impl Workers {
         Workers {
             rows: Vec::new(alloc),
             counts: Vec::new(alloc),
-            events: IndexMap::new(alloc),
+            events: Ordered::new(alloc),
             activating: Flags::new(alloc),
         }
     }
@@ -147,7 +146,7 @@ impl Workers {
     pub fn worker_of(&self, event: u32) -> Option<u32>
         ensures { result ≡ option_map (λ found. found.worker) (event_at event self.now.events) }
     {
-        self.events.get(&event).copied()
+        self.events.get(event).copied()
     }
 
     /// How many fetch events are pending on a worker. It takes no memory.
@@ -178,7 +177,7 @@ impl Workers {
     fn other_pending(&self, event: u32, worker: u32) -> u64
         ensures { result ≡ length (events_on worker (without (is_event event) self.now.events)) }
     {
-        if is_number(self.events.get(&event).copied(), worker) {
+        if is_number(self.events.get(event).copied(), worker) {
             self.pending(worker) - 1
         } else {
             self.pending(worker)
@@ -338,7 +337,7 @@ impl Workers {
     fn is_pending(&self, event: u32) -> bool
         ensures { result ≡ is_pending event self.now.events }
     {
-        self.events.contains_key(&event)
+        self.events.contains(event)
     }
 
     // Makes room for a fetch event. It changes nothing else.
@@ -347,7 +346,7 @@ impl Workers {
         ensures room { self.old.spare_events ≤ self.new.spare_events }
         ensures ok { OnOk result (0 < self.new.spare_events) }
     {
-        self.events.reserve(1)?;
+        self.events.make_room()?;
         Ok(())
     }
 
@@ -383,7 +382,7 @@ impl Workers {
     }
 
     /// A fetch event that was made begins. It takes no memory.
-    #[tactic(auto, using(crate::proofs::Events::begun, crate::proofs::Events::kept_begun, crate::proofs::Events::counted_here, crate::proofs::Placed::within))]
+    #[tactic(auto, using(crate::proofs::Events::begun, crate::proofs::Events::kept_begun, crate::proofs::Events::unused, crate::proofs::Events::counted_here, crate::proofs::Placed::within))]
     pub fn begin_put(&mut self, new: NewEvent)
         requires { FitsEvent new self.old }
         ensures put { self.new ≡ record self.old {
@@ -393,7 +392,7 @@ impl Workers {
         ensures room { self.old.spare_events ≤ self.new.spare_events + 1 }
     {
         let NewEvent { number, worker } = new;
-        let _ = self.events.insert(number, worker);
+        self.events.add(number, worker);
         self.counts[worker as usize] += 1;
     }
 
@@ -431,9 +430,9 @@ impl Workers {
         ensures room { self.old.spare_events ≤ self.new.spare_events }
         ensures err { OnErr result (self.new ≡ self.old) }
     {
-        match self.events.get(&event).copied() {
+        match self.events.get(event).copied() {
             Some(worker) => {
-                let _ = self.events.shift_remove(&event);
+                let _ = self.events.remove(event);
                 self.counts[worker as usize] -= 1;
                 Ok(worker)
             }

@@ -1,5 +1,4 @@
 use Rattle.std.proofs.Common.{◌≡◌, ◌++◌, take, drop}
-use Rattle.indexmap.specs.IndexMap.{spare}
 use Rattle.sw_client.specs.Table.{handed}
 use Rattle.sw_client.proofs.TakeOver.{edited}
 use Rattle.sw_client.proofs.hand_over.Given as goal
@@ -7,5 +6,5 @@ use Rattle.sw_client.proofs.hand_over.Given as goal
 abbrev pub invariant-loop-place : goal.invariant-loop-place
 invariant-loop-place l = record {
   entries : l.rows.entries ≡ edited (handed l.registration l.worker) (take l.place l.initial.rows.entries) ++ drop l.place l.initial.rows.entries;
-  room : spare l.rows ≡ spare l.initial.rows;
+  room : l.rows.spare ≡ l.initial.rows.spare;
 }

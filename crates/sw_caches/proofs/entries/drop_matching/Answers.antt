@@ -1,8 +1,8 @@
 use Rattle.std.proofs.Common.{arith, subst, sym, ◌∙◌, ◌<◌}
 use Rattle.sw_rules.specs.Matching.{matches_pair}
 use Rattle.sw_caches.specs.Entries.{number, pair, pair_digest}
-use Rattle.sw_caches.proofs.FindLemmas.{none_reads, found_low}
-use Rattle.sw_caches.proofs.IndexLemmas.{thinned_more}
+use Rattle.sw_index.proofs.FindLemmas.{none_reads, found_low}
+use Rattle.sw_index.proofs.IndexLemmas.{thinned_more}
 use Rattle.sw_caches.proofs.entries.drop_matching.Goals as goal
 
 pub first_matching-requires : goal.first_matching-requires

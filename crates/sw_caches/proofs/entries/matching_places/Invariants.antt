@@ -1,6 +1,6 @@
 use Rattle.std.proofs.Common.{◌≡◌, ◌-◌, ◌^◌}
 use Rattle.sw_rules.specs.Matching.{matches_pair}
-use Rattle.sw_caches.specs.Numbered.{places_up_to}
+use Rattle.sw_caches.specs.Places.{places_up_to}
 use Rattle.sw_caches.specs.Entries.{number, pair}
 use Rattle.sw_caches.proofs.entries.matching_places.Given as goal
 

@@ -1,6 +1,6 @@
 use Rattle.std.proofs.Common.{ℕ}
-use Rattle.sw_caches.specs.Slots.{KeepsBelow}
-use Rattle.sw_caches.specs.Numbered.{AllFrom}
+use Rattle.sw_index.specs.Slots.{KeepsBelow}
+use Rattle.sw_index.specs.Numbered.{AllFrom}
 use Rattle.sw_caches.specs.Entries.{number}
 use Rattle.sw_caches.proofs.plan.unmark_all.Given as goal
 

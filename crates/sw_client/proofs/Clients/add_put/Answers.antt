@@ -1,7 +1,7 @@
 use Rattle.std.proofs.Common.{◌∙◌, ◌++◌, ◌∷◌, [], sym, ap, subst}
 use Rattle.sw_client.specs.declared.OpenClient.{OpenClient}
 use Rattle.sw_client.specs.Table.{Fits, Table}
-use Rattle.sw_client.proofs.OfClients.{added_counted, added_rows, on_ok, raised}
+use Rattle.sw_client.proofs.OfClients.{added_counted, added_rows, raised, unused}
 use Rattle.sw_client.proofs.Clients.add_put.Goals as goal
 
 pub raise-requires : goal.raise-requires
@@ -12,12 +12,16 @@ raise-requires c =
 pub invariant_of-self : goal.invariant_of-self
 invariant_of-self c =
     let fits = subst (λ (table : Table). Fits c.row.inside.row table) (sym c.self.view_is) (subst (λ (new : OpenClient). Fits new c.args.self.now) (sym c.row.view_is) c.requires) in
-    added_counted c.row.inside.row c.self.inside.rows.entries c.insert.new.self.entries c.self.inside.counts.items c.raise.new.counts.items c.self.invariant fits.number fits.few
-    (on_ok c.insert.result c.insert.ensures.entries (c.insert.ensures.succeeds fits.room)) c.insert.ensures.unique c.raise.ensures.count
+    added_counted c.row.inside.row c.self.inside.rows.entries c.add.new.self.entries c.self.inside.counts.items c.raise.new.counts.items c.self.invariant fits.few
+    c.add.ensures.entries c.add.ensures.apart c.raise.ensures.count
 
 pub returns-clause-rows : goal.returns-clause-rows
 returns-clause-rows c =
     let fits = subst (λ (table : Table). Fits c.row.inside.row table) (sym c.self.view_is) (subst (λ (new : OpenClient). Fits new c.args.self.now) (sym c.row.view_is) c.requires) in
-    added_rows c.row.inside.row c.self.inside.rows.entries c.insert.new.self.entries c.self.invariant.keyed fits.number
-    (on_ok c.insert.result c.insert.ensures.entries (c.insert.ensures.succeeds fits.room))
+    added_rows c.row.inside.row c.self.inside.rows.entries c.add.new.self.entries c.add.ensures.entries
     ∙ ap (λ (table : Table). table.rows ++ c.row.inside.row ∷ []) c.self.view_is ∙ ap (λ (new : OpenClient). c.args.self.now.rows ++ new ∷ []) c.row.view_is
+
+pub add-requires-clause-fresh : goal.add-requires-clause-fresh
+add-requires-clause-fresh c =
+    let fits = subst (λ (table : Table). Fits c.row.inside.row table) (sym c.self.view_is) (subst (λ (new : OpenClient). Fits new c.args.self.now) (sym c.row.view_is) c.requires) in
+    unused c.row.inside.row.client.number c.self.inside.rows.entries c.self.invariant.keyed fits.number

@@ -25,9 +25,8 @@ exchange-requires-clause-to c =
 pub invariant_of-self-2 : goal.invariant_of-self-2
 invariant_of-self-2 c =
     let there = sym c.get_mut.ensures.value ∙ ap option_copied_mut c.in-Some.is in
-    let written = c.get_mut.follows.holds c.give.new.row in
-    given_counted c.args.number (controlled_by c.args.controller) c.self.inside.rows.entries (c.get_mut.follows.lender c.give.new.row).entries c.self.inside.counts.items c.exchange.new.counts.items c.in-Some.row.now (λ _. refl) c.self.invariant there
-    (written.0 ∙ ap (λ (row : OpenClient). set_value (nat_eq c.args.number) c.self.inside.rows.entries row) c.give.ensures) written.4 c.exchange.ensures.count
+    given_counted c.args.number (controlled_by c.args.controller) c.self.inside.rows.entries (set_value (nat_eq c.args.number) c.self.inside.rows.entries c.give.new.row) c.self.inside.counts.items c.exchange.new.counts.items c.in-Some.row.now (λ _. refl) c.self.invariant there
+    (ap (λ (row : OpenClient). set_value (nat_eq c.args.number) c.self.inside.rows.entries row) c.give.ensures) c.exchange.ensures.count
 
 pub returns-clause-none : goal.returns-clause-none
 returns-clause-none c =
@@ -37,18 +36,16 @@ returns-clause-none c =
 pub returns-clause-rows : goal.returns-clause-rows
 returns-clause-rows c =
     let there = sym c.get_mut.ensures.value ∙ ap option_copied_mut c.in-Some.is in
-    let written = c.get_mut.follows.holds c.give.new.row in
-    let rows = given_rows c.args.number (controlled_by c.args.controller) c.self.inside.rows.entries (c.get_mut.follows.lender c.give.new.row).entries c.in-Some.row.now (λ _. refl) c.self.invariant.keyed there
-    (written.0 ∙ ap (λ (row : OpenClient). set_value (nat_eq c.args.number) c.self.inside.rows.entries row) c.give.ensures)
+    let rows = given_rows c.args.number (controlled_by c.args.controller) c.self.inside.rows.entries (set_value (nat_eq c.args.number) c.self.inside.rows.entries c.give.new.row) c.in-Some.row.now (λ _. refl) c.self.invariant.keyed there
+    (ap (λ (row : OpenClient). set_value (nat_eq c.args.number) c.self.inside.rows.entries row) c.give.ensures)
     ∙ ap (λ (table : Table). changed (is_open c.args.number) (controlled_by c.args.controller) table.rows) c.self.view_is in
     let known = c.exchange.ensures.len ∙ ap (λ (table : Table). table.known) c.self.view_is in
-    let spare = written.6 ∙ ap (λ (table : Table). table.spare) c.self.view_is in
+    let spare = ap (λ (table : Table). table.spare) c.self.view_is in
     λ i. record { rows = rows i; known = known i; spare = spare i }
 
 pub returns-clause-clients : goal.returns-clause-clients
 returns-clause-clients c =
     let there = sym c.get_mut.ensures.value ∙ ap option_copied_mut c.in-Some.is in
-    let written = c.get_mut.follows.holds c.give.new.row in
-    given_clients c.args.number c.args.controller c.self.inside.rows.entries (c.get_mut.follows.lender c.give.new.row).entries c.in-Some.row.now c.self.invariant.keyed there
-    (written.0 ∙ ap (λ (row : OpenClient). set_value (nat_eq c.args.number) c.self.inside.rows.entries row) c.give.ensures)
+    given_clients c.args.number c.args.controller c.self.inside.rows.entries (set_value (nat_eq c.args.number) c.self.inside.rows.entries c.give.new.row) c.in-Some.row.now c.self.invariant.keyed there
+    (ap (λ (row : OpenClient). set_value (nat_eq c.args.number) c.self.inside.rows.entries row) c.give.ensures)
     ∙ ap (λ (table : Table). changed (is_client c.args.number) (λ client. record client { controller = Some c.args.controller.0 }) (clients_of table)) c.self.view_is

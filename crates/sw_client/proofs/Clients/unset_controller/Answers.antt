@@ -13,8 +13,7 @@ returns-in_default-clause-rows c =
     ap (λ (table : Table). find (is_open c.args.number) table.rows) (sym c.self.view_is)
     ∙ sym (found_by c.args.number c.self.inside.rows.entries c.self.invariant.keyed) ∙ sym c.get_mut.ensures.value ∙ ap option_copied_mut c.in_default.is in
     let same = unchanged c.args.number uncontrolled c.args.self.now.rows none in
-    rw c.get_mut.follows.holds-at-none
-    (c.self.view_is ∙ (λ i. record { rows = sym same i; known = c.args.self.now.known; spare = c.args.self.now.spare }))
+    c.self.view_is ∙ (λ i. record { rows = sym same i; known = c.args.self.now.known; spare = c.args.self.now.spare })
 
 pub lower-requires : goal.lower-requires
 lower-requires c = lowered c.args.number c.self.inside.rows.entries c.self.inside.counts.items c.in-Some.row.now c.self.invariant (sym c.get_mut.ensures.value ∙ ap option_copied_mut c.in-Some.is)
@@ -22,19 +21,17 @@ lower-requires c = lowered c.args.number c.self.inside.rows.entries c.self.insid
 pub invariant_of-self-2 : goal.invariant_of-self-2
 invariant_of-self-2 c =
     let there = sym c.get_mut.ensures.value ∙ ap option_copied_mut c.in-Some.is in
-    let written = c.get_mut.follows.holds c.release.new.row in
-    given_counted c.args.number uncontrolled c.self.inside.rows.entries (c.get_mut.follows.lender c.release.new.row).entries c.self.inside.counts.items c.lower.new.counts.items c.in-Some.row.now (λ _. refl) c.self.invariant there
-    (written.0 ∙ ap (λ (row : OpenClient). set_value (nat_eq c.args.number) c.self.inside.rows.entries row) c.release.ensures) written.4 (λ r. omega (arith, c.lower.ensures.count r))
+    given_counted c.args.number uncontrolled c.self.inside.rows.entries (set_value (nat_eq c.args.number) c.self.inside.rows.entries c.release.new.row) c.self.inside.counts.items c.lower.new.counts.items c.in-Some.row.now (λ _. refl) c.self.invariant there
+    (ap (λ (row : OpenClient). set_value (nat_eq c.args.number) c.self.inside.rows.entries row) c.release.ensures) (λ r. omega (arith, c.lower.ensures.count r))
 
 pub returns-clause-rows : goal.returns-clause-rows
 returns-clause-rows c =
     let there = sym c.get_mut.ensures.value ∙ ap option_copied_mut c.in-Some.is in
-    let written = c.get_mut.follows.holds c.release.new.row in
-    let rows = given_rows c.args.number uncontrolled c.self.inside.rows.entries (c.get_mut.follows.lender c.release.new.row).entries c.in-Some.row.now (λ _. refl) c.self.invariant.keyed there
-    (written.0 ∙ ap (λ (row : OpenClient). set_value (nat_eq c.args.number) c.self.inside.rows.entries row) c.release.ensures)
+    let rows = given_rows c.args.number uncontrolled c.self.inside.rows.entries (set_value (nat_eq c.args.number) c.self.inside.rows.entries c.release.new.row) c.in-Some.row.now (λ _. refl) c.self.invariant.keyed there
+    (ap (λ (row : OpenClient). set_value (nat_eq c.args.number) c.self.inside.rows.entries row) c.release.ensures)
     ∙ ap (λ (table : Table). changed (is_open c.args.number) uncontrolled table.rows) c.self.view_is in
     let known = c.lower.ensures.len ∙ ap (λ (table : Table). table.known) c.self.view_is in
-    let spare = written.6 ∙ ap (λ (table : Table). table.spare) c.self.view_is in
+    let spare = ap (λ (table : Table). table.spare) c.self.view_is in
     λ i. record { rows = rows i; known = known i; spare = spare i }
 
 pub returns-clause-users : goal.returns-clause-users

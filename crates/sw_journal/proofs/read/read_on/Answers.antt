@@ -3,10 +3,7 @@ use borrow.Rule.Slice.PartMut.{post_of, put_mid}
 use Rattle.sw_disk.specs.Image.{get}
 use Rattle.sw_disk.specs.DiskRule.{ReadsAt}
 use Rattle.sw_journal.proofs.read.read_on.Goals as goal
-use Rattle.sw_journal.proofs.ReadLemmas.{quiet_call, told_ok, read_into}
-
-pub returns-clause-quiet : goal.returns-clause-quiet
-returns-clause-quiet g c = quiet_call g.D.Disk _ _ c.read_at.ensures.seen c.read_at.ensures.crash c.read_at.ensures.time c.read_at.ensures.cause.later
+use Rattle.sw_journal.proofs.ReadLemmas.{told_ok, read_into}
 
 pub returns-clause-front : goal.returns-clause-front
 returns-clause-front g c =

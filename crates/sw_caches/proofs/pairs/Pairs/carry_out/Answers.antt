@@ -2,11 +2,11 @@ use Rattle.std.proofs.Common.{arith, rules, ◌≡◌, ◌≤◌, ◌+◌, ◌-�
 use Rattle.std.specs.Prelude.{vec_len, vec_capacity}
 use Rattle.std.specs.Result.{is_ok}
 use Rattle.std.proofs.lemmas.List.{length-append, map-append, length-map}
-use Rattle.sw_caches.specs.Numbered.{AllBelow, KeepsAbove}
+use Rattle.sw_index.specs.Numbered.{AllBelow, KeepsAbove}
 use Rattle.sw_caches.specs.Entries.{AreIndexed, number, pair, pair_digest, pairs}
 use Rattle.sw_caches.specs.Plans.{left_by}
 use Rattle.sw_caches.proofs.BatchLemmas.{left_both}
-use Rattle.sw_caches.proofs.IndexLemmas.{above_more, below_all, beside, joined}
+use Rattle.sw_index.proofs.IndexLemmas.{above_more, below_all, beside, joined}
 use Rattle.sw_caches.proofs.pairs.Pairs.carry_out.Goals as goal
 
 pub invariant_of-self : goal.invariant_of-self

@@ -1,14 +1,17 @@
-use Rattle.std.proofs.Common.{List, ◌∙◌, ◌++◌, ◌∷◌, [], ap}
-use Rattle.std.specs.List.{list_any}
-use Rattle.sw_data.specs.declared.storage.KeptRegistration.{KeptRegistration}
+use Rattle.std.proofs.Common.{◌≡◌, ◌∙◌, ◌++◌, ◌∷◌, [], ap, sym, subst}
+use Rattle.std.specs.List.{IsDistinct, list_any}
+use Rattle.std.specs.Map.{keys_of}
 use Rattle.sw_rules.specs.Storage.{is_registration}
-use Rattle.sw_change.specs.Table.{kept_row, kept_rows}
-use Rattle.sw_change.proofs.Entries.{added_rows}
+use Rattle.sw_change.specs.Table.{is_same}
+use Rattle.sw_change.proofs.Entries.{Entries, added_apart}
 use Rattle.sw_change.proofs.registrations.Registrations.add.Goals as goal
 
-pub returns-clause-ok : goal.returns-clause-ok
-returns-clause-ok c =
+pub invariant_of-self-2 : goal.invariant_of-self-2
+invariant_of-self-2 c =
     let place = c.args.place in
-    ap kept_rows c.in_ok-insert.ensures.entries
-    ∙ added_rows place c.args.row c.self.inside.rows.entries (ap (list_any (is_registration place.0 place.1)) c.self.view_is ∙ c.requires)
-    ∙ ap (λ (rows : List KeptRegistration). rows ++ kept_row (place, c.args.row) ∷ []) c.self.view_is
+    let row = c.args.row in
+    let was = c.self.inside.rows.rows in
+    let made = c.in_ok-new.ensures in
+    let added : c.put.new.self.rows ≡ was ++ (place, row) ∷ [] = c.put.ensures ∙ (λ i. made.same i ++ ((made.key i, made.name i), row) ∷ []) in
+    subst (λ (entries : Entries). IsDistinct is_same (keys_of entries)) (sym added)
+    (added_apart place row was c.self.invariant (ap (list_any (is_registration place.0 place.1)) c.self.view_is ∙ c.requires))

@@ -1,25 +1,22 @@
-use Rattle.std.proofs.Common.{◌∙◌, sym, ap}
-use Rattle.std.specs.Option.{option_copied_mut}
-use Rattle.sw_change.specs.Table.{edited, kept_rows}
-use Rattle.sw_change.proofs.Entries.{edited_rows, same_rows}
+use Rattle.std.proofs.Common.{◌∙◌, sym, ap, subst}
+use Rattle.std.specs.List.{IsDistinct}
+use Rattle.sw_rules.specs.Storage.{with_registration}
+use Rattle.sw_change.specs.Table.{edited, is_same}
+use Rattle.sw_change.proofs.Entries.{edited_rows, found, same_keys, same_rows}
 use Rattle.sw_change.proofs.registrations.Registrations.edit.Goals as goal
-use Rattle.sw_change.proofs.registrations.Registrations.edit.Goals.{in-Some, in_default+in-Waiting-1, in_default+in-Preload-1, in_default+in-Active-1}
 
-pub returns : goal.returns
-returns c =
+pub invariant_of-self : goal.invariant_of-self
+invariant_of-self c = subst (IsDistinct is_same) (sym (same_keys c.self.inside.rows.rows c.in-Some.at c.edit.new.self)) c.self.invariant
+
+pub returns-in-Some : goal.returns-in-Some
+returns-in-Some c =
     let place = c.args.place.now in
-    let entries = c.self.inside.rows.entries in
-    let f = edited c.args.edit in
-    rw (← c.self.view_is)
-    elim c.match-get_mut.branch [
-      | in-Some w ↦
-          rw w.self-inside-is
-          (ap kept_rows (c.get_mut.follows.holds _).0
-          ∙ sym (edited_rows place f entries w.in-Some.row.now w.edit.new.self c.self.invariant (sym c.get_mut.ensures.value ∙ ap option_copied_mut w.in-Some.is) w.edit.ensures))
-      | in_default+in-Waiting-1 w ↦
-          rw (w.self-inside-is, c.get_mut.follows.holds-at-none) (sym (same_rows place f entries (sym c.get_mut.ensures.value ∙ ap option_copied_mut w.in_default.is)))
-      | in_default+in-Preload-1 w ↦
-          rw (w.self-inside-is, c.get_mut.follows.holds-at-none) (sym (same_rows place f entries (sym c.get_mut.ensures.value ∙ ap option_copied_mut w.in_default.is)))
-      | in_default+in-Active-1 w ↦
-          rw (w.self-inside-is, c.get_mut.follows.holds-at-none) (sym (same_rows place f entries (sym c.get_mut.ensures.value ∙ ap option_copied_mut w.in_default.is)))
-    ]
+    let was = c.self.inside.rows.rows in
+    let here = found place was c.in-Some.at (sym c.place.ensures ∙ c.in-Some.is) in
+    edited_rows place (edited c.args.edit) was c.in-Some.at c.value_mut.result.now c.edit.new.self c.self.invariant here.0 here.1 c.value_mut.ensures.value c.edit.ensures
+    ∙ ap (with_registration place.0 place.1 (edited c.args.edit)) c.self.view_is
+
+pub returns-in_default : goal.returns-in_default
+returns-in_default c =
+    let place = c.args.place.now in
+    rw (← c.self.view_is) (sym (same_rows place (edited c.args.edit) c.self.inside.rows.rows (sym c.in_default.is ∙ c.place.ensures)))

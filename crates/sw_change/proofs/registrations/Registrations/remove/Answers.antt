@@ -1,12 +1,23 @@
-use Rattle.std.proofs.Common.{List, ◌∙◌, not, filter, ap}
+use Rattle.std.proofs.Common.{Bool, List, ◌∙◌, not, filter, ap, sym, subst}
+use Rattle.std.specs.List.{IsDistinct}
+use Rattle.std.specs.Map.{keys_of}
+use Rattle.std.proofs.lemmas.Map.Made.{IsDistinct-keys_filter}
 use Rattle.sw_data.specs.declared.storage.KeptRegistration.{KeptRegistration}
 use Rattle.sw_rules.specs.Storage.{is_registration}
-use Rattle.sw_change.specs.Table.{kept_rows}
-use Rattle.sw_change.proofs.Entries.{removed_rows}
+use Rattle.sw_index.specs.Named.{is_at}
+use Rattle.sw_change.specs.Table.{is_same, kept_rows}
+use Rattle.sw_change.proofs.Entries.{Entries, filtered}
 use Rattle.sw_change.proofs.registrations.Registrations.remove.Goals as goal
+
+pub invariant_of-self : goal.invariant_of-self
+invariant_of-self c =
+    let place = c.args.place.now in
+    subst (λ (entries : Entries). IsDistinct is_same (keys_of entries)) (sym c.remove_named.ensures)
+    (IsDistinct-keys_filter is_same (λ row. not (is_at place.0 place.1 row)) c.self.inside.rows.rows c.self.invariant)
 
 pub returns : goal.returns
 returns c =
     let place = c.args.place.now in
-    ap kept_rows c.shift_remove.ensures.entries ∙ removed_rows place c.self.inside.rows.entries c.self.invariant
-    ∙ ap (λ (rows : List KeptRegistration). filter (λ row. not (is_registration place.0 place.1 row)) rows) c.self.view_is
+    let kept : KeptRegistration → Bool = λ row. not (is_registration place.0 place.1 row) in
+    ap kept_rows c.remove_named.ensures ∙ filtered kept c.self.inside.rows.rows
+    ∙ ap (λ (rows : List KeptRegistration). filter kept rows) c.self.view_is

@@ -1,14 +1,21 @@
-use Rattle.std.proofs.Common.{rules, List, ◌∙◌, not, filter, ap}
+use Rattle.std.proofs.Common.{Bool, List, ◌∙◌, not, filter, ap, sym, subst}
 use Rattle.std.specs.Prelude.{bytes_eq}
-use Rattle.std.proofs.lemmas.Map.Made.{filter_same_pairs}
+use Rattle.std.specs.List.{IsDistinct}
+use Rattle.std.specs.Map.{keys_of}
+use Rattle.std.proofs.lemmas.Map.Made.{IsDistinct-keys_filter}
 use Rattle.sw_data.specs.declared.storage.KeptRegistration.{KeptRegistration}
-use Rattle.sw_change.specs.Table.{kept_rows}
-use Rattle.sw_change.proofs.Entries.{of_key_removed}
+use Rattle.sw_index.specs.Named.{is_of}
+use Rattle.sw_change.specs.Table.{is_same, kept_rows}
+use Rattle.sw_change.proofs.Entries.{Entries, filtered}
 use Rattle.sw_change.proofs.registrations.Registrations.remove_key.Goals as goal
+
+pub invariant_of-self : goal.invariant_of-self
+invariant_of-self c =
+    subst (λ (entries : Entries). IsDistinct is_same (keys_of entries)) (sym c.remove_key.ensures)
+    (IsDistinct-keys_filter is_same (λ row. not (is_of c.args.key.now row)) c.self.inside.rows.rows c.self.invariant)
 
 pub returns : goal.returns
 returns c =
-    let key = c.args.key.now in
-    ap kept_rows (filter_same_pairs _ (λ entry. not (bytes_eq entry.0.0 key)) _ (λ k v b w g call. search rules) _ _ c.retain.ensures.filtered)
-    ∙ of_key_removed key c.self.inside.rows.entries
-    ∙ ap (λ (rows : List KeptRegistration). filter (λ row. not (bytes_eq row.key key)) rows) c.self.view_is
+    let kept : KeptRegistration → Bool = λ row. not (bytes_eq row.key c.args.key.now) in
+    ap kept_rows c.remove_key.ensures ∙ filtered kept c.self.inside.rows.rows
+    ∙ ap (λ (rows : List KeptRegistration). filter kept rows) c.self.view_is

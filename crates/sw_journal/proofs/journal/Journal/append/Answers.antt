@@ -1,14 +1,11 @@
-use Rattle.std.proofs.Common.{rules, arith, ◌≡◌, ◌+◌, ◌-◌, ◌++◌, List, [], ◌∷◌, length, sym, ◌∙◌, ap, vec_capacity, ℕ}
-use Rattle.sw_journal.specs.Format.{format_2, record_bytes, needed_length}
+use Rattle.std.proofs.Common.{rules, arith, ◌≡◌, ◌+◌, ◌-◌, length, ◌∙◌, ap, vec_capacity, ℕ}
+use Rattle.sw_journal.specs.Format.{format_2, needed_length}
 use Rattle.sw_journal.specs.Journal.{JournalState}
 use Rattle.sw_journal.specs.Version.{format_at}
 use Rattle.sw_journal.proofs.Appends.{IsAppend, inside, put_record, added, acknowledged, any_moment, since_entry, since_start, stands_more}
 use Rattle.sw_journal.proofs.journal.Journal.append.Given.{Over}
 use Rattle.sw_journal.proofs.journal.Journal.append.Goals as goal
 use Rattle.sw_journal.proofs.journal.Journal.append.Goals.{After-deref}
-
-joined : {x y z w : List ℕ} → x ≡ y → y ≡ z → z ≡ w → x ≡ w
-joined one two three = one ∙ two ∙ three
 
 -- what is handed on is what the journal appends
 spelled : (g : Over) (c : After-deref g) → IsAppend c.args.self.now c.args.payload.now c.self.inside.part c.self.inside.gate c.deref.result.now
@@ -19,7 +16,7 @@ spelled g c =
     record {
       part_is = ap (λ (j : JournalState). j.part) c.self.view_is;
       gate_is = ap (λ (j : JournalState). j.gate) c.self.view_is;
-      bytes_are = joined c.deref.ensures.value c.spell_record.ensures.spelled (λ i. record_bytes (sym format_is i) (count_is i) payload ++ 0 ∷ []);
+      bytes_are = cc (c.deref.ensures.value, c.spell_record.ensures.spelled);
       second = format_is;
       few = omega (arith, c.self.invariant, count_is);
       short = search rules;

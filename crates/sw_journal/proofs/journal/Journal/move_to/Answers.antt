@@ -1,5 +1,3 @@
-use Rattle.std.proofs.Common.{◌-◌, refl, vec_capacity}
-use Rattle.sw_journal.specs.Format.{format_2}
 use Rattle.sw_journal.proofs.WholeParts.{end_is, stands_in}
 use Rattle.sw_journal.proofs.journal.Journal.move_to.Goals as goal
 
@@ -7,7 +5,4 @@ pub returns-clause-end : goal.returns-clause-end
 returns-clause-end c payloads is = end_is payloads c.args.contents.now is c.end_of_records-gate.result.0 c.end_of_records-gate.result.1 c.end_of_records-gate.ensures.end
 
 pub returns-clause-stands : goal.returns-clause-stands
-returns-clause-stands c =
-    let r = c.end_of_records-gate.result in
-    stands_in c.requires.whole.0 c.args.contents.now c.requires.whole.1 r.0 r.1 c.end_of_records-gate.ensures.end
-    (record { part = c.args.part; format = format_2; gate = r.0; count = r.1; limit = c.self.inside.limit; spare = vec_capacity c.self.inside.buffer - 13 }) refl refl refl
+returns-clause-stands c = stands_in c.requires.whole.0 c.args.contents.now c.requires.whole.1 c.end_of_records-gate.result.0 c.end_of_records-gate.result.1 c.end_of_records-gate.ensures.end

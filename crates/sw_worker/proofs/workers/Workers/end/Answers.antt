@@ -6,8 +6,8 @@ use Rattle.sw_worker.proofs.workers.Workers.end.Goals as goal
 pub invariant_of-self : goal.invariant_of-self
 invariant_of-self c =
     let counts = c.self.inside.counts.items in
-    let found = sym (c.copied.ensures ∙ c.get.ensures.value) ∙ c.in-Some.is in
-    subst (λ (n : ℕ). IsKept c.self.inside.rows.items (slice_set counts c.in-Some.worker (n - 1)) c.shift_remove.new.self.entries c.self.inside.activating.flags)
+    let found = sym (c.copied.ensures ∙ c.get.ensures) ∙ c.in-Some.is in
+    subst (λ (n : ℕ). IsKept c.self.inside.rows.items (slice_set counts c.in-Some.worker (n - 1)) c.remove.new.self.entries c.self.inside.activating.flags)
     (sym c.index_mut.ensures.value)
-    (kept_ended c.self.inside.rows.items counts c.self.inside.events.entries c.shift_remove.new.self.entries c.self.inside.activating.flags c.args.event
-    c.in-Some.worker c.index_mut.result.now c.self.invariant found c.shift_remove.ensures.entries c.shift_remove.ensures.unique)
+    (kept_ended c.self.inside.rows.items counts c.self.inside.events.entries c.remove.new.self.entries c.self.inside.activating.flags c.args.event
+    c.in-Some.worker c.index_mut.result.now c.self.invariant found c.remove.ensures.entries c.remove.ensures.apart)

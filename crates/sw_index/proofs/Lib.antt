@@ -1,0 +1,4 @@
+pub mod FindLemmas
+pub mod IndexLemmas
+mod RowLemmas
+pub mod SlotLemmas

@@ -1,0 +1,29 @@
+use Rattle.std.proofs.Common.{◌≡◌, ◌∙◌, ap, sym, arith, length, ◌+◌, ◌<◌}
+use Rattle.std.proofs.lemmas.List.{length-map, length_push}
+use Rattle.std.proofs.lemmas.List.Elements.{All-push}
+use Rattle.sw_index.specs.declared.row.Row.{Row}
+use Rattle.sw_index.specs.Slots.{has}
+use Rattle.sw_index.specs.Named.{digest_by, named_row, number, row_digest}
+use Rattle.sw_index.proofs.IndexLemmas.{added}
+use Rattle.sw_index.proofs.named.Named.put.Goals as goal
+
+pub invariant_of-self : goal.invariant_of-self
+invariant_of-self g c =
+    let was = c.self.inside in
+    let made = c.new.inside in
+    let row : Row g.row.V.Denot = record { key = made.key; name = made.name; value = c.args.value; number = was.next } in
+    let next : was.next ≡ c.args.self.now.next = ap (λ v. v.next) c.self.view_is in
+    let slots = ap (λ v. v.slots) c.self.view_is in
+    let key = ap (λ v. v.key) c.new.view_is in
+    let name = ap (λ v. v.name) c.new.view_is in
+    let count : length was.rows.items ≡ length c.args.self.now.rows = sym (length-map was.rows.items named_row) ∙ ap (λ v. length v.rows) c.self.view_is in
+    let few = c.requires.few in
+    let last = c.requires.last in
+    let start = c.self.invariant.2 in
+    rw c.push_reserved.ensures.items (
+      added number named_row row_digest was.rows.items row was.slots c.self.invariant.1 (start, omega (arith, last, next))
+          (λ kind. (λ i. has (slots i) (digest_by kind (key i, name i)) (next i)) ∙ c.requires.indexed kind) c.self.invariant.0,
+      All-push (λ entry. number entry < was.next + 1) was.rows.items row (λ k d l. let low = c.self.invariant.1 k d l in omega (arith, low)) (omega arith),
+      omega arith,
+      omega (arith, length_push was.rows.items row, count, few),
+    )

@@ -1,0 +1,4 @@
+pub mod Lends
+pub mod Named
+pub mod Numbered
+pub mod Slots

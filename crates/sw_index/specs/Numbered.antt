@@ -1,0 +1,54 @@
+-- Numbered entries and what an index has to say of them.
+use Rattle.std.specs.Prelude.{◌≡◌, ℕ, ◌<◌, ◌≤◌, ◌^◌, Bool, true, false, not, List, map, filter, find, Option, length, slice_index_or}
+use Rattle.std.specs.List.{All, AllPairs, enumerate_from}
+use Rattle.std.specs.BTreeSet.{BTreeSet}
+use Rattle.sw_index.specs.Slots.{Slot, has}
+
+-- the first item that passes a test, behind its place
+abbrev pub first_by : {Y : Type 0} → (Y → Bool) → List Y → Option (ℕ × Y)
+first_by test items = find (λ item. test item.1) (enumerate_from 0 items)
+
+-- the items that don't pass a test
+abbrev pub without_by : {Y : Type 0} → (Y → Bool) → List Y → List Y
+without_by test items = filter (λ item. not (test item)) items
+
+module _ {X : Type 0} (number : X → ℕ) where
+  -- each number is below this one
+  abbrev pub AllBelow : ℕ → List X → Type 0
+  AllBelow top entries = All (λ entry. number entry < top) entries
+
+  -- each number is this one or above it
+  abbrev pub AllFrom : ℕ → List X → Type 0
+  AllFrom low entries = All (λ entry. low ≤ number entry) entries
+
+  -- the entry of this number is at this place
+  abbrev pub StandsAt : List X → ℕ → ℕ → Type 0
+  StandsAt entries n place = (place < length entries) × ((d : X) → number (slice_index_or entries place d) ≡ n)
+
+  -- numbers above all are as before
+  abbrev pub KeepsAbove : List X → BTreeSet Slot → List X → BTreeSet Slot → Type 0
+  KeepsAbove old before new after =
+      (n : ℕ) → AllBelow n old → AllBelow n new × ((key : ℕ) → has after key n ≡ has before key n)
+
+module _ {X Y : Type 0} (number : X → ℕ) (item : X → Y) where
+  -- a matching entry has a number above this one
+  abbrev pub MatchOnlyAbove : (Y → Bool) → List X → ℕ → Type 0
+  MatchOnlyAbove test entries low = All (λ entry. test (item entry) ≡ true → low < number entry) entries
+
+  -- no entry of this number matches
+  abbrev pub NoneOfNumber : (Y → Bool) → List X → ℕ → Type 0
+  NoneOfNumber test entries n = All (λ entry. number entry ≡ n → test (item entry) ≡ false) entries
+
+-- an item has a digest of each of two kinds
+module _ {X Y : Type 0} (number : X → ℕ) (item : X → Y) (digest_of : Bool → Y → ℕ) where
+  -- the numbers rise from 1, and the index has each under the digests of its item
+  pub record IsIndexed (entries : List X) (slots : BTreeSet Slot) : Type 0 where
+    pub rising : AllPairs (λ left right. number left < number right) entries
+    pub bounded : All (λ entry. (0 < number entry) × (number entry < 2 ^ 64)) entries
+    pub indexed : (kind : Bool) → All (λ entry. has slots (digest_of kind (item entry)) (number entry) ≡ true) entries
+
+  -- what taking out entries that pass a test leaves
+  pub record IsThinned (test : Y → Bool) (old : List X) (before : BTreeSet Slot) (new : List X) (after : BTreeSet Slot) : Type 0 where
+    pub indexed : IsIndexed new after
+    pub others : without_by test (map item new) ≡ without_by test (map item old)
+    pub above : KeepsAbove number old before new after

@@ -1,0 +1,45 @@
+-- An index: numbers behind digests.
+use Rattle.std.specs.Prelude.{◌≡◌, ℕ, ◌<◌, ◌*◌, ◌%◌, ◌^◌, Bool, true, false, List, fold, bit_xor}
+use Rattle.std.specs.Ordering.{nat_cmp, ordering_then}
+use Rattle.std.specs.declared.cmp.Ordering.{Ordering}
+use Rattle.std.specs.BTreeSet.{BTreeSet, contains}
+
+-- a digest and a number
+abbrev pub Slot : Type 0
+Slot = ℕ × ℕ
+
+-- the order of slots
+abbrev pub slot_cmp : Slot → Slot → Ordering
+slot_cmp left right = ordering_then (nat_cmp left.0 right.0) (nat_cmp left.1 right.1)
+
+-- the index has this number under this digest
+abbrev pub has : BTreeSet Slot → ℕ → ℕ → Bool
+has slots key number = contains slot_cmp slots (key, number)
+
+-- one more byte in a digest
+abbrev pub mixed : ℕ → ℕ → ℕ
+mixed sum byte = bit_xor sum byte * 1099511628211 % 2 ^ 64
+
+-- a digest that goes on over bytes
+unfoldable pub digest_from : ℕ → List ℕ → ℕ
+digest_from sum bytes = fold mixed sum bytes
+
+-- a number of 64 bits made of bytes (FNV-1a)
+abbrev pub digest : List ℕ → ℕ
+digest bytes = digest_from 14695981039346656037 bytes
+
+-- no number of the index between two
+abbrev pub NoneBetween : BTreeSet Slot → ℕ → ℕ → ℕ → Type 0
+NoneBetween slots key low high = (n : ℕ) → low < n → n < high → has slots key n ≡ false
+
+-- the index has at least what it had
+abbrev pub KeepsSlots : BTreeSet Slot → BTreeSet Slot → Type 0
+KeepsSlots before after = (key n : ℕ) → has before key n ≡ true → has after key n ≡ true
+
+-- the index has what it had under other numbers
+abbrev pub KeepsOthers : ℕ → BTreeSet Slot → BTreeSet Slot → Type 0
+KeepsOthers number before after = (key n : ℕ) → (n ≡ number → ⊥) → has after key n ≡ has before key n
+
+-- the index has what it had under numbers below this one
+abbrev pub KeepsBelow : ℕ → BTreeSet Slot → BTreeSet Slot → Type 0
+KeepsBelow top before after = (key n : ℕ) → n < top → has after key n ≡ has before key n

@@ -1,0 +1,184 @@
+//! Values under keys and names.
+
+ghost use Rattle.std.specs.Prelude.{◌≡◌, ◌<◌, ◌+◌, ◌^◌, ◌++◌, ◌∷◌, [], Some, IfOk, not, filter, length, drop, position, option_map, slice_get};
+ghost use Rattle.std.specs.Borrow.{sem};
+ghost use Rattle.std.specs.Option.{IfSome};
+ghost use Rattle.sw_index.specs.Named.{Fits, is_at, is_of, named_row, named_rows, values};
+
+use crate::row::{Row, drop_asked, first_asked, mark};
+use crate::slots::Slots;
+use std::alloc::Global;
+use std::collections::BTreeSet;
+use std::marker::Model;
+use sw_data::{NoMemory, Text};
+
+// The most rows that there may be.
+const ROWS_LIMIT: usize = 4_294_967_295;
+
+/// A place for a value, which was made for a key and a name and isn't in the table yet.
+#[derive(Drop)]
+pub struct NewRow {
+    key: Text,
+    name: Text,
+}
+
+impl Model for NewRow {
+    ghost use Rattle.sw_index.specs.Named.{Made};
+
+    ghost Value = { Made };
+
+    ghost view = { λ new. record { key = new.key; name = new.name } };
+}
+
+/// Values under keys and names, in order of adding. An index finds the rows of a key, or of a key
+/// and a name, in the time that they take themselves.
+#[derive(Drop)]
+pub struct Named<V> {
+    rows: Vec<Row<V>>,
+    slots: Slots,
+    next: u64,
+}
+
+impl<V> Model for Named<V> {
+    ghost use Rattle.std.specs.Prelude.{◌<◌, ◌-◌, ◌^◌, length, vec_len, vec_capacity};
+    ghost use Rattle.sw_index.specs.Numbered.{AllBelow};
+    ghost use Rattle.sw_index.specs.Named.{AreIndexed, Listing, named_rows, number};
+
+    ghost Value = { Listing V };
+
+    ghost view = { λ named. record {
+      rows = named_rows named.rows.items;
+      slots = named.slots;
+      next = named.next;
+      spare = vec_capacity named.rows - vec_len named.rows;
+    } };
+
+    ghost invariant = { λ named. AreIndexed named.rows.items named.slots
+        × AllBelow number named.next named.rows.items
+        × (0 < named.next)
+        × (length named.rows.items < 2 ^ 32) };
+}
+
+impl<V> Named<V> {
+    ghost use Rattle.sw_index.specs.Lends.{lends_value};
+
+    /// No rows; it takes no memory.
+    pub fn new(alloc: Global) -> Named<V>
+        ensures { result.rows ≡ [] }
+    {
+        Named {
+            rows: Vec::new(alloc),
+            slots: BTreeSet::new(alloc),
+            next: 1,
+        }
+    }
+
+    /// How many rows there are; it takes no memory.
+    pub fn len(&self) -> usize
+        ensures len { result ≡ length self.now.rows }
+        ensures few { length self.now.rows < 2 ^ 32 }
+    {
+        self.rows.len()
+    }
+
+    /// The rows in order; it takes no memory.
+    pub fn rows(&self) -> &[Row<V>]
+        ensures { named_rows result.now ≡ self.now.rows }
+    {
+        self.rows.as_slice()
+    }
+
+    /// The rows as a list of their own, none of them copied; it takes no memory.
+    pub fn into_rows(self) -> Vec<Row<V>>
+        ensures { named_rows result.items ≡ self.rows }
+    {
+        self.rows
+    }
+
+    /// The place for a row of this key and name, and the room for it.
+    pub fn make_row(&mut self, key: Text, name: Text) -> Result<NewRow, NoMemory>
+        ensures same { self.new.rows ≡ self.old.rows }
+        ensures key { IfOk result (λ new. new.key ≡ key) }
+        ensures name { IfOk result (λ new. new.name ≡ name) }
+        ensures fits { IfOk result (λ new. Fits new self.new) }
+    {
+        if self.rows.len() >= ROWS_LIMIT || self.next == u64::MAX {
+            return Err(NoMemory);
+        }
+        self.rows.reserve(1)?;
+        mark(&mut self.slots, &key, &name, self.next)?;
+        Ok(NewRow { key, name })
+    }
+
+    /// Adds a value at the end, in a place that was made for it; it takes no memory.
+    pub fn put(&mut self, new: NewRow, value: V)
+        requires { Fits new self.old }
+        ensures { self.new.rows ≡ self.old.rows ++ ((new.key, new.name), value) ∷ [] }
+    {
+        let NewRow { key, name } = new;
+        self.rows.push_reserved(Row {
+            key,
+            name,
+            value,
+            number: self.next,
+        });
+        self.next += 1;
+    }
+
+    /// The place of the first row of a key and a name; it takes no memory.
+    pub fn place(&self, key: &Text, name: &Text) -> Option<usize>
+        ensures { result ≡ position (is_at key.now name.now) self.now.rows }
+    {
+        first_asked(&self.rows, &self.slots, key, Some(name))
+    }
+
+    /// The place of the first row of a key at `from` or behind it; it takes no memory.
+    pub fn next_of(&self, key: &Text, from: usize) -> Option<usize>
+        ensures place { result ≡ option_map (λ place. from + place)
+            (position (is_of key.now) (drop from self.now.rows)) }
+        ensures low { IfSome result (λ place. place < length self.now.rows) }
+        ensures few { length self.now.rows < 2 ^ 32 }
+    {
+        if from >= self.rows.len() {
+            return None;
+        }
+        let rest = self.rows.split_at(from).1;
+        match first_asked(rest, &self.slots, key, None) {
+            Some(place) => Some(from + place),
+            None => None,
+        }
+    }
+
+    /// The row at a place; it takes no memory.
+    pub fn row(&self, place: usize) -> &Row<V>
+        requires { place < length self.now.rows }
+        ensures { slice_get self.now.rows place ≡ Some (named_row result.now) }
+    {
+        &self.rows[place]
+    }
+
+    /// The value at a place, which can be written; it takes no memory.
+    pub fn value_mut(&mut self, place: usize) -> &mut V
+        requires { place < length self.old.rows }
+        ensures* writes_back { sem 𝓛 (lends_value V.row self.entry place result) }
+        ensures value { slice_get (values self.old.rows) place ≡ Some result.now }
+    {
+        self.rows[place].value_mut()
+    }
+}
+
+impl<V: Drop> Named<V> {
+    /// Removes the rows of a key and a name; it takes no memory.
+    pub fn remove_named(&mut self, key: &Text, name: &Text)
+        ensures { self.new.rows ≡ filter (λ row. not (is_at key.now name.now row)) self.old.rows }
+    {
+        drop_asked(&mut self.rows, &mut self.slots, key, Some(name));
+    }
+
+    /// Removes the rows of a key; it takes no memory.
+    pub fn remove_key(&mut self, key: &Text)
+        ensures { self.new.rows ≡ filter (λ row. not (is_of key.now row)) self.old.rows }
+    {
+        drop_asked(&mut self.rows, &mut self.slots, key, None);
+    }
+}

@@ -1,0 +1,71 @@
+//! An index: a set of slots, each a digest and a number.
+
+ghost use Rattle.std.specs.Prelude.{◌≡◌, ◌^◌, ◌<◌, true, MatchOption, OnOk};
+ghost use Rattle.sw_index.specs.Slots.{KeepsOthers, KeepsSlots, NoneBetween, digest, digest_from, has, mixed};
+
+use std::collections::BTreeSet;
+use std::ops::Bound;
+use sw_data::NoMemory;
+
+/// Numbers behind digests. It may hold more than it must: whoever finds a number by a digest looks
+/// up what has the number, and tests it.
+pub type Slots = BTreeSet<(u64, u64)>;
+
+/// A digest with one more byte; it takes no memory.
+pub fn mixed(sum: u64, byte: u8) -> u64
+    ensures { result ≡ mixed sum byte }
+{
+    (sum ^ u64::from(byte)).wrapping_mul(1_099_511_628_211)
+}
+
+/// A digest that goes on over bytes; it takes no memory.
+#[tactic(auto, unfolding(crate::specs::Slots::digest_from))]
+pub fn digest_from(start: u64, bytes: &[u8]) -> u64
+    ensures { result ≡ digest_from start bytes.now }
+{
+    let mut sum = start;
+    for byte in bytes {
+        sum = mixed(sum, *byte);
+    }
+    sum
+}
+
+/// A digest of bytes; it takes no memory. Strangers can choose bytes that have the same one.
+pub fn digest(bytes: &[u8]) -> u64
+    ensures { result ≡ digest bytes.now }
+{
+    digest_from(14_695_981_039_346_656_037, bytes)
+}
+
+/// The least number above another one that the index has under a digest; it takes no memory.
+pub fn next_number(slots: &Slots, key: u64, after: u64) -> Option<u64>
+    ensures { MatchOption result (NoneBetween slots.now key after (2 ^ 64))
+        (λ n. (after < n) × NoneBetween slots.now key after n) }
+{
+    let range = (
+        Bound::Excluded((key, after)),
+        Bound::Included((key, u64::MAX)),
+    );
+    match slots.range(range).next() {
+        Some(slot) => Some(slot.1),
+        None => None,
+    }
+}
+
+/// Puts a number under a digest.
+pub fn put_number(slots: &mut Slots, key: u64, number: u64) -> Result<(), NoMemory>
+    ensures keeps { KeepsSlots slots.old slots.new }
+    ensures marked { OnOk result (has slots.new key number ≡ true) }
+{
+    match slots.insert((key, number)) {
+        Ok(_) => Ok(()),
+        Err(_) => Err(NoMemory),
+    }
+}
+
+/// Takes a number from under a digest; it takes no memory.
+pub fn take_number(slots: &mut Slots, key: u64, number: u64)
+    ensures { KeepsOthers number slots.old slots.new }
+{
+    slots.remove(&(key, number));
+}
