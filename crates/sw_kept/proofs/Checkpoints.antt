@@ -1,5 +1,5 @@
 -- A content that is written as a whole part, and what a disk keeps while it goes over to it.
-use Rattle.std.proofs.Common.{◌≡◌, inl, inr, ℕ, ◌+◌, ◌<◌, ◌^◌, List, [], ◌∷◌, ◌++◌, length, All, Ok, Err, Result, refl, ◌∙◌, ap}
+use Rattle.std.proofs.Common.{◌≡◌, inl, inr, ℕ, ◌+◌, ◌<◌, ◌^◌, List, [], ◌∷◌, ◌++◌, length, All, Ok, Err, Result, refl, ◌∙◌, ap, arith, length-append}
 use Rattle.std.proofs.lemmas.List.Elements.{All-cons, All-nil}
 use Rattle.std.specs.Prelude.{IfOk}
 use Rattle.sw_change.proofs.LawLemmas.{rebuilt}
@@ -13,8 +13,8 @@ use Rattle.sw_disk.specs.Meanings.{Becomes, IsDurable, LeavesOnly, LeavesSteps}
 use Rattle.sw_disk.proofs.Images.{told_at, told_some}
 use Rattle.sw_disk.proofs.Moments.{weaker}
 use Rattle.sw_journal.specs.Content.{Records, content}
-use Rattle.sw_journal.specs.Format.{format_2, needed_length}
-use Rattle.sw_journal.specs.WholePart.{IsWhole, placed}
+use Rattle.sw_journal.specs.Format.{format_2, needed_length, record_bytes}
+use Rattle.sw_journal.specs.WholePart.{IsWhole, open_records, place_behind, placed}
 use Rattle.sw_kept.proofs.Appended.{kept_left, keeps_durably, told_after}
 use Rattle.sw_kept.proofs.Contents.{ok, same_kept}
 use Rattle.sw_kept.specs.Keeping.{KeepsNow}
@@ -59,9 +59,21 @@ pub keeps_whole : (kept : Kept) (payloads : List (List ℕ)) (part : List ℕ) �
     → content part ≡ Records (placed format_2 16 payloads) → IsContents kept part
 keeps_whole kept payloads part made each whole has = record {
   payloads = payloads;
+  each = each;
   whole = whole;
   keeps = ap stored_of has ∙ ap kept_by (made_placed (checkpoint_changes kept) payloads 16 nothing each ∙ ap ok (rebuilt kept made));
 }
+
+-- open records reach from their first gate to the offset behind them
+open_end : (number gate : ℕ) (payloads : List (List ℕ)) → gate + length (open_records format_2 number payloads) ≡ place_behind format_2 gate payloads
+open_end number gate [] = omega arith
+open_end number gate (payload ∷ payloads) =
+    let rest = open_records format_2 (number + 1) payloads in
+    omega (arith, open_end (number + 1) (gate + needed_length format_2 (length payload)) payloads, length-append (record_bytes format_2 number payload) rest)
+
+-- a whole part ends with its closed gate
+pub whole_end : (payloads : List (List ℕ)) (part : List ℕ) → IsWhole payloads part → place_behind format_2 16 payloads + 1 ≡ length part
+whole_end payloads part is = omega (arith, open_end 0 16 payloads, ap length is.whole, length-append (open_records format_2 0 payloads) (0 ∷ []))
 
 -- what follows from two things of a result
 pub if_both : {X E : Type 0} (r : Result X E) (P Q R : X → Type 0) → ((x : X) → P x → Q x → R x) → IfOk r P → IfOk r Q → IfOk r R

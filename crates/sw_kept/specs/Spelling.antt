@@ -6,6 +6,7 @@ use Rattle.sw_data.specs.declared.storage.Kept.{Kept}
 use Rattle.sw_journal.specs.Content.{content}
 use Rattle.sw_journal.specs.WholePart.{IsWhole}
 use Rattle.sw_kept.specs.Stored.{Keeps, stored_of}
+use Rattle.sw_rules.specs.Durable.{checkpoint_changes}
 
 -- own: a payload spells this change alone, and is shorter than 2^32 bytes
 pub record SpellsOne (change : Change) (payload : List ℕ) : Type 0 where
@@ -19,8 +20,9 @@ SpellEach (change ∷ changes) (payload ∷ payloads) = SpellsOne change payload
 SpellEach [] (payload ∷ payloads) = ⊥
 SpellEach (change ∷ changes) [] = ⊥
 
--- own: these bytes are a whole part that keeps this content
+-- own: these bytes are a whole part that keeps this content: a record for each change that makes it of nothing
 pub record IsContents (kept : Kept) (bytes : List ℕ) : Type 0 where
   pub payloads : List (List ℕ)
+  pub each : SpellEach (checkpoint_changes kept) payloads
   pub whole : IsWhole payloads bytes
   pub keeps : stored_of (content bytes) ≡ Keeps kept

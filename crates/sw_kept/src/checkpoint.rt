@@ -75,6 +75,7 @@ pub fn go_over<D: Disk>(
 
     ensures told { OnOk result (StaysTold D.Disk disk.old disk.new) }
     ensures place { OnOk result (twin.new.journal.format ≡ format_2) }
+    ensures end { OnOk result (twin.new.journal.gate + 1 ≡ length contents.now) }
     ensures limit { twin.new.journal.limit ≡ twin.old.journal.limit }
     ensures same { OnErr result (twin.new ≡ twin.old) }
     ensures calls { OnOk result (D.clock disk.new ≡ capped (D.clock disk.old + 7)) }
