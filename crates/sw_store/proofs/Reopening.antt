@@ -16,7 +16,7 @@ use Rattle.sw_kept.specs.Keeping.{KeepsNow, LeavesEither, Spell, StaysTold}
 use Rattle.sw_kept.specs.Stored.{HasKept}
 use Rattle.sw_store.specs.declared.errors.OpenError.{OpenError}
 use Rattle.sw_store.specs.declared.errors.OpenError.TheVariants as error
-use Rattle.sw_store.specs.Opened.{HasOpened, IsLeft, IsOpened, IsUnopened, kept_restarted}
+use Rattle.sw_store.specs.Opened.{HasNoRoom, HasOpened, IsContentTooLong, IsLeft, IsOpened, IsRestartTooLong, IsUnopened, kept_restarted}
 use Rattle.sw_store.specs.Stores.{StoreState}
 use Rattle.sw_twin.specs.Twin.{StandsFor, StandsIn, TwinState}
 
@@ -49,6 +49,17 @@ module _ {D : Type 0} (disk : Ghosts D) (now : D) (twin : TwinState) (spare : �
 
   pub keeps_with_room : (kept : Kept) → KeepsNow twin kept disk now → KeepsNow roomy kept disk now
   keeps_with_room kept keeps = record { stands = stands_with_room keeps.stands; kept_is = keeps.kept_is }
+
+-- a disk that is as it was when it kept this has no room
+pub no_room : {D : Type 0} (disk : Ghosts D) (old new : D) (twin : TwinState) (kept : Kept) (limit from needed : ℕ) → KeepsNow twin kept disk old → new ≡ old → twin.journal.limit ≡ limit
+    → IsRestartTooLong twin from needed ⊎ IsContentTooLong kept twin from needed → HasNoRoom disk new limit from needed
+no_room disk old new twin kept limit from needed keeps same limit_is why = record {
+  twin = twin;
+  kept = kept;
+  keeps = subst (KeepsNow twin kept disk) (sym same) keeps;
+  limit_is = limit_is;
+  why = why;
+}
 
 module _ {D : Type 0} (disk : Ghosts D) (old mid new : D) (kept : Kept) (quiet : IsQuiet disk old mid) (has : ForTold (disk.seen old) (HasKept kept))
     (run : LeavesEither disk mid new kept (kept_restarted kept)) where

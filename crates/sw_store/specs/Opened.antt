@@ -1,5 +1,5 @@
 -- A store that was just opened, and what a crash leaves while it is.
-use Rattle.std.specs.Prelude.{◌≡◌, ◌⊎◌, ◌<◌, ◌≤◌, ◌+◌, ◌-◌, ◌^◌, ℕ, [], ◌∷◌, Result, Ok, Err}
+use Rattle.std.specs.Prelude.{◌≡◌, ◌≢◌, ◌⊎◌, ◌<◌, ◌≤◌, ◌+◌, ◌-◌, ◌^◌, ℕ, List, [], ◌∷◌, length, Result, Ok, Err}
 use Rattle.sw_core.specs.Hosted.{state_of}
 use Rattle.sw_data.specs.declared.storage.Change.TheVariants as change
 use Rattle.sw_data.specs.declared.storage.Kept.{Kept}
@@ -7,15 +7,17 @@ use Rattle.sw_disk.specs.declared.disk.Disk.{Ghosts}
 use Rattle.sw_disk.specs.DiskRule.{ForTold, capped}
 use Rattle.sw_disk.specs.Image.{Image}
 use Rattle.sw_disk.specs.Meanings.{LeavesOnly}
+use Rattle.sw_journal.specs.Format.{format_2, needed_length}
 use Rattle.sw_journal.specs.Journal.{Since}
 use Rattle.sw_kept.specs.Keeping.{KeepsNow, StaysTold}
+use Rattle.sw_kept.specs.Spelling.{IsContents}
 use Rattle.sw_kept.specs.Stored.{HasKept}
 use Rattle.sw_rules.specs.Restart.{restart}
 use Rattle.sw_rules.specs.Storage.{IsMade, kept_after}
 use Rattle.sw_store.specs.declared.errors.OpenError.{OpenError}
 use Rattle.sw_store.specs.declared.errors.OpenError.TheVariants as error
 use Rattle.sw_store.specs.Stores.{IsQuiet, StoreState}
-use Rattle.sw_twin.specs.Twin.{IsPastFirst}
+use Rattle.sw_twin.specs.Twin.{IsPastFirst, TwinState}
 
 -- the content that a restart makes of a content
 abbrev pub kept_restarted : Kept → Kept
@@ -54,6 +56,30 @@ pub record IsUnopened {D : Type 0} (disk : Ghosts D) (old new : D) : Type 0 wher
   pub any_moment : ForTold (disk.seen old) (λ image. LeavesOnly disk old new (λ c. disk.may_leave old c ⊎ IsLeft image c))
   pub first : IsPastFirst disk old new → ForTold (disk.seen old)
       (λ image. disk.clock old + 1 < 2 ^ 64 - 1 → (c : Image) → disk.left_since new (disk.clock old + 1) c → IsLeft image c)
+
+-- own: the record of a restart needs so much behind the next free offset that it passes the limit
+pub record IsRestartTooLong (twin : TwinState) (from needed : ℕ) : Type 0 where
+  pub format : twin.journal.format ≡ format_2
+  pub offset : from ≡ twin.journal.gate + 1
+  pub needs : needed ≡ needed_length format_2 1
+  pub passes : twin.journal.limit < from + needed
+
+-- own: what is kept is in the older format, and in the newer one it is so long that it passes the limit
+pub record IsContentTooLong (kept : Kept) (twin : TwinState) (from needed : ℕ) : Type 0 where
+  pub older : twin.journal.format ≢ format_2
+  pub contents : List ℕ
+  pub keeps : IsContents kept contents
+  pub long : from ≡ length contents
+  pub nothing : needed ≡ 0
+  pub passes : twin.journal.limit < length contents
+
+-- own: a disk, in what reads give, has no room for a restart, or for what it keeps in the newer format
+pub record HasNoRoom {D : Type 0} (disk : Ghosts D) (now : D) (limit from needed : ℕ) : Type 0 where
+  pub twin : TwinState
+  pub kept : Kept
+  pub keeps : KeepsNow twin kept disk now
+  pub limit_is : twin.journal.limit ≡ limit
+  pub why : IsRestartTooLong twin from needed ⊎ IsContentTooLong kept twin from needed
 
 -- own: what a call refuses isn't that the disk is not formatted or bad
 abbrev pub IsOpened : {T : Type 0} → Result T OpenError → Type 0

@@ -1,5 +1,5 @@
 -- What a store is: a host, what its disk keeps, and the events that wait for their changes to be written.
-use Rattle.std.specs.Prelude.{◌≡◌, ◌≢◌, ◌≤◌, ◌<◌, ◌+◌, ℕ, List, [], length, map, Option, None}
+use Rattle.std.specs.Prelude.{◌≡◌, ◌≢◌, ◌⊎◌, ◌≤◌, ◌<◌, ◌+◌, ℕ, List, [], length, map, Option, None}
 use Rattle.sw_core.specs.Hosted.{Hosted, state_of}
 use Rattle.sw_data.specs.declared.histories.Entry.{Entry}
 use Rattle.sw_data.specs.declared.storage.Kept.{Kept}
@@ -90,3 +90,14 @@ pub record IsLarge (kept : Kept) (twin : TwinState) : Type 0 where
   pub contents : List ℕ
   pub keeps : IsContents kept contents
   pub large : twin.journal.limit < length contents
+
+-- own: the current part is nothing but a whole part that keeps this content, and the growth is counted from its end
+pub record IsWrittenAnew (kept : Kept) (store : StoreState) : Type 0 where
+  pub contents : List ℕ
+  pub keeps : IsContents kept contents
+  pub end : store.twin.journal.gate + 1 ≡ length contents
+  pub mark : store.mark ≡ store.twin.journal.gate + 1
+
+-- own: what is kept was written anew where it had to be: the part has not grown so much, or the content is too large
+abbrev pub IsTended : Kept → StoreState → Type 0
+IsTended kept store = (HasGrown store → ⊥) ⊎ IsLarge kept store.twin

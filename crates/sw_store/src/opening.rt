@@ -14,7 +14,7 @@ ghost use Rattle.sw_kept.specs.Keeping.{KeepsNow, LeavesEither, StaysTold};
 ghost use Rattle.sw_kept.specs.Stored.{Bad, HasKept, Unformatted, stored};
 ghost use Rattle.sw_rules.specs.Restart.{restart};
 ghost use Rattle.sw_rules.specs.Storage.{IsMade};
-ghost use Rattle.sw_store.specs.Opened.{HasOpened, IsFresh, IsOpened, IsUnopened, kept_restarted};
+ghost use Rattle.sw_store.specs.Opened.{HasNoRoom, HasOpened, IsContentTooLong, IsFresh, IsOpened, IsRestartTooLong, IsUnopened, kept_restarted};
 ghost use Rattle.sw_twin.specs.Twin.{StandsFor};
 
 use crate::errors::OpenError;
@@ -63,7 +63,9 @@ fn renew<D: Disk>(
     ensures told { OnOk result (StaysTold D.Disk disk.old disk.new) }
     ensures known { IsOpened result }
     ensures full { (length needed : ℕ) → IsErrOf result (OpenError.Full length needed)
-        → twin.old.journal.limit < length + needed }
+        → IsContentTooLong base.now twin.old length needed }
+    ensures untouched { (length needed : ℕ) → IsErrOf result (OpenError.Full length needed)
+        → disk.new ≡ disk.old }
     ensures fault { IsErrOf result OpenError.DiskFault
         → Rose (D.faults disk.old) (D.faults disk.new) }
     ensures later { D.clock disk.old ≤ D.clock disk.new }
@@ -99,7 +101,9 @@ fn note<D: Disk>(twin: &mut Twin, disk: &mut D) -> Result<(), OpenError>
     ensures told { OnOk result (StaysTold D.Disk disk.old disk.new) }
     ensures known { IsOpened result }
     ensures full { (length needed : ℕ) → IsErrOf result (OpenError.Full length needed)
-        → twin.old.journal.limit < length + needed }
+        → IsRestartTooLong twin.old length needed }
+    ensures untouched { (length needed : ℕ) → IsErrOf result (OpenError.Full length needed)
+        → disk.new ≡ disk.old }
     ensures fault { IsErrOf result OpenError.DiskFault
         → Rose (D.faults disk.old) (D.faults disk.new) }
     ensures calls { OnOk result (capped (D.clock disk.old + 4) ≤ D.clock disk.new) }
@@ -132,7 +136,7 @@ fn go_on<D: Disk>(
     ensures told { OnOk result (StaysTold D.Disk disk.old disk.new) }
     ensures known { IsOpened result }
     ensures full { (length needed : ℕ) → IsErrOf result (OpenError.Full length needed)
-        → twin.old.journal.limit < length + needed }
+        → HasNoRoom D.Disk disk.new twin.old.journal.limit length needed }
     ensures fault { IsErrOf result OpenError.DiskFault
         → Rose (D.faults disk.old) (D.faults disk.new) }
     ensures calls { OnOk result (capped (D.clock disk.old + 4) ≤ D.clock disk.new) }
@@ -182,7 +186,7 @@ fn resume<D: Disk>(
     ensures told { OnOk result (StaysTold D.Disk disk.old disk.new) }
     ensures known { IsOpened result }
     ensures full { (length needed : ℕ) → IsErrOf result (OpenError.Full length needed)
-        → twin.journal.limit < length + needed }
+        → HasNoRoom D.Disk disk.new twin.journal.limit length needed }
     ensures fault { IsErrOf result OpenError.DiskFault
         → Rose (D.faults disk.old) (D.faults disk.new) }
     ensures calls { OnOk result (capped (D.clock disk.old + 4) ≤ D.clock disk.new) }
@@ -224,7 +228,7 @@ impl Store {
             → IsQuiet D.Disk disk.old disk.new
             × ForTold (D.seen disk.old) (λ image. stored image ≡ Bad offset) }
         ensures full { (length needed : ℕ) → IsErrOf result (OpenError.Full length needed)
-            → limit < length + needed }
+            → HasNoRoom D.Disk disk.new limit length needed }
         ensures fault { IsErrOf result OpenError.DiskFault
             → Rose (D.faults disk.old) (D.faults disk.new) }
 

@@ -16,7 +16,7 @@ ghost use Rattle.sw_kept.specs.Spelling.{IsContents};
 ghost use Rattle.sw_kept.specs.Stored.{HasKept};
 ghost use Rattle.sw_rules.specs.Durable.{durable};
 ghost use Rattle.sw_rules.specs.Storage.{IsMade, kept_after};
-ghost use Rattle.sw_store.specs.Stores.{FitsBehind, HasGrown, IsLarge, IsQuiet, all_stamped};
+ghost use Rattle.sw_store.specs.Stores.{FitsBehind, HasGrown, IsQuiet, IsTended, IsWrittenAnew, all_stamped};
 ghost use Rattle.sw_twin.specs.Twin.{StandsFor};
 
 use crate::errors::{CommitError, TendError};
@@ -157,9 +157,11 @@ impl Store {
         requires stands { StandsFor self.old.twin D.Disk disk.old }
         requires made { IsMade (durable (state_of self.old.core)) }
         ensures did { IfOk result (λ did. did ≡ true → HasGrown self.old
-            × (self.new.mark ≡ self.new.twin.journal.gate + 1)) }
-        ensures did_not { IfOk result (λ did. did ≡ false → disk.new ≡ disk.old
-            × ((HasGrown self.old → ⊥) ⊎ IsLarge (durable (state_of self.old.core)) self.old.twin)) }
+            × IsWrittenAnew (durable (state_of self.old.core)) self.new) }
+        ensures did_not { IfOk result (λ did. did ≡ false
+            → (self.new ≡ self.old) × (disk.new ≡ disk.old)
+            × IsTended (durable (state_of self.old.core)) self.old) }
+        ensures tended { OnOk result (IsTended (durable (state_of self.old.core)) self.new) }
         ensures quiet { OnOk result (IsQuiet self.new) }
         ensures core { self.new.core ≡ self.old.core }
         ensures base { self.new.base ≡ self.old.base }
@@ -182,7 +184,8 @@ impl Store {
             × (self.new.since ≡ Some (D.clock disk.new)) }
 
         // Want of memory comes before any call of the disk.
-        ensures no_memory { IsErrOf result TendError.NoMemory → disk.new ≡ disk.old }
+        ensures no_memory { IsErrOf result TendError.NoMemory
+            → (self.new ≡ self.old) × (disk.new ≡ disk.old) }
     {
         if !self.has_grown() {
             return Ok(false);

@@ -1,4 +1,4 @@
-use Rattle.std.proofs.Common.{◌≡◌, [], ◌∷◌, Err, sym, ◌∙◌, ap, subst, arith}
+use Rattle.std.proofs.Common.{◌≡◌, ◌+◌, [], ◌∷◌, Err, sym, ◌∙◌, ap, subst, arith}
 use Rattle.sw_data.specs.declared.storage.Change.TheVariants as change
 use Rattle.sw_data.specs.declared.storage.Kept.{Kept}
 use Rattle.sw_journal.specs.declared.journal.AppendError.{AppendError}
@@ -28,13 +28,18 @@ returns-in-Ok-clause-acknowledged g c kept keeps =
     c.in-Ok.ensures.acknowledged kept (change.Restarted ∷ []) restarted_spelled (keeps_still g (goal.at.returns-in-Ok-clause-acknowledged g c).After-append kept keeps)
 
 pub returns-in-Err-Full-clause-full : goal.returns-in-Err-Full-clause-full
-returns-in-Err-Full-clause-full g c length needed is =
+returns-in-Err-Full-clause-full g c from needed is =
     let arm = c.in-Err-Full in
     let told = (c.append.ensures.full arm.length arm.needed).0 (arm.is ∙ ap (λ (e : AppendError). Err e) arm.field-0-is) in
-    let same = ap (λ (t : TwinState). t.journal.limit) c.reserve.ensures.same in
-    let from : arm.length ≡ length = cc in
+    let before = c.reserve.ensures.same in
+    let from_is : arm.length ≡ from = cc in
     let needs : arm.needed ≡ needed = cc in
-    omega (arith, told.2, same, from, needs)
+    record {
+      format = c.requires.format;
+      offset = sym from_is ∙ told.0 ∙ ap (λ (t : TwinState). t.journal.gate + 1) before;
+      needs = sym needs ∙ told.1;
+      passes = omega (arith, told.2, ap (λ (t : TwinState). t.journal.limit) before, from_is, needs);
+    }
 
 pub returns-in-Err-DiskFault-clause-any_moment : goal.returns-in-Err-DiskFault-clause-any_moment
 returns-in-Err-DiskFault-clause-any_moment g c kept keeps =

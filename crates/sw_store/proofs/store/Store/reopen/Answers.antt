@@ -1,5 +1,7 @@
+use Rattle.std.proofs.Common.{ℕ, subst}
 use Rattle.sw_store.proofs.Reopening.{has_opened, is_unopened}
 use Rattle.sw_store.proofs.store.Store.reopen.Goals as goal
+use Rattle.sw_store.specs.Opened.{HasNoRoom}
 
 pub returns-in-Ok-clause-opened : goal.returns-in-Ok-clause-opened
 returns-in-Ok-clause-opened g c =
@@ -12,3 +14,7 @@ pub returns-in-Ok-clause-unopened : goal.returns-in-Ok-clause-unopened
 returns-in-Ok-clause-unopened g c =
     let was = c.in-Ok.ensures in
     is_unopened g.D.Disk c.args.disk.now c.open.new.disk c.resume.new.disk c.in-Ok.content was.quiet was.kept c.resume.ensures.any_moment was.first_call (was.first (λ is. absurd cc))
+
+pub returns-in-Ok-clause-full : goal.returns-in-Ok-clause-full
+returns-in-Ok-clause-full g c from needed is =
+    subst (λ (limit : ℕ). HasNoRoom g.D.Disk c.resume.new.disk limit from needed) c.in-Ok.ensures.place.1 (c.resume.ensures.full from needed is)
