@@ -210,6 +210,7 @@ is_going disk start now recording kept clock passes p some many fresh ours lines
       (omega (arith, some, ap length free, length-replicate {A = Option Task} passes None)) fresh ours same is;
   quiet = fresh.quiet;
   at_work = at_work disk start now clock kept p.store p.history.items fresh same at is opened;
+  tended = inl (λ grown. omega (arith, grown, fresh.mark));
   flights = free_flights passes many p.flights.items free (state_of p.store.core);
   due = free_due passes many p.flights.items free (state_of p.store.core) p.lanes;
 }

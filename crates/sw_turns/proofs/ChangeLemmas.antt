@@ -27,10 +27,14 @@ along_more state (entry ∷ front) more =
     ∙ sym (append_assoc (changes_of state entry.event) (changes_along (moved state entry) front) (changes_along (after_entries (moved state entry) front) more))
 
 -- stamps change nothing
-along_stamped : (clock : ℕ) (state : State) (entries : List Entry) → changes_along state (all_stamped clock entries) ≡ changes_along state entries
+pub along_stamped : (clock : ℕ) (state : State) (entries : List Entry) → changes_along state (all_stamped clock entries) ≡ changes_along state entries
 along_stamped clock state [] = refl
 along_stamped clock state (entry ∷ entries) =
     ap (λ (changes : List Change). changes_of state entry.event ++ changes) (along_stamped clock (moved state entry) entries)
+
+pub after_stamped : (clock : ℕ) (state : State) (entries : List Entry) → after_entries state (all_stamped clock entries) ≡ after_entries state entries
+after_stamped clock state [] = refl
+after_stamped clock state (entry ∷ entries) = after_stamped clock (moved state entry) entries
 
 -- ---- histories
 

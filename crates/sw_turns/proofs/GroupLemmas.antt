@@ -102,6 +102,17 @@ module _ (old new : StoreState) (same : IsSame old new) where
   same_limit : new.twin.journal.limit ≡ old.twin.journal.limit
   same_limit = ap (λ (s : StoreState). s.twin.journal.limit) same.rest
 
+  -- the event has no room all the same
+  pub still_too_long : (happened : Event) (needed : ℕ) → IsTooLong (changes_of (state_of old.core) happened) old.payload old.twin needed
+      → IsTooLong (changes_of (state_of new.core) happened) new.payload new.twin needed
+  still_too_long happened needed long = record {
+    more = long.more;
+    spelled = ap (λ (state : State). spelled_all (changes_of state happened)) same.state ∙ long.spelled;
+    some = long.some;
+    needs = long.needs ∙ ap (λ (payload : List ℕ). capped (needed_length format_2 (length (payload ++ long.more)))) (sym same_payload);
+    passes = omega (arith, long.passes, same_gate, same_limit);
+  }
+
   pub same_flying : (flights : List (Option Task)) → AreInFlight (state_of old.core) flights → AreInFlight (state_of new.core) flights
   same_flying flights flying = subst (λ (state : State). AreInFlight state flights) (sym same.state) flying
 
@@ -147,13 +158,9 @@ module _ (old new : StoreState) (same : IsSame old new) where
           held = stays_held lanes happened held;
           none = same_staged ∙ none;
           offset = omega (arith, at, same_gate);
-          long = record {
-            more = long.more;
-            spelled = ap (λ (state : State). spelled_all (changes_of state happened)) same.state ∙ long.spelled;
-            some = long.some;
-            needs = long.needs ∙ ap (λ (payload : List ℕ). capped (needed_length format_2 (length (payload ++ long.more)))) empty;
-            passes = omega (arith, long.passes, same_gate, same_limit);
-          };
+          long =
+              subst (λ (payload : List ℕ). IsTooLong (changes_of (state_of new.core) happened) payload new.twin needed) (same_payload ∙ empty)
+              (still_too_long happened needed long);
         }
 
 -- ---- what the calls answer

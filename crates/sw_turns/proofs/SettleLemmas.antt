@@ -1,5 +1,5 @@
 -- A group is written, or is refused; and what is kept is written anew.
-use Rattle.std.proofs.Common.{◌≡◌, ◌≢◌, ◌∙◌, ◌⊎◌, inl, ℕ, ◌+◌, ◌≤◌, List, [], ◌∷◌, ◌++◌, Option, Some, Vec, Global, refl, sym, ap, subst, arith, append-nil}
+use Rattle.std.proofs.Common.{◌≡◌, ◌≢◌, ◌∙◌, ◌⊎◌, ⊎_elim, inl, inr, ℕ, ◌+◌, ◌≤◌, List, [], ◌∷◌, ◌++◌, Option, Some, Vec, Global, refl, sym, ap, subst, arith, append-nil}
 use Rattle.sw_codec.specs.Spelling.{spelled_all}
 use Rattle.sw_core.specs.Hosted.{Hosted, state_of}
 use Rattle.sw_data.specs.declared.events.Event.{Event}
@@ -19,6 +19,8 @@ use Rattle.sw_journal.specs.Journal.{Since}
 use Rattle.sw_kept.specs.Keeping.{KeepsNow, LeavesEither, StaysTold}
 use Rattle.sw_kept.specs.Stored.{HasKept}
 use Rattle.sw_lane.specs.Left.{Left}
+use Rattle.sw_lane.specs.Picked.{in_flight, picked}
+use Rattle.sw_lane.specs.declared.picks.Pick.TheVariants as pick
 use Rattle.sw_laws.specs.Laws.{changes_along}
 use Rattle.sw_turns.proofs.ChangeLemmas.{kept_durable, kept_stamped, made_kept, opens_more}
 use Rattle.sw_turns.proofs.EndLemmas.{IsPlayed, ends_unmade, goes_on, played, played_front, run_on, so_far_here}
@@ -37,23 +39,30 @@ use Rattle.sw_rules.specs.History.{Stamped, after, after_entries}
 use Rattle.sw_rules.specs.State.{State}
 use Rattle.sw_rules.specs.Step.{changes_of}
 use Rattle.sw_rules.specs.Storage.{IsMade, kept_after}
+use Rattle.sw_store.proofs.Appends.{same_kept}
 use Rattle.sw_store.specs.Groups.{IsTooLong}
-use Rattle.sw_store.specs.Stores.{IsQuiet, StoreState, all_stamped}
+use Rattle.sw_store.specs.Stores.{IsQuiet, IsTended, StoreState, all_stamped}
 use Rattle.sw_twin.specs.Twin.{TwinState}
 
 -- ---- what stopped a group
 
 -- what waits is under way
-under_way : (workers : ℕ) (recording : Recording) (base : Kept) (history : List Entry) (lanes : List Left) (flights : List (Option Task)) (store : StoreState) (stopped : Stop)
+pub under_way : (workers : ℕ) (recording : Recording) (base : Kept) (history : List Entry) (lanes : List Left) (flights : List (Option Task)) (store : StoreState) (stopped : Stop)
     → Stops workers recording base history lanes flights store stopped → (before : List Left) × IsUnderWay workers recording base history before store
 under_way workers recording base history lanes flights store stop.Whole stops = (lanes, stops)
 under_way workers recording base history lanes flights store (stop.NoRoom happened) stops = (stops.before, stops.under_way)
 under_way workers recording base history lanes flights store (stop.Fetch taken fetches) stops = (lanes, stops)
-under_way workers recording base history lanes flights store stop.Idle stops = (lanes, stops)
+under_way workers recording base history lanes flights store stop.Idle stops = (lanes, stops.0)
 under_way workers recording base history lanes flights store stop.Done stops = (lanes, stops.0)
 under_way workers recording base history lanes flights store (stop.Stalled lane) stops = (lanes, stops.0)
 under_way workers recording base history lanes flights store (stop.Full happened from needed) stops = (stops.held.before, stops.held.under_way)
 under_way workers recording base history lanes flights store stop.NoMemory stops = stops
+
+-- where it stopped idle, nothing is ready but what is in flight
+pub rests : (workers : ℕ) (recording : Recording) (base : Kept) (history : List Entry) (lanes : List Left) (flights : List (Option Task)) (store : StoreState) (stopped : Stop)
+    → Stops workers recording base history lanes flights store stopped → stopped ≡ stop.Idle → picked (state_of store.core) (in_flight flights) lanes ≡ pick.Idle
+rests workers recording base history lanes flights store stopped stops is =
+    (subst (λ (reason : Stop). Stops workers recording base history lanes flights store reason) is stops).1
 
 -- where nothing waits the payload is empty
 nothing_waits : (state : State) (staged : List Entry) (payload : List ℕ) → staged ≡ [] → spelled_all (changes_along state staged) ≡ Some payload → payload ≡ []
@@ -108,7 +117,7 @@ module _ (workers : ℕ) (recording : Recording) (base : Kept) (history : List E
   stops_on lanes flights stop.Whole same stops = way_on lanes stops
   stops_on lanes flights (stop.NoRoom happened) same stops = held_on lanes happened stops
   stops_on lanes flights (stop.Fetch taken fetches) same stops = way_on lanes stops
-  stops_on lanes flights stop.Idle same stops = way_on lanes stops
+  stops_on lanes flights stop.Idle same stops = (way_on lanes stops.0, rw core stops.1)
   stops_on lanes flights stop.Done same stops = (way_on lanes stops.0, rw core stops.1)
   stops_on lanes flights (stop.Stalled lane) same stops = (way_on lanes stops.0, rw core stops.1)
   stops_on lanes flights (stop.Full happened from needed) same stops =
@@ -123,6 +132,17 @@ module _ (workers : ℕ) (recording : Recording) (base : Kept) (history : List E
       }
   stops_on lanes flights stop.NoMemory same stops = (stops.0, way_on stops.0 stops.1)
 
+-- ---- whether what is kept had to be written anew
+
+-- the part is as long, and the growth is counted from the same offset
+pub tended_alike : (kept : Kept) (store next : StoreState) → next.mark ≡ store.mark → next.twin.journal.gate ≡ store.twin.journal.gate → next.twin.journal.limit ≡ store.twin.journal.limit
+    → IsTended kept store → IsTended kept next
+tended_alike kept store next mark gate limit tended =
+    ⊎_elim
+    (λ little. inl (λ grown. little (omega (arith, grown, mark, gate))))
+    (λ large. inr (record { contents = large.contents; keeps = large.keeps; large = omega (arith, large.large, limit) }))
+    tended
+
 -- ---- a group is written
 
 -- the end of a run whose disk refused these events
@@ -134,6 +154,7 @@ HasFailed disk start now workers recording base history refused =
 pub record HasWritten {D : Type 0} (disk : Ghosts D) (old new : D) (store next : StoreState) : Type 0 where
   pub quiet : IsQuiet next
   pub core : next.core ≡ store.core
+  pub mark : next.mark ≡ store.mark
   pub limit : next.twin.journal.limit ≡ store.twin.journal.limit
   pub keeps : (kept : Kept) (all : List Change) → spelled_all all ≡ Some store.payload → KeepsNow store.twin kept disk old → KeepsNow next.twin (kept_after kept all) disk new
   pub any_moment : (kept : Kept) (all : List Change) → spelled_all all ≡ Some store.payload → KeepsNow store.twin kept disk old → LeavesEither disk old new kept (kept_after kept all)
@@ -232,6 +253,15 @@ module _ {D : Type 0} (disk : Ghosts D) (old new : D) (s : Standing) (history : 
             limit = wrote.limit ∙ work.limit;
           }
 
+  -- where there were no changes, what is kept stays
+  pub tended_on : (next : StoreState) → HasWritten disk old new store next → store.payload ≡ [] → IsTended (kept_of s.base history) store
+      → IsTended (kept_of s.base (history ++ all_stamped (disk.clock new) store.staged)) next
+  tended_on next wrote none tended =
+      let twin : next.twin ≡ store.twin = (wrote.nothing none).1 in
+      subst (λ (kept : Kept). IsTended kept next)
+      (sym (same_kept (changes_along (after s.base history) store.staged) store.payload is_spelled (kept_of s.base history) none) ∙ kept_is)
+      (tended_alike (kept_of s.base history) store next wrote.mark (ap (λ (t : TwinState). t.journal.gate) twin) (ap (λ (t : TwinState). t.journal.limit) twin) tended)
+
   -- what stopped the group stands behind it
   pub stopped_on : (next : StoreState) → HasWritten disk old new store next → HasStopped disk new s (history ++ all_stamped (disk.clock new) store.staged) next
   stopped_on next wrote = record {
@@ -272,6 +302,10 @@ module _ {D : Type 0} (disk : Ghosts D) (old new : D) (s : Standing) (history : 
 
   keeps_durable : KeepsNow store.twin (durable (state_of store.core)) disk old
   keeps_durable = subst (λ (kept : Kept). KeepsNow store.twin kept disk old) is_durable halted.keeps
+
+  -- what was written anew where it had to be is what the history makes of the base
+  pub tended_still : (next : StoreState) → IsTended (durable (state_of store.core)) next → IsTended (kept_of s.base history) next
+  tended_still next tended = subst (λ (kept : Kept). IsTended kept next) (sym is_durable) tended
 
   pub stopped_still : (next : StoreState) → IsNotFull s.stopped → HasTended disk old new store next → HasStopped disk new s history next
   stopped_still next room tended = record {

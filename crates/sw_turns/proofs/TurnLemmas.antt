@@ -1,16 +1,18 @@
 -- A turn: a group has stopped and is written, and the run goes on or has ended.
-use Rattle.std.proofs.Common.{◌≡◌, ◌∙◌, ◌↔◌, ◌⊎◌, ⊎_elim, ℕ, ◌+◌, ◌<◌, Bool, true, false, List, [], ◌∷◌, ◌++◌, length, Option, Some, None, Result, Ok, Err, IfErr, IfOk, slice_get, option_map, All, Vec, Global, refl, sym, ap, subst, arith, append-nil, append_assoc, length-append}
+use Rattle.std.proofs.Common.{◌≡◌, ◌∙◌, ◌↔◌, ◌⊎◌, ⊎_elim, inl, inr, ℕ, ◌<◌, Bool, true, false, List, [], ◌∷◌, ◌++◌, length, Option, Some, None, Result, Ok, Err, IfErr, IfOk, slice_get, option_map, All, Vec, Global, refl, sym, ap, subst, arith, append-nil, append_assoc, length-append}
 use Rattle.std.specs.Prelude.{nat_lt}
 use Rattle.std.specs.Vec.{with_items}
 use Rattle.std.proofs.lemmas.Bool.Decides.{nat_tests}
-use Rattle.std.proofs.lemmas.List.{length-map, with_items_is}
+use Rattle.std.proofs.lemmas.List.{length-map, nil_from_length, with_items_is}
 use Rattle.std.proofs.lemmas.List.Elements.{All-append, All-cons, All-head, All-nil, All-tail}
+use Rattle.sw_codec.specs.Spelling.{spelled_all}
 use Rattle.sw_core.specs.Fetching.{fetches_of}
 use Rattle.sw_core.specs.Hosted.{state_of}
 use Rattle.sw_data.specs.declared.events.Event.{Event}
 use Rattle.sw_data.specs.declared.histories.Entry.{Entry}
 use Rattle.sw_data.specs.declared.histories.Task.{Task}
 use Rattle.sw_data.specs.declared.recordings.Recording.{Recording}
+use Rattle.sw_data.specs.declared.storage.Change.{Change}
 use Rattle.sw_data.specs.declared.storage.Kept.{Kept}
 use Rattle.sw_disk.proofs.Images.{told_at, told_some}
 use Rattle.sw_disk.specs.declared.disk.Disk.{Ghosts}
@@ -22,16 +24,20 @@ use Rattle.sw_lane.specs.declared.picks.Pick.TheVariants as pick
 use Rattle.sw_laws.proofs.LawProofs.{after-coherent}
 use Rattle.sw_laws.specs.Coherent.{Coherent}
 use Rattle.sw_lock.specs.Entries.{ThenOwn}
-use Rattle.sw_rules.specs.History.{Opens}
+use Rattle.sw_rules.specs.History.{Opens, after_entries}
 use Rattle.sw_rules.specs.State.{State}
-use Rattle.sw_store.specs.Stores.{IsQuiet, IsSameTwin, StoreState, all_stamped, stamped}
+use Rattle.sw_rules.specs.Step.{changes_of}
+use Rattle.sw_store.specs.Groups.{IsGroup}
+use Rattle.sw_store.specs.Stores.{IsQuiet, IsSameTwin, IsTended, StoreState, all_stamped, stamped}
+use Rattle.sw_turns.proofs.ChangeLemmas.{after_stamped, along_stamped}
 use Rattle.sw_turns.proofs.EndLemmas.{ends_done, ends_full, ends_stalled, ends_unmade, played, so_far_here}
+use Rattle.sw_turns.proofs.SettleLemmas.{tended_alike, under_way}
 use Rattle.sw_turns.specs.Ends.{IsCutShort, IsKept}
 use Rattle.sw_turns.specs.Flights.{AreInFlight, Flies, IsDue}
-use Rattle.sw_turns.specs.Groups.{Begins, HasSome, IsBarren, IsOver, IsUnderWay, Leaves, Stops, over_by}
+use Rattle.sw_turns.specs.Groups.{Begins, HasSome, IsBarren, IsOver, IsUnderWay, LacksRoom, Leaves, Stops, over_by}
 use Rattle.sw_turns.specs.Settling.{HasStopped, IsWritten, Standing}
 use Rattle.sw_turns.specs.Surviving.{IsAtWork, kept_of}
-use Rattle.sw_turns.specs.Turns.{HasTurned, IsAtRest, IsGoing, IsLanding, IsTurn, standing_of}
+use Rattle.sw_turns.specs.Turns.{HadNoRoom, HasAdded, HasTurned, IsAtRest, IsGoing, IsLanding, IsTurn, standing_of}
 use Rattle.sw_turns.specs.declared.ends.DriveEnd.{DriveEnd}
 use Rattle.sw_turns.specs.declared.ends.DriveEnd.TheVariants as drive_end
 use Rattle.sw_turns.specs.declared.ends.Stop.{Stop}
@@ -90,6 +96,11 @@ works_roomy disk start now base history entries store next is same work =
       limit = ap (λ (twin : TwinState). twin.journal.limit) same ∙ work.limit;
     })
 
+-- nor to whether what is kept had to be written anew
+pub tended_roomy : (kept : Kept) (store next : StoreState) → IsSameTwin store.twin next.twin → next.mark ≡ store.mark → IsTended kept store → IsTended kept next
+tended_roomy kept store next same mark tended =
+    tended_alike kept store next mark (ap (λ (twin : TwinState). twin.journal.gate) same) (ap (λ (twin : TwinState). twin.journal.limit) same) tended
+
 -- ---- what stopped the group
 
 -- a group has stopped
@@ -132,6 +143,20 @@ module _ {D : Type 0} (disk : Ghosts D) (start now : D) (recording : Recording) 
 
   pub working : IsAtWork disk start now base entries.items store
   working = works_roomy disk start now base before.history.items entries.items before.store store same twin going.at_work
+
+  pub tending : store.mark ≡ before.store.mark → IsTended (kept_of base entries.items) store
+  tending mark =
+      subst (λ (all : List Entry). IsTended (kept_of base all) store) (sym same)
+      (tended_roomy (kept_of base before.history.items) before.store store twin mark going.tended)
+
+  -- what waits began at the state before
+  pub grouped : IsGroup (state_of before.store.core) store
+  grouped =
+      let workers = length before.flights.items in
+      let history = before.history.items in
+      subst (λ (state : State). IsGroup state store)
+      (so_far_here workers recording base history before.lanes before.store going.under_way going.quiet.staged).state_is
+      (under_way workers recording base history lanes flights store stopped (goes_on recording base history going.lines going.under_way)).1.group
 
 -- an event that had no room in the group before is worked on alone
 pub alone_halted : {D : Type 0} (disk : Ghosts D) (now : D) (recording : Recording) (base : Kept) (p : Progress) (happened : Event) (next : StoreState) (stopped : Stop)
@@ -203,9 +228,9 @@ module _ {D : Type 0} (disk : Ghosts D) (start now : D) (recording : Recording) 
     tt,
   )
 
-  module _ (lines : recording.fetches ≡ p.net) (quiet : IsQuiet p.store) (flights : AreInFlight (state_of p.store.core) p.flights.items) (due : IsDue (state_of p.store.core) p.lanes p.flights.items) where
+  module _ (lines : recording.fetches ≡ p.net) (quiet : IsQuiet p.store) (tended : IsTended (kept_of base p.history.items) p.store) (flights : AreInFlight (state_of p.store.core) p.flights.items) (due : IsDue (state_of p.store.core) p.lanes p.flights.items) where
     pub going : IsUnderWay workers recording base p.history.items p.lanes p.store → IsGoing disk start now recording base p
-    going way = record { lines = lines; under_way = way; quiet = quiet; at_work = work; flights = flights; due = due }
+    going way = record { lines = lines; under_way = way; quiet = quiet; at_work = work; tended = tended; flights = flights; due = due }
 
     -- the run goes on, or has ended
     pub turned : (stopped : Stop) (some : Bool) → IsOver stopped → Stops workers recording base p.history.items p.lanes p.flights.items p.store stopped
@@ -213,8 +238,8 @@ module _ {D : Type 0} (disk : Ghosts D) (start now : D) (recording : Recording) 
     turned stop.Whole some over stops = going stops
     turned (stop.NoRoom happened) some over stops = absurd over
     turned (stop.Fetch flown fetches) some over stops = going stops
-    turned stop.Idle true over stops = going stops
-    turned stop.Idle false over stops = going stops
+    turned stop.Idle true over stops = going stops.0
+    turned stop.Idle false over stops = going stops.0
     turned stop.Done some over stops =
         let so_far = so_far_here workers recording base p.history.items p.lanes p.store stops.0 quiet.staged in
         (ends_done disk start now workers recording base p.history.items p.store work p.lanes (in_flight p.flights.items) so_far stops.1, so_far.state_is)
@@ -270,14 +295,42 @@ first_there [] [] more clock entry got = absurd cc
 first_there [] (first ∷ staged) more clock entry got = ap (option_map (stamped clock)) got
 first_there (one ∷ front) staged more clock entry got = first_there front staged more clock entry got
 
--- a group is longer by what waited
-written_length : (before after staged : List Entry) → IsWritten before after staged → length after ≡ length before + length staged
-written_length before after staged wrote =
-    ap length wrote.1 ∙ length-append before (all_stamped wrote.0 staged) ∙ ap (λ (n : ℕ). length before + n) (length-map staged (stamped wrote.0))
+-- some wait whatever their stamps
+some_stamped : (clock : ℕ) (staged : List Entry) → (staged ≡ [] → ⊥) → all_stamped clock staged ≡ [] → ⊥
+some_stamped clock staged some none = some (nil_from_length staged (sym (length-map staged (stamped clock)) ∙ ap length none))
 
-some_length : (staged : List Entry) → (staged ≡ [] → ⊥) → 0 < length staged
-some_length [] some = absurd (some refl)
-some_length (entry ∷ staged) some = omega arith
+-- an event that joined a group in which nothing waited is the entry that is written
+pub written_last : (happened : Event) (before after old staged : List Entry) → old ≡ [] → (entry : Entry) × (entry.event ≡ happened) × (staged ≡ old ++ entry ∷ []) → IsWritten before after staged
+    → (last : Entry) × (last.event ≡ happened) × (after ≡ before ++ last ∷ [])
+written_last happened before after old staged none joins wrote = (
+  stamped wrote.0 joins.0,
+  joins.1,
+  wrote.1 ∙ ap (λ (entries : List Entry). before ++ all_stamped wrote.0 entries) (joins.2 ∙ ap (λ (entries : List Entry). entries ++ joins.0 ∷ []) none),
+)
+
+-- the entry of an event that had no room in a group is the last behind those of the group
+pub had_no_room : (begun : State) (twin : TwinState) (store : StoreState) (happened : Event) (clock : ℕ) → IsGroup begun store → IsSameTwin twin store.twin
+    → HasSome (stop.NoRoom happened) store.staged → LacksRoom (stop.NoRoom happened) store → (last : Entry) → last.event ≡ happened → HadNoRoom begun twin (all_stamped clock store.staged ++ last ∷ [])
+had_no_room begun twin store happened clock group same some lacks last is =
+    let others = all_stamped clock store.staged in
+    let changes : changes_of (after_entries begun others) last.event ≡ changes_of (state_of store.core) happened =
+    ap (λ (state : State). changes_of state last.event) (after_stamped clock begun store.staged ∙ group.now) ∙ ap (changes_of (state_of store.core)) is in
+    record {
+      others = others;
+      last = last;
+      payload = store.payload;
+      needed = lacks.0;
+      added_is = refl;
+      some = some_stamped clock store.staged some;
+      spelled = ap (λ (all : List Change). spelled_all all) (along_stamped clock begun store.staged) ∙ group.spelled;
+      long = record {
+        more = lacks.1.more;
+        spelled = ap (λ (all : List Change). spelled_all all) changes ∙ lacks.1.spelled;
+        some = lacks.1.some;
+        needs = lacks.1.needs;
+        passes = omega (arith, lacks.1.passes, ap (λ (t : TwinState). t.journal.gate) same, ap (λ (t : TwinState). t.journal.limit) same);
+      };
+    }
 
 -- whether any wait
 pub waiting_tells : (n : ℕ) (staged : List Entry) → n ≡ length staged → (nat_lt 0 n ≡ true → staged ≡ [] → ⊥) × (nat_lt 0 n ≡ false → staged ≡ [])
@@ -303,27 +356,39 @@ module _ (pass : ℕ) (before after : Progress) (middle staged more : List Entry
       (first flown flies)
 
   -- a turn that added entries
-  entering : (IsBarren stopped → ⊥) → (stopped ≡ stop.Idle → staged ≡ [] → ⊥) → length before.history.items < length after.history.items → IsTurn pass before after turn.Entered
-  entering fruitful busy longer = record {
+  entering : (IsBarren stopped → ⊥) → (stopped ≡ stop.Idle → staged ≡ [] → ⊥) → HasAdded pass before after → IsTurn pass before after turn.Entered
+  entering fruitful busy added = record {
     first = landed fruitful;
-    entered = λ is. longer;
+    entered = λ is. added;
     fetch = λ flown fetches is. absurd cc;
     idle = (λ is. absurd cc, λ both. let stays = idle.1 both in absurd (busy stays.0 stays.1));
     still = λ is. absurd cc;
     others = others;
   }
 
-  module _ (ended : more ≡ []) (leaves : Leaves pass after.flights.items (state_of after.store.core) stopped) where
+  module _ (ended : more ≡ []) (leaves : Leaves pass after.flights.items (state_of after.store.core) stopped)
+      (idles : stopped ≡ stop.Idle → picked (state_of after.store.core) (in_flight after.flights.items) after.lanes ≡ pick.Idle) where
     ends_written : after.history.items ≡ middle
     ends_written = whole ∙ ap (λ (entries : List Entry). middle ++ entries) ended ∙ append-nil middle
 
-    longer : (staged ≡ [] → ⊥) → length before.history.items < length after.history.items
-    longer some = omega (arith, ap length ends_written, written_length before.history.items middle staged wrote, some_length staged some)
+    left_by : (reason : Stop) → stopped ≡ reason → Leaves pass after.flights.items (state_of after.store.core) reason
+    left_by reason is = subst (λ (s : Stop). Leaves pass after.flights.items (state_of after.store.core) s) is leaves
+
+    -- what waited was added
+    adding : (staged ≡ [] → ⊥) → slice_get after.flights.items pass ≡ Some None
+        → (length staged ≡ 16) ⊎ (picked (state_of after.store.core) (in_flight after.flights.items) after.lanes ≡ pick.Idle) → HasAdded pass before after
+    adding some free until = record {
+      added = all_stamped wrote.0 staged;
+      some = some_stamped wrote.0 staged some;
+      history = ends_written ∙ wrote.1;
+      free = free;
+      until = ⊎_elim (λ whole. inl (length-map staged (stamped wrote.0) ∙ whole)) (λ rest. inr (inl rest)) until;
+    }
 
     -- a turn that ended with a fetch
     fetching : (flown : Task) (fetches : Vec (List ℕ × ℕ) Global) → stopped ≡ stop.Fetch flown fetches → IsTurn pass before after (turn.Fetch flown fetches)
     fetching flown fetches is =
-        let left = subst (λ (s : Stop). Leaves pass after.flights.items (state_of after.store.core) s) is leaves in
+        let left = left_by (stop.Fetch flown fetches) is in
         record {
           first = landed (λ barren. subst IsBarren is barren);
           entered = λ made. absurd cc;
@@ -356,11 +421,11 @@ module _ (pass : ℕ) (before after : Progress) (middle staged more : List Entry
     pub made_by : (reason : Stop) (some : Bool) → stopped ≡ reason → HasSome reason staged → (some ≡ true → staged ≡ [] → ⊥) → (some ≡ false → staged ≡ [])
         → IsOver reason → IfOk (over_by reason some) (IsTurn pass before after)
     made_by stop.Whole some is has full empty over =
-        entering (λ barren. subst IsBarren is barren) (λ idles none. some_wait has none) (longer (some_wait has))
+        entering (λ barren. subst IsBarren is barren) (λ rest none. some_wait has none) (adding (some_wait has) (left_by stop.Whole is) (inl has))
     made_by (stop.NoRoom happened) some is has full empty over = absurd over
     made_by (stop.Fetch flown fetches) some is has full empty over = fetching flown fetches is
     made_by stop.Idle true is has full empty over =
-        entering (λ barren. subst IsBarren is barren) (λ idles none. full refl none) (longer (full refl))
+        entering (λ barren. subst IsBarren is barren) (λ rest none. full refl none) (adding (full refl) (left_by stop.Idle is) (inr (idles is)))
     made_by stop.Idle false is has full empty over = idling is (empty refl)
     made_by stop.Done some is has full empty over = tt
     made_by (stop.Stalled lane) some is has full empty over = tt
@@ -368,11 +433,20 @@ module _ (pass : ℕ) (before after : Progress) (middle staged more : List Entry
     made_by stop.NoMemory some is has full empty over = tt
 
   -- an event without room in the group was a group of its own
-  pub made_alone : (happened : Event) (made : Result Turn DriveEnd) → stopped ≡ stop.NoRoom happened
-      → IfOk made (λ made. (made ≡ turn.Entered) × (length middle < length after.history.items)) → IfOk made (IsTurn pass before after)
-  made_alone happened (Err end) is entered = tt
-  made_alone happened (Ok made) is entered =
+  pub made_alone : (happened : Event) (made : Result Turn DriveEnd) → stopped ≡ stop.NoRoom happened → slice_get after.flights.items pass ≡ Some None
+      → ((last : Entry) → last.event ≡ happened → HadNoRoom (state_of before.store.core) before.store.twin (all_stamped wrote.0 staged ++ last ∷ []))
+      → IfOk made (λ made. (made ≡ turn.Entered) × ((last : Entry) × (last.event ≡ happened) × (after.history.items ≡ middle ++ last ∷ []))) → IfOk made (IsTurn pass before after)
+  made_alone happened (Err end) is free lacked entered = tt
+  made_alone happened (Ok made) is free lacked entered =
+      let last : Entry = entered.1.0 in
+      let group = all_stamped wrote.0 staged in
       subst (IsTurn pass before after) (sym entered.0)
       (entering (λ barren. subst IsBarren is barren)
       (λ idles none. let clash : stop.NoRoom happened ≡ stop.Idle = sym is ∙ idles in absurd cc)
-      (omega (arith, entered.1, written_length before.history.items middle staged wrote)))
+      (record {
+        added = group ++ last ∷ [];
+        some = λ none. omega (arith, ap length none, length-append group (last ∷ []));
+        history = entered.1.2 ∙ ap (λ (entries : List Entry). entries ++ last ∷ []) wrote.1 ∙ append_assoc before.history.items group (last ∷ []);
+        free = free;
+        until = inr (inr (lacked last entered.1.1));
+      }))

@@ -57,6 +57,7 @@ Stops workers recording base history lanes flights store (stop.Fetch taken fetch
     IsUnderWay workers recording base history lanes store
 Stops workers recording base history lanes flights store stop.Idle =
     IsUnderWay workers recording base history lanes store
+    × (picked (state_of store.core) (in_flight flights) lanes ≡ pick.Idle)
 Stops workers recording base history lanes flights store stop.Done =
     IsUnderWay workers recording base history lanes store
     × (picked (state_of store.core) (in_flight flights) lanes ≡ pick.Done)
@@ -93,6 +94,12 @@ abbrev pub HasSome : Stop → List Entry → Type 0
 HasSome (stop.NoRoom happened) staged = staged ≢ []
 HasSome stop.Whole staged = length staged ≡ 16
 HasSome _ staged = Unit {0}
+
+-- own: with the changes of the event for which a group has no room its record would pass the limit
+abbrev pub LacksRoom : Stop → StoreState → Type 0
+LacksRoom (stop.NoRoom happened) store =
+    (needed : ℕ) × IsTooLong (changes_of (state_of store.core) happened) store.payload store.twin needed
+LacksRoom _ store = Unit {0}
 
 -- own: there was no memory for an event, or no room on the disk for its changes alone
 abbrev pub IsBarren : Stop → Type 0

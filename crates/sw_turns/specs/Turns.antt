@@ -1,7 +1,8 @@
 -- Turns: what stands between them, and what a turn of a pass makes of it.
-use Rattle.std.specs.Prelude.{◌≡◌, ◌≢◌, ◌<◌, ◌↔◌, ℕ, List, length, Some, None, Result, Ok, Err, slice_get}
+use Rattle.std.specs.Prelude.{◌≡◌, ◌≢◌, ◌⊎◌, ◌↔◌, ℕ, List, [], ◌∷◌, ◌++◌, length, Some, None, Result, Ok, Err, slice_get}
 use Rattle.std.specs.declared.alloc.Global.{Global}
 use Rattle.std.specs.Prelude.{Vec}
+use Rattle.sw_codec.specs.Spelling.{spelled_all}
 use Rattle.sw_core.specs.Fetching.{fetches_of}
 use Rattle.sw_core.specs.Hosted.{state_of}
 use Rattle.sw_data.specs.declared.histories.Entry.{Entry}
@@ -11,20 +12,25 @@ use Rattle.sw_data.specs.declared.storage.Kept.{Kept}
 use Rattle.sw_disk.specs.declared.disk.Disk.{Ghosts}
 use Rattle.sw_lane.specs.Picked.{in_flight, picked}
 use Rattle.sw_lane.specs.declared.picks.Pick.TheVariants as pick
-use Rattle.sw_rules.specs.History.{after}
-use Rattle.sw_store.specs.Stores.{IsQuiet}
+use Rattle.sw_laws.specs.Laws.{changes_along}
+use Rattle.sw_rules.specs.History.{after, after_entries}
+use Rattle.sw_rules.specs.State.{State}
+use Rattle.sw_rules.specs.Step.{changes_of}
+use Rattle.sw_store.specs.Groups.{IsTooLong}
+use Rattle.sw_store.specs.Stores.{IsQuiet, IsTended}
 use Rattle.sw_turns.specs.Ends.{Ended}
 use Rattle.sw_turns.specs.Flights.{AreInFlight, Flies, IsDue}
 use Rattle.sw_turns.specs.Groups.{IsUnderWay}
 use Rattle.sw_turns.specs.Machines.{IsEventOf}
 use Rattle.sw_turns.specs.Settling.{Standing}
-use Rattle.sw_turns.specs.Surviving.{IsAtWork}
+use Rattle.sw_turns.specs.Surviving.{IsAtWork, kept_of}
 use Rattle.sw_turns.specs.declared.ends.DriveEnd.{DriveEnd}
 use Rattle.sw_turns.specs.declared.ends.DriveEnd.TheVariants as drive_end
 use Rattle.sw_turns.specs.declared.ends.Stop.{Stop}
 use Rattle.sw_turns.specs.declared.ends.Turn.{Turn}
 use Rattle.sw_turns.specs.declared.ends.Turn.TheVariants as turn
 use Rattle.sw_turns.specs.declared.progress.Progress.{Progress}
+use Rattle.sw_twin.specs.Twin.{TwinState}
 
 -- own: a recording is under way: nothing waits, the disk keeps what the history makes of the base, and so it stays after a crash
 pub record IsGoing {D : Type 0} (disk : Ghosts D) (start now : D) (recording : Recording) (base : Kept) (p : Progress) : Type 0 where
@@ -32,6 +38,7 @@ pub record IsGoing {D : Type 0} (disk : Ghosts D) (start now : D) (recording : R
   pub under_way : IsUnderWay (length p.flights.items) recording base p.history.items p.lanes p.store
   pub quiet : IsQuiet p.store
   pub at_work : IsAtWork disk start now base p.history.items p.store
+  pub tended : IsTended (kept_of base p.history.items) p.store
   pub flights : AreInFlight (state_of p.store.core) p.flights.items
   pub due : IsDue (state_of p.store.core) p.lanes p.flights.items
 
@@ -69,11 +76,33 @@ pub record IsLanding (before after : Progress) (flown : Task) : Type 0 where
   pub there : slice_get after.history.items (length before.history.items) ≡ Some entry
   pub event : IsEventOf before.net (state_of before.store.core) flown entry.event
 
+-- own: the last of these entries, which were added to a history that left this state, had no room in the record of the others
+pub record HadNoRoom (begun : State) (twin : TwinState) (added : List Entry) : Type 0 where
+  pub others : List Entry
+  pub last : Entry
+  pub payload : List ℕ
+  pub needed : ℕ
+  pub added_is : added ≡ others ++ last ∷ []
+  pub some : others ≢ []
+  pub spelled : spelled_all (changes_along begun others) ≡ Some payload
+  pub long : IsTooLong (changes_of (after_entries begun others) last.event) payload twin needed
+
+-- own: a turn added entries, until there were sixteen, or nothing was ready but what is in flight; but for one that had no room in
+-- the record of those before it, which is the last
+pub record HasAdded (pass : ℕ) (before after : Progress) : Type 0 where
+  pub added : List Entry
+  pub some : added ≢ []
+  pub history : after.history.items ≡ before.history.items ++ added
+  pub free : slice_get after.flights.items pass ≡ Some None
+  pub until : (length added ≡ 16)
+      ⊎ ((picked (state_of after.store.core) (in_flight after.flights.items) after.lanes ≡ pick.Idle)
+      ⊎ HadNoRoom (state_of before.store.core) before.store.twin added)
+
 -- own: what a turn makes: a pass that has taken up a fetch makes its event first; it adds entries, takes up a fetch, or is idle
 -- exactly where it has taken up none, another is in flight, and nothing is ready but what is in flight
 pub record IsTurn (pass : ℕ) (before after : Progress) (made : Turn) : Type 0 where
   pub first : (flown : Task) → Flies before.flights.items pass flown → IsLanding before after flown
-  pub entered : made ≡ turn.Entered → length before.history.items < length after.history.items
+  pub entered : made ≡ turn.Entered → HasAdded pass before after
   pub fetch : (flown : Task) (fetches : Vec (List ℕ × ℕ) Global) → made ≡ turn.Fetch flown fetches
       → Flies after.flights.items pass flown × (fetches.items ≡ fetches_of (state_of after.store.core) flown)
   pub idle : (made ≡ turn.Idle)

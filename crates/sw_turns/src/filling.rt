@@ -1,7 +1,8 @@
 //! Groups of events.
 
-ghost use Rattle.std.specs.Prelude.{◌≡◌, ◌≢◌, ◌↔◌, ◌<◌, ◌≤◌, ◌+◌, ◌++◌, ◌∷◌, [], ℕ, List, Option, Some, None, length, true, false, slice_get, IfErr, OnErr, OnOk};
+ghost use Rattle.std.specs.Prelude.{◌≡◌, ◌≢◌, ◌↔◌, ◌<◌, ◌≤◌, ◌+◌, ◌++◌, ◌∷◌, [], ℕ, List, Option, Some, None, length, true, false, slice_get, IfErr, IsErrOf, OnErr, OnOk};
 ghost use Rattle.sw_core.specs.Hosted.{state_of};
+ghost use Rattle.sw_data.specs.declared.events.Event as events;
 ghost use Rattle.sw_data.specs.declared.histories.Entry as entries;
 ghost use Rattle.sw_data.specs.declared.histories.Task as tasks;
 ghost use Rattle.sw_data.specs.declared.recordings.Recording.{Recording};
@@ -13,10 +14,11 @@ ghost use Rattle.sw_lane.specs.declared.picks.Work.TheVariants as work;
 ghost use Rattle.sw_laws.specs.Coherent.{Coherent};
 ghost use Rattle.sw_lock.specs.Entries.{ThenOwn};
 ghost use Rattle.sw_rules.specs.State.{State};
-ghost use Rattle.sw_rules.specs.Step.{enabled};
+ghost use Rattle.sw_rules.specs.Step.{changes_of, enabled};
+ghost use Rattle.sw_store.specs.Groups.{IsTooLong};
 ghost use Rattle.sw_store.specs.Stores.{IsSameTwin};
 ghost use Rattle.sw_turns.specs.Flights.{AreInFlight, Flies, IsDue, Spares};
-ghost use Rattle.sw_turns.specs.Groups.{Begins, HasEntered, HasSome, IsBarren, IsByPick, IsHeld, IsTaken, IsUnderWay, Leaves, Stops};
+ghost use Rattle.sw_turns.specs.Groups.{Begins, HasEntered, HasSome, IsBarren, IsByPick, IsHeld, IsTaken, IsUnderWay, LacksRoom, Leaves, Stops};
 ghost use Rattle.sw_turns.specs.declared.ends.Stop.TheVariants as stopped;
 
 use crate::ends::Stop;
@@ -46,6 +48,7 @@ pub(crate) fn enter(alloc: Global, store: &mut Store, event: Event, pass: u32) -
         → AreInFlight (state_of store.new.core) flights }
     ensures coherent { Coherent (state_of store.new.core) }
     ensures twin { IsSameTwin store.old.twin store.new.twin }
+    ensures mark { store.new.mark ≡ store.old.mark }
     ensures since { store.new.since ≡ None }
     ensures own { ThenOwn (λ entry. entry.pass) pass store.old.staged store.new.staged }
     ensures entry { OnOk result ((entry : entries.Entry) × (entry.event ≡ event)
@@ -53,7 +56,12 @@ pub(crate) fn enter(alloc: Global, store: &mut Store, event: Event, pass: u32) -
     ensures same { OnErr result (store.new.staged ≡ store.old.staged) }
     ensures kind { IfErr result IsByPick }
     ensures alone { store.old.staged ≡ [] → IfErr result IsBarren }
+    ensures no_room { (refused : events.Event) → IsErrOf result (stopped.NoRoom refused)
+        → (refused ≡ event) × ((needed : ℕ)
+        × IsTooLong (changes_of (state_of store.old.core) event) store.old.payload
+        store.old.twin needed) }
     ensures some { IfErr result (λ stop. HasSome stop store.new.staged) }
+    ensures lacks { IfErr result (λ stop. LacksRoom stop store.new) }
     ensures leaves { (state : State) (flights : List (Option tasks.Task))
         → slice_get flights pass ≡ Some None → Spares event flights
         → IfErr result (Leaves pass flights state) }
@@ -103,6 +111,7 @@ fn take_off(
         → Stops workers recording base history lanes.now flights.new store.now result }
     ensures kind { IsByPick result }
     ensures some { HasSome result store.now.staged }
+    ensures lacks { LacksRoom result store.now }
 {
     match store.core().fetches(alloc, task) {
         Ok(fetches) => {
@@ -139,12 +148,14 @@ fn perform(
     ensures flights { AreInFlight (state_of store.new.core) flights.now }
     ensures coherent { Coherent (state_of store.new.core) }
     ensures twin { IsSameTwin store.old.twin store.new.twin }
+    ensures mark { store.new.mark ≡ store.old.mark }
     ensures since { store.new.since ≡ None }
     ensures own { ThenOwn (λ entry. entry.pass) pass store.old.staged store.new.staged }
     ensures more { OnOk result (length store.new.staged ≡ length store.old.staged + 1) }
     ensures same { OnErr result (store.new.staged ≡ store.old.staged) }
     ensures kind { IfErr result IsByPick }
     ensures some { IfErr result (λ stop. HasSome stop store.new.staged) }
+    ensures lacks { IfErr result (λ stop. LacksRoom stop store.new) }
     ensures leaves { IfErr result (Leaves pass flights.now (state_of store.new.core)) }
     ensures taken { IfErr result (IsTaken pass flights.now flights.now) }
 {
@@ -180,6 +191,7 @@ fn take_up(
     ensures due { IsDue (state_of store.new.core) lanes.new flights.new }
     ensures coherent { Coherent (state_of store.new.core) }
     ensures twin { IsSameTwin store.old.twin store.new.twin }
+    ensures mark { store.new.mark ≡ store.old.mark }
     ensures since { store.new.since ≡ None }
     ensures own { ThenOwn (λ entry. entry.pass) pass store.old.staged store.new.staged }
     ensures ok { OnOk result (flights.new ≡ flights.old) }
@@ -187,6 +199,7 @@ fn take_up(
     ensures same { OnErr result (store.new.staged ≡ store.old.staged) }
     ensures kind { IfErr result IsByPick }
     ensures some { IfErr result (λ stop. HasSome stop store.new.staged) }
+    ensures lacks { IfErr result (λ stop. LacksRoom stop store.new) }
     ensures leaves { IfErr result (Leaves pass flights.new (state_of store.new.core)) }
     ensures taken { IfErr result (IsTaken pass flights.old flights.new) }
 {
@@ -239,10 +252,12 @@ fn fill(
     ensures due { IsDue (state_of store.new.core) lanes.new flights.new }
     ensures coherent { Coherent (state_of store.new.core) }
     ensures twin { IsSameTwin store.old.twin store.new.twin }
+    ensures mark { store.new.mark ≡ store.old.mark }
     ensures since { store.new.since ≡ None }
     ensures own { ThenOwn (λ entry. entry.pass) pass store.old.staged store.new.staged }
     ensures few { length store.new.staged ≤ 16 }
     ensures some { HasSome result store.new.staged }
+    ensures lacks { LacksRoom result store.new }
     ensures leaves { Leaves pass flights.new (state_of store.new.core) result }
     ensures taken { IsTaken pass flights.old flights.new result }
 
@@ -299,10 +314,12 @@ pub(crate) fn begin(
         → slice_get flights.new other ≡ slice_get flights.old other }
     ensures coherent { Coherent (state_of store.new.core) }
     ensures twin { IsSameTwin store.old.twin store.new.twin }
+    ensures mark { store.new.mark ≡ store.old.mark }
     ensures since { store.new.since ≡ None }
     ensures own { ThenOwn (λ entry. entry.pass) pass [] store.new.staged }
     ensures few { length store.new.staged ≤ 16 }
     ensures some { HasSome result store.new.staged }
+    ensures lacks { LacksRoom result store.new }
     ensures first { (flown : tasks.Task) → Flies flights.old pass flown
         → Begins net.now (state_of store.old.core) flown store.new.staged result }
     ensures leaves { Leaves pass flights.new (state_of store.new.core) result }

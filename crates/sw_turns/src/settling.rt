@@ -5,8 +5,8 @@ ghost use Rattle.std.specs.Vec.{vec_capacity, vec_len};
 ghost use Rattle.sw_data.specs.declared.histories.Entry as entries;
 ghost use Rattle.sw_turns.specs.Ends.{IsCutShort};
 ghost use Rattle.sw_turns.specs.Settling.{HasSettled, HasStopped, IsNotFull, IsWritten, Standing};
-ghost use Rattle.sw_turns.specs.Surviving.{IsAtWork, latest};
-ghost use Rattle.sw_store.specs.Stores.{IsQuiet};
+ghost use Rattle.sw_turns.specs.Surviving.{IsAtWork, kept_of, latest};
+ghost use Rattle.sw_store.specs.Stores.{IsQuiet, IsTended};
 
 use crate::ends::DriveEnd;
 use std::alloc::Global;
@@ -48,6 +48,9 @@ fn write_group<D: Disk>(
         → OnOk result (HasStopped D.Disk disk.new s history.new.items store.new) }
     ensures core { store.new.core ≡ store.old.core }
     ensures quiet { OnOk result (IsQuiet store.new) }
+    ensures tended { (s : Standing) → HasStopped D.Disk disk.old s history.old.items store.old
+        → store.old.payload ≡ [] → IsTended (kept_of s.base history.old.items) store.old
+        → OnOk result (IsTended (kept_of s.base history.new.items) store.new) }
     ensures written { OnOk result
         (IsWritten history.old.items history.new.items store.old.staged) }
     ensures same { OnErr result (history.new.items ≡ history.old.items) }
@@ -79,6 +82,9 @@ fn tend<D: Disk>(alloc: Global, store: &mut Store, disk: &mut D) -> Result<(), D
         → OnOk result (HasStopped D.Disk disk.new s history store.new) }
     ensures core { store.new.core ≡ store.old.core }
     ensures quiet { OnOk result (IsQuiet store.new) }
+    ensures tended { (s : Standing) (history : List entries.Entry)
+        → HasStopped D.Disk disk.old s history store.old
+        → OnOk result (IsTended (kept_of s.base history) store.new) }
     ensures cut { IfErr result IsCutShort }
 {
     match store.tend(alloc, disk) {
@@ -107,6 +113,11 @@ pub(crate) fn settle<D: Disk>(
         → OnOk result (HasStopped D.Disk disk.new s history.new.items store.new) }
     ensures core { store.new.core ≡ store.old.core }
     ensures quiet { OnOk result (IsQuiet store.new) }
+
+    // Where changes were written, what is kept is written anew if that is due.
+    ensures tended { (s : Standing) → HasStopped D.Disk disk.old s history.old.items store.old
+        → IsTended (kept_of s.base history.old.items) store.old
+        → OnOk result (IsTended (kept_of s.base history.new.items) store.new) }
 
     // Where a checkpoint fails the entries are the history's all the same.
     ensures written { OnOk result

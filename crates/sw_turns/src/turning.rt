@@ -1,17 +1,18 @@
 //! Turns of passes: a group of events each.
 
-ghost use Rattle.std.specs.Prelude.{◌≡◌, ◌<◌, ◌+◌, ◌≤◌, length, IfErr, IfOk};
+ghost use Rattle.std.specs.Prelude.{◌≡◌, ◌<◌, ◌+◌, ◌++◌, ◌≤◌, ◌∷◌, [], length, IfErr, IfOk};
 ghost use Rattle.std.specs.Vec.{vec_capacity, vec_len};
 ghost use Rattle.sw_core.specs.Hosted.{state_of};
+ghost use Rattle.sw_data.specs.declared.histories.Entry as entries;
 ghost use Rattle.sw_data.specs.declared.recordings.Recording.{Recording};
 ghost use Rattle.sw_data.specs.declared.storage.Kept.{Kept};
 ghost use Rattle.sw_lock.specs.Entries.{ThenOwn};
-ghost use Rattle.sw_store.specs.Stores.{IsQuiet};
+ghost use Rattle.sw_store.specs.Stores.{IsQuiet, IsTended};
 ghost use Rattle.sw_turns.specs.Ends.{IsKept};
 ghost use Rattle.sw_turns.specs.Flights.{AreInFlight};
 ghost use Rattle.sw_turns.specs.Groups.{IsOver, Leaves, over_by};
 ghost use Rattle.sw_turns.specs.Settling.{HasStopped};
-ghost use Rattle.sw_turns.specs.Surviving.{IsAtWork};
+ghost use Rattle.sw_turns.specs.Surviving.{IsAtWork, kept_of};
 ghost use Rattle.sw_turns.specs.Turns.{HasTurned, IsGoing, IsSameBeside, IsTurn, standing_of};
 ghost use Rattle.sw_turns.specs.declared.ends.Stop.TheVariants as stopped;
 ghost use Rattle.sw_turns.specs.declared.ends.Turn.TheVariants as turned;
@@ -85,12 +86,14 @@ impl Progress {
             (standing_of recording base self.old (stopped.NoRoom event)) self.old.history.items
             self.old.store
             → IsAtWork D.Disk start disk.old base self.old.history.items self.old.store
+            → IsTended (kept_of base self.old.history.items) self.old.store
             → HasTurned D.Disk start disk.new recording base self.new result }
         ensures beside { IsSameBeside self.old self.new }
         ensures own { ThenOwn (λ entry. entry.pass) pass self.old.history.items
             self.new.history.items }
         ensures entered { IfOk result (λ turn. (turn ≡ turned.Entered)
-            × (length self.old.history.items < length self.new.history.items)) }
+            × ((last : entries.Entry) × (last.event ≡ event)
+            × (self.new.history.items ≡ self.old.history.items ++ last ∷ []))) }
         ensures kept { IfErr result IsKept }
     {
         match enter(alloc, &mut self.store, event, pass) {

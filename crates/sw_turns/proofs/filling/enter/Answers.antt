@@ -2,9 +2,10 @@
 use Rattle.std.proofs.Common.{◌≡◌, ◌∙◌, Some, None, Err, sym, ap, subst}
 use Rattle.sw_data.specs.declared.events.Event.{Event}
 use Rattle.sw_turns.specs.Flights.{Spares}
-use Rattle.sw_turns.specs.Groups.{IsHeld, IsRefused}
+use Rattle.sw_turns.specs.Groups.{IsHeld, IsRefused, LacksRoom}
+use Rattle.sw_turns.specs.declared.ends.Stop.TheVariants as stop
 use Rattle.sw_store.specs.declared.errors.StageError.{StageError}
-use Rattle.sw_turns.proofs.GroupLemmas.{adds_own, entry_waits, is_refused, joined, no_memory, same_flying, same_own, same_staged, stays_coherent, stays_flying, stays_held}
+use Rattle.sw_turns.proofs.GroupLemmas.{adds_own, entry_waits, is_refused, joined, no_memory, same_flying, same_own, same_staged, stays_coherent, stays_flying, stays_held, still_too_long}
 use Rattle.sw_turns.proofs.filling.enter.Goals as goal
 
 pub unreachable-requires : goal.unreachable-requires
@@ -78,6 +79,18 @@ pub returns-in-Err-NoRoom-clause-some : goal.returns-in-Err-NoRoom-clause-some
 returns-in-Err-NoRoom-clause-some c = λ empty.
     (c.in-Err-NoRoom.ensures.no_room c.in-Err-NoRoom.event (ap (λ (error : StageError). Err error) c.in-Err-NoRoom.field-0-is)).1
     (sym (same_staged c.args.store.now c.stage.new.self c.in-Err-NoRoom.ensures.same) ∙ empty)
+
+pub returns-in-Err-NoRoom-clause-no_room : goal.returns-in-Err-NoRoom-clause-no_room
+returns-in-Err-NoRoom-clause-no_room c = λ refused is.
+    let none = c.in-Err-NoRoom.ensures.no_room c.in-Err-NoRoom.event (ap (λ (error : StageError). Err error) c.in-Err-NoRoom.field-0-is) in
+    let same : c.in-Err-NoRoom.event ≡ refused = cc in
+    (sym same ∙ none.0, none.2)
+
+pub returns-in-Err-NoRoom-clause-lacks : goal.returns-in-Err-NoRoom-clause-lacks
+returns-in-Err-NoRoom-clause-lacks c =
+    let none = c.in-Err-NoRoom.ensures.no_room c.in-Err-NoRoom.event (ap (λ (error : StageError). Err error) c.in-Err-NoRoom.field-0-is) in
+    subst (λ (happened : Event). LacksRoom (stop.NoRoom happened) c.stage.new.self) (sym none.0)
+    (none.2.0, still_too_long c.args.store.now c.stage.new.self c.in-Err-NoRoom.ensures.same c.args.event none.2.0 none.2.1)
 
 pub returns-in-Err-NoRoom-clause-leaves : goal.returns-in-Err-NoRoom-clause-leaves
 returns-in-Err-NoRoom-clause-leaves c = λ state flights free spares.

@@ -34,6 +34,7 @@ events-preserved c =
           ∙ was.still (was.idle is) ∙ is in
           absurd cc;
       twin = same_twins c.args.store.now.twin c.events.store.twin c.take_up.new.store.twin was.twin joined.twin;
+      mark = joined.mark ∙ was.mark;
       own = further_own c.args.pass c.args.store.now.staged c.events.store.staged c.take_up.new.store.staged was.own joined.own;
       goes_on = λ recording base history same goes.
           subst (λ (workers : ℕ). IsUnderWay workers recording base history c.take_up.new.lanes c.take_up.new.store) (ap length was.same)
@@ -69,6 +70,12 @@ returns-in-Err-clause-at_once c = λ few is.
     sym (picked_by c.core.result.now c.events.store.core (in_flight c.events.flights) c.events.lanes (pick.Work c.in-Work.picked) c.core.ensures c.in-Work.ensures)
     ∙ c.events.invariant.still (c.events.invariant.idle is) ∙ is in
     absurd cc
+
+pub returns-in-Idle-clause-goes_on : goal.returns-in-Idle-clause-goes_on
+returns-in-Idle-clause-goes_on c = λ recording base history same goes. (
+  c.events.invariant.goes_on recording base history same goes,
+  picked_by c.core.result.now c.events.store.core (in_flight c.events.flights) c.events.lanes pick.Idle c.core.ensures c.in-Idle.ensures,
+)
 
 pub returns-in-Idle-clause-due : goal.returns-in-Idle-clause-due
 returns-in-Idle-clause-due c =

@@ -26,6 +26,7 @@ invariant-events l = record {
   idle : picked (state_of l.initial.store.core) (in_flight l.initial.flights) l.initial.lanes ≡ pick.Idle
       → length l.store.staged ≡ length l.initial.store.staged;
   twin : IsSameTwin l.initial.store.twin l.store.twin;
+  mark : l.store.mark ≡ l.initial.store.mark;
   own : ThenOwn (λ (entry : Entry). entry.pass) l.pass l.initial.store.staged l.store.staged;
   goes_on : (recording : Recording) (base : Kept) (history : List Entry) → recording.fetches ≡ l.net
       → IsUnderWay (length l.initial.flights) recording base history l.initial.lanes l.initial.store

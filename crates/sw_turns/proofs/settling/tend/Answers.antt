@@ -1,5 +1,5 @@
 -- What is kept is written anew, or stays.
-use Rattle.sw_turns.proofs.SettleLemmas.{ends_spoilt, ends_untended, is_made, stopped_still, works_still}
+use Rattle.sw_turns.proofs.SettleLemmas.{ends_spoilt, ends_untended, is_made, stopped_still, tended_still, works_still}
 use Rattle.sw_turns.proofs.settling.tend.Goals as goal
 
 pub tend-requires-clause-made : goal.tend-requires-clause-made
@@ -31,10 +31,14 @@ returns-in-Ok-clause-stopped g c s history room halted =
       told = c.in-Ok.ensures.told;
     })
 
+pub returns-in-Ok-clause-tended : goal.returns-in-Ok-clause-tended
+returns-in-Ok-clause-tended g c s history halted =
+    tended_still g.D.Disk c.args.disk.now c.tend.new.disk s history c.args.store.now halted c.requires.quiet.staged c.tend.new.self c.in-Ok.ensures.tended
+
 pub returns-in-Err-NoMemory-clause-goes_on : goal.returns-in-Err-NoMemory-clause-goes_on
 returns-in-Err-NoMemory-clause-goes_on g c s start history halted work ahead =
     ends_untended g.D.Disk c.args.disk.now c.tend.new.disk s history c.args.store.now halted c.requires.quiet.staged start work
-    (c.in-Err-NoMemory.ensures.no_memory (cc c.in-Err-NoMemory.field-0-is))
+    (c.in-Err-NoMemory.ensures.no_memory (cc c.in-Err-NoMemory.field-0-is)).1
 
 pub returns-in-Err-DiskFault-clause-goes_on : goal.returns-in-Err-DiskFault-clause-goes_on
 returns-in-Err-DiskFault-clause-goes_on g c s start history halted work ahead =

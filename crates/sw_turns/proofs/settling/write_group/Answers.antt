@@ -1,18 +1,19 @@
 -- A group is written, and its entries are the history's; or it was refused.
 use Rattle.std.proofs.Common.{◌≡◌, ◌++◌, List, ◌∙◌, ap, sym, subst}
 use Rattle.sw_data.specs.declared.histories.Entry.{Entry}
-use Rattle.sw_turns.proofs.SettleLemmas.{HasWritten, ahead, ends_refused, stopped_on, works_on}
+use Rattle.sw_turns.proofs.SettleLemmas.{HasWritten, ahead, ends_refused, stopped_on, tended_on, works_on}
 use Rattle.sw_turns.proofs.settling.write_group.Given.{Over}
 use Rattle.sw_turns.proofs.settling.write_group.Goals as goal
 use Rattle.sw_turns.proofs.settling.write_group.Goals.{After-add_all}
 use Rattle.sw_turns.specs.Settling.{HasStopped}
-use Rattle.sw_turns.specs.Surviving.{IsAtWork}
-use Rattle.sw_store.specs.Stores.{all_stamped}
+use Rattle.sw_turns.specs.Surviving.{IsAtWork, kept_of}
+use Rattle.sw_store.specs.Stores.{IsTended, all_stamped}
 
 wrote : (g : Over) (c : After-add_all g) → HasWritten g.D.Disk c.args.disk.now c.commit.new.disk c.args.store.now c.commit.new.self
 wrote g c = record {
   quiet = c.in-Ok.ensures.ok;
   core = c.commit.ensures.core;
+  mark = c.commit.ensures.mark;
   limit = c.commit.ensures.limit;
   keeps = c.in-Ok.ensures.keeps;
   any_moment = c.commit.ensures.any_moment;
@@ -46,6 +47,11 @@ pub returns-in-Ok-clause-stopped : goal.returns-in-Ok-clause-stopped
 returns-in-Ok-clause-stopped g c s halted =
     subst (λ (entries : List Entry). HasStopped g.D.Disk c.commit.new.disk s entries c.commit.new.self) (history_is g c)
     (stopped_on g.D.Disk c.args.disk.now c.commit.new.disk s c.args.history.now.items c.args.store.now halted c.commit.new.self (wrote g c))
+
+pub returns-in-Ok-clause-tended : goal.returns-in-Ok-clause-tended
+returns-in-Ok-clause-tended g c s halted none tended =
+    subst (λ (entries : List Entry). IsTended (kept_of s.base entries) c.commit.new.self) (history_is g c)
+    (tended_on g.D.Disk c.args.disk.now c.commit.new.disk s c.args.history.now.items c.args.store.now halted c.commit.new.self (wrote g c) none tended)
 
 pub returns-in-Ok-clause-written : goal.returns-in-Ok-clause-written
 returns-in-Ok-clause-written g c = (g.D.Disk.clock c.commit.new.disk, sym (history_is g c))

@@ -3,9 +3,10 @@ use Rattle.std.proofs.Common.{◌∙◌, List, Result, true, length, refl, sym, 
 use Rattle.sw_core.specs.Hosted.{Hosted, state_of}
 use Rattle.sw_data.specs.declared.histories.Entry.{Entry}
 use Rattle.sw_lock.specs.Entries.{ThenOwn}
-use Rattle.sw_turns.proofs.TurnLemmas.{alone_halted, cut_kept, cut_rests, free_due, going, own_either, own_written, sound, turned_barren, works_roomy}
+use Rattle.sw_turns.proofs.TurnLemmas.{alone_halted, cut_kept, cut_rests, free_due, going, own_either, own_written, sound, tended_roomy, turned_barren, works_roomy, written_last}
 use Rattle.sw_turns.proofs.progress.Progress.alone.Goals as goal
 use Rattle.sw_turns.specs.Flights.{AreInFlight}
+use Rattle.sw_turns.specs.Surviving.{kept_of}
 use Rattle.sw_turns.specs.Turns.{HasTurned, standing_of}
 use Rattle.sw_turns.specs.declared.ends.DriveEnd.{DriveEnd}
 use Rattle.sw_turns.specs.declared.ends.Stop.TheVariants as stop
@@ -30,7 +31,7 @@ settle-requires-clause-stopped g c =
     )
 
 pub returns-in-Ok-settle-clause-turned : goal.returns-in-Ok-settle-clause-turned
-returns-in-Ok-settle-clause-turned g c recording base start lines halts work =
+returns-in-Ok-settle-clause-turned g c recording base start lines halts work tended =
     let p = c.args.self.now in
     let s = standing_of recording base p stop.Whole in
     let joined = alone_halted g.D.Disk c.args.disk.now recording base p c.args.event c.enter.new.store stop.Whole halts c.enter.ensures.twin
@@ -38,10 +39,18 @@ returns-in-Ok-settle-clause-turned g c recording base start lines halts work =
     let works = works_roomy g.D.Disk start c.args.disk.now base p.history.items p.history.items p.store c.enter.new.store refl c.enter.ensures.twin work in
     going g.D.Disk start c.settle.new.disk recording base (record p { store = c.settle.new.store; history = c.settle.new.history }) (c.in-Ok-settle.ensures.goes_on s start joined works)
     lines c.in-Ok-settle.ensures.quiet
+    (c.in-Ok-settle.ensures.tended s joined (tended_roomy (kept_of base p.history.items) p.store c.enter.new.store c.enter.ensures.twin c.enter.ensures.mark tended))
     (subst (λ (host : Hosted). AreInFlight (state_of host) p.flights.items) (sym c.settle.ensures.core)
     (c.enter.ensures.flights p.flights.items c.requires.leaves.1 c.requires.flights))
     (free_due (state_of c.settle.new.store.core) p.lanes p.flights.items c.args.pass c.requires.pass c.requires.leaves.0)
     (c.in-Ok-settle.ensures.stopped s joined).stops
+
+pub returns-in-Ok-settle-clause-entered : goal.returns-in-Ok-settle-clause-entered
+returns-in-Ok-settle-clause-entered g c = (
+  refl,
+  written_last c.args.event c.args.self.now.history.items c.settle.new.history.items c.args.self.now.store.staged c.enter.new.store.staged
+      c.requires.quiet.staged c.in-Ok.ensures.entry c.in-Ok-settle.ensures.written,
+)
 
 pub returns-in-Ok-settle-clause-own : goal.returns-in-Ok-settle-clause-own
 returns-in-Ok-settle-clause-own g c =
@@ -50,7 +59,7 @@ returns-in-Ok-settle-clause-own g c =
     c.in-Ok-settle.ensures.written
 
 pub returns-in-Err-settle-clause-turned : goal.returns-in-Err-settle-clause-turned
-returns-in-Err-settle-clause-turned g c recording base start lines halts work =
+returns-in-Err-settle-clause-turned g c recording base start lines halts work tended =
     let p = c.args.self.now in
     let joined = alone_halted g.D.Disk c.args.disk.now recording base p c.args.event c.enter.new.store stop.Whole halts c.enter.ensures.twin
     (c.in-Ok.ensures.goes_on (length p.flights.items) recording base p.history.items p.lanes p.flights.items c.requires.pass halts.stops) in
@@ -69,7 +78,7 @@ returns-in-Err-settle-clause-own g c =
     c.settle.ensures.either
 
 pub returns-in-Err-clause-turned : goal.returns-in-Err-clause-turned
-returns-in-Err-clause-turned g c recording base start lines halts work =
+returns-in-Err-clause-turned g c recording base start lines halts work tended =
     let p = c.args.self.now in
     let refused = record p { store = c.enter.new.store } in
     let works = works_roomy g.D.Disk start c.args.disk.now base p.history.items p.history.items p.store c.enter.new.store refl c.enter.ensures.twin work in

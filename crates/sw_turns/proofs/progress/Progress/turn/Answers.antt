@@ -4,7 +4,8 @@ use Rattle.sw_core.specs.Hosted.{Hosted, state_of}
 use Rattle.sw_data.specs.declared.histories.Entry.{Entry}
 use Rattle.sw_data.specs.declared.histories.Task.{Task}
 use Rattle.sw_turns.proofs.EndLemmas.{ends_short}
-use Rattle.sw_turns.proofs.TurnLemmas.{begun_host, cut_kept, cut_rests, flights_are, halted, made_alone, made_by, not_held, over_kept, own_either, own_then, own_written, sound, turned, waiting_tells, working}
+use Rattle.sw_turns.proofs.SettleLemmas.{rests}
+use Rattle.sw_turns.proofs.TurnLemmas.{begun_host, cut_kept, cut_rests, flights_are, grouped, had_no_room, halted, made_alone, made_by, not_held, over_kept, own_either, own_then, own_written, sound, tending, turned, waiting_tells, working}
 use Rattle.sw_turns.proofs.progress.Progress.turn.Goals as goal
 use Rattle.sw_turns.specs.Ends.{Ended, IsKept}
 use Rattle.sw_turns.specs.Flights.{AreInFlight, IsDue}
@@ -58,23 +59,33 @@ returns-in-NoRoom-clause-turned g c recording base start going =
     c.reserve.ensures.items (rw c.as_mut_slice.ensures.value at c.begin-stop.ensures.workers) c.begin-stop.ensures.twin (rw c.as_mut_slice.ensures.value at c.in-NoRoom.ensures.goes_on) in
     let works = working g.D.Disk start c.args.disk.now recording base p c.reserve.new.self c.begin-stop.new.lanes c.begin-stop.new.store c.begin-stop.new.flights reason going
     c.reserve.ensures.items (rw c.as_mut_slice.ensures.value at c.begin-stop.ensures.workers) c.begin-stop.ensures.twin (rw c.as_mut_slice.ensures.value at c.in-NoRoom.ensures.goes_on) in
-    c.alone.ensures.turned recording base start going.lines (c.in-Ok.ensures.stopped s halts) (c.in-Ok.ensures.goes_on s start halts works)
+    let tends = tending g.D.Disk start c.args.disk.now recording base p c.reserve.new.self c.begin-stop.new.lanes c.begin-stop.new.store c.begin-stop.new.flights reason going
+    c.reserve.ensures.items (rw c.as_mut_slice.ensures.value at c.begin-stop.ensures.workers) c.begin-stop.ensures.twin (rw c.as_mut_slice.ensures.value at c.in-NoRoom.ensures.goes_on) c.begin-stop.ensures.mark in
+    c.alone.ensures.turned recording base start going.lines (c.in-Ok.ensures.stopped s halts) (c.in-Ok.ensures.goes_on s start halts works) (c.in-Ok.ensures.tended s halts tends)
 
 pub returns-in-NoRoom-clause-turn : goal.returns-in-NoRoom-clause-turn
 returns-in-NoRoom-clause-turn g c =
     let p = c.args.self.now in
+    let it = c.requires.going in
     let fs = c.begin-stop.new.flights in
-    let all = flights_are p fs (rw c.as_mut_slice.ensures.value at c.begin-stop.ensures.workers) in
+    let count = rw c.as_mut_slice.ensures.value at c.begin-stop.ensures.workers in
+    let all = flights_are p fs count in
     let others = rw c.as_mut_slice.ensures.value at c.begin-stop.ensures.others in
-    made_alone c.args.pass p c.alone.new.self c.settle.new.history.items c.begin-stop.new.store.staged c.alone.ensures.own.0 c.begin-stop.result
-    (subst (λ (entries : List Entry). IsWritten entries c.settle.new.history.items c.begin-stop.new.store.staged) c.reserve.ensures.items c.in-Ok.ensures.written)
+    let wrote = subst (λ (entries : List Entry). IsWritten entries c.settle.new.history.items c.begin-stop.new.store.staged) c.reserve.ensures.items c.in-Ok.ensures.written in
+    let group = grouped g.D.Disk it.2 c.args.disk.now it.0 it.1 p c.reserve.new.self c.begin-stop.new.lanes c.begin-stop.new.store fs (stop.NoRoom c.in-NoRoom.event) it.3
+    c.reserve.ensures.items count c.begin-stop.ensures.twin (rw c.as_mut_slice.ensures.value at c.in-NoRoom.ensures.goes_on) in
+    made_alone c.args.pass p c.alone.new.self c.settle.new.history.items c.begin-stop.new.store.staged c.alone.ensures.own.0 c.begin-stop.result wrote
     c.alone.ensures.own.1
     (rw c.as_mut_slice.ensures.value at c.begin-stop.ensures.first)
     (rw c.as_mut_slice.ensures.value at c.begin-stop.ensures.idle)
     (λ other apart.
     ap (λ (flights : Vec (Option Task) Global). slice_get flights.items other) c.alone.ensures.beside.flights
     ∙ ap (λ (flights : List (Option Task)). slice_get flights other) all ∙ others other apart)
-    c.in-NoRoom.event c.alone.result c.in-NoRoom.is c.alone.ensures.entered
+    c.in-NoRoom.event c.alone.result c.in-NoRoom.is
+    (ap (λ (flights : Vec (Option Task) Global). slice_get flights.items c.args.pass) c.alone.ensures.beside.flights
+    ∙ ap (λ (flights : List (Option Task)). slice_get flights c.args.pass) all ∙ c.in-NoRoom.ensures.leaves.0)
+    (had_no_room (state_of p.store.core) p.store.twin c.begin-stop.new.store c.in-NoRoom.event wrote.0 group c.begin-stop.ensures.twin c.in-NoRoom.ensures.some c.in-NoRoom.ensures.lacks)
+    c.alone.ensures.entered
 
 pub returns-in-NoRoom-clause-own : goal.returns-in-NoRoom-clause-own
 returns-in-NoRoom-clause-own g c =
@@ -100,15 +111,22 @@ returns-in_default g c =
           c.reserve.ensures.items count c.begin-stop.ensures.twin (rw c.as_mut_slice.ensures.value at c.begin-stop.ensures.goes_on) in
           let works = working g.D.Disk start c.args.disk.now recording base p c.reserve.new.self c.begin-stop.new.lanes c.begin-stop.new.store fs c.begin-stop.result going
           c.reserve.ensures.items count c.begin-stop.ensures.twin (rw c.as_mut_slice.ensures.value at c.begin-stop.ensures.goes_on) in
+          let tends = tending g.D.Disk start c.args.disk.now recording base p c.reserve.new.self c.begin-stop.new.lanes c.begin-stop.new.store fs c.begin-stop.result going
+          c.reserve.ensures.items count c.begin-stop.ensures.twin (rw c.as_mut_slice.ensures.value at c.begin-stop.ensures.goes_on) c.begin-stop.ensures.mark in
           let s = standing_of recording base (begun_host p c.reserve.new.self c.begin-stop.new.lanes c.begin-stop.new.store fs) c.begin-stop.result in
           subst (λ (result : Result Turn DriveEnd). HasTurned g.D.Disk start c.settle.new.disk recording base after result) (sym c.over.ensures)
           (turned g.D.Disk start c.settle.new.disk recording base after (c.in-Ok.ensures.goes_on s start halts works) going.lines c.in-Ok.ensures.quiet
+          (c.in-Ok.ensures.tended s halts tends)
           (subst (λ (host : Hosted). AreInFlight (state_of host) after.flights.items) (sym c.settle.ensures.core)
           (subst (λ (flights : List (Option Task)). AreInFlight (state_of c.begin-stop.new.store.core) flights) (sym all) c.begin-stop.ensures.flights))
           (subst (λ (host : Hosted). IsDue (state_of host) c.begin-stop.new.lanes after.flights.items) (sym c.settle.ensures.core)
           (subst (λ (flights : List (Option Task)). IsDue (state_of c.begin-stop.new.store.core) c.begin-stop.new.lanes flights) (sym all) c.begin-stop.ensures.due))
           c.begin-stop.result _ over (c.in-Ok.ensures.stopped s halts).stops);
       turn =
+          let it = c.requires.going in
+          let s = standing_of it.0 it.1 (begun_host p c.reserve.new.self c.begin-stop.new.lanes c.begin-stop.new.store fs) c.begin-stop.result in
+          let halts = halted g.D.Disk it.2 c.args.disk.now it.0 it.1 p c.reserve.new.self c.begin-stop.new.lanes c.begin-stop.new.store fs c.begin-stop.result it.3
+          c.reserve.ensures.items count c.begin-stop.ensures.twin (rw c.as_mut_slice.ensures.value at c.begin-stop.ensures.goes_on) in
           subst (λ (result : Result Turn DriveEnd). IfOk result (IsTurn c.args.pass p after)) (sym c.over.ensures)
           (made_by c.args.pass p after c.settle.new.history.items c.begin-stop.new.store.staged [] c.begin-stop.result wrote (sym (append-nil c.settle.new.history.items))
           (rw c.as_mut_slice.ensures.value at c.begin-stop.ensures.first) (rw c.as_mut_slice.ensures.value at c.begin-stop.ensures.idle)
@@ -116,6 +134,7 @@ returns-in_default g c =
           refl
           (subst (λ (host : Hosted). Leaves c.args.pass after.flights.items (state_of host) c.begin-stop.result) (sym c.settle.ensures.core)
           (subst (λ (flights : List (Option Task)). Leaves c.args.pass flights (state_of c.begin-stop.new.store.core) c.begin-stop.result) (sym all) c.begin-stop.ensures.leaves))
+          (rests (length after.flights.items) it.0 it.1 after.history.items after.lanes after.flights.items after.store c.begin-stop.result (c.in-Ok.ensures.stopped s halts).stops)
           c.begin-stop.result _ refl c.begin-stop.ensures.some tells.0 tells.1 over);
       own = own_written c.args.pass p.history.items c.settle.new.history.items c.begin-stop.new.store.staged c.begin-stop.ensures.own wrote;
       workers = ap length all ∙ count;
