@@ -1,6 +1,7 @@
 -- The end that a worker is answered is the one that is kept.
 use Rattle.std.proofs.Common.{◌≡◌, ◌∙◌, ℕ, List, Option, Some, None, refl, sym, ap}
 use Rattle.sw_data.specs.declared.histories.Entry.{Entry}
+use Rattle.sw_disk.specs.declared.disk.Disk.{Ghosts}
 use Rattle.sw_pool.specs.declared.ends.Brief.{Brief}
 use Rattle.sw_pool.specs.declared.ends.Brief.TheVariants as brief
 use Rattle.sw_pool.specs.declared.ends.Turned.TheVariants as turned
@@ -26,7 +27,7 @@ unspent (drive_end.Full happened from needed) kept is = absurd cc
 unspent drive_end.NoMemory kept is = absurd cc
 unspent (drive_end.Spent spent) kept is = kept
 
-module _ {D : Type 0} (before after : YardState D) (pass : ℕ) (said : Brief) (step : HasStepped before pass after (turned.Ended said)) where
+module _ {D : Type 0} (disk : Ghosts D) (before after : YardState D) (pass : ℕ) (said : Brief) (step : HasStepped disk before pass after (turned.Ended said)) where
   kept_end : (ended : DriveEnd) × (after.end ≡ Some ended) × (said ≡ brief_of ended)
   kept_end = by before.end after.end refl refl
     where
@@ -44,11 +45,12 @@ module _ {D : Type 0} (before after : YardState D) (pass : ℕ) (said : Brief) (
   pub never_spent : said ≡ brief.Spent → ⊥
   never_spent is = let it = kept_end in unspent it.0 (step.kept it.0 it.1) (sym it.2 ∙ is)
 
-  pub end_seen : (origin : Origin D) (history : List Entry) → before.origin ≡ origin → history ≡ after.progress.history.items → IsEndSeen origin history said
+  pub end_seen : (origin : Origin D) (history : List Entry) → before.origin ≡ origin → history ≡ after.progress.history.items → IsEndSeen disk origin history said
   end_seen origin history base saw =
       let it = kept_end in
       record {
         yard = after;
+        stands = step.stands;
         ended = it.0;
         origin_is = step.origin ∙ base;
         kept = it.1;

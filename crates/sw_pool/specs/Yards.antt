@@ -81,7 +81,8 @@ shown turn.Idle = turned.Idle
 
 -- own: one step of a pass, of the same run: an end that is kept stays and is the answer; else the step is a turn, or ends the run
 -- and answers how
-pub record HasStepped {D : Type 0} (before : YardState D) (pass : ℕ) (after : YardState D) (out : Turned) : Type 0 where
+pub record HasStepped {D : Type 0} (disk : Ghosts D) (before : YardState D) (pass : ℕ) (after : YardState D) (out : Turned) : Type 0 where
+  pub stands : IsYard disk after
   pub origin : after.origin ≡ before.origin
   pub kept : (ended : DriveEnd) → after.end ≡ Some ended → IsKept ended
   pub over : (ended : DriveEnd) → before.end ≡ Some ended → (after ≡ before) × (out ≡ turned.Ended (brief_of ended))
@@ -89,9 +90,10 @@ pub record HasStepped {D : Type 0} (before : YardState D) (pass : ℕ) (after : 
   pub turns : before.end ≡ None → after.end ≡ None
       → (made : Turn) × IsTurn pass before.progress after.progress made × (out ≡ shown made)
 
--- own: a pass that has seen this history was answered the end that is kept in a value of the run
-pub record IsEndSeen {D : Type 0} (origin : Origin D) (history : List Entry) (said : Brief) : Type 0 where
+-- own: a pass that has seen this history was answered the end that is kept in a value of the run, which stands
+pub record IsEndSeen {D : Type 0} (disk : Ghosts D) (origin : Origin D) (history : List Entry) (said : Brief) : Type 0 where
   pub yard : YardState D
+  pub stands : IsYard disk yard
   pub ended : DriveEnd
   pub origin_is : yard.origin ≡ origin
   pub kept : yard.end ≡ Some ended

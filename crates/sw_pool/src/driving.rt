@@ -53,7 +53,7 @@ pub fn drive<R: Wait, D: Disk, G: Gate>(
     ensures number { number pass.new ≡ number pass.old }
     ensures spent { result ≡ brief.Spent → turns pass.new ≡ 2 ^ 40 }
     ensures end { result ≢ brief.Spent
-        → IsEndSeen (opened_of lock.now).origin (seen pass.new) result }
+        → IsEndSeen D.Disk (opened_of lock.now).origin (seen pass.new) result }
 {
     'turns: for _ in rt.forever() {
         match lock.turn(rt, pass, Nothing) {

@@ -112,7 +112,7 @@ impl<D: Disk> Yard<D> {
         ensures origin { self.new.origin ≡ self.old.origin }
         ensures log { ThenOwn (λ entry. entry.pass) pass self.old.progress.history.items
             self.new.progress.history.items }
-        ensures stepped { HasStepped self.old pass self.new result }
+        ensures stepped { HasStepped D.Disk self.old pass self.new result }
     {
         match self.progress.turn(self.alloc, &mut self.disk, pass) {
             Ok(turn) => shown(turn),
@@ -144,7 +144,7 @@ impl<D: Disk> Logged for Yard<D> {
 
     ghost maker = { λ entry. entry.pass };
 
-    ghost steps = { λ before given pass after answer. HasStepped before pass after answer };
+    ghost steps = { λ before given pass after answer. HasStepped D.Disk before pass after answer };
 
     fn step(&mut self, _given: Nothing, pass: u32) -> Turned {
         match &self.end {

@@ -9,12 +9,12 @@ use Rattle.sw_pool.specs.Yards.{HasStepped}
 pub returns-in-Ok-Ended-clause-spent : goal.returns-in-Ok-Ended-clause-spent
 returns-in-Ok-Ended-clause-spent g c = λ is.
     let made = c.in-Ok-Ended.ensures.turn in
-    absurd (never_spent made.before made.after (number c.turns.pass) c.in-Ok-Ended.brief
-    (subst (λ (out : Turned). HasStepped made.before (number c.turns.pass) made.after out) c.in-Ok-Ended.field-0-is made.steps) is)
+    absurd (never_spent g.D.Disk made.before made.after (number c.turns.pass) c.in-Ok-Ended.brief
+    (subst (λ (out : Turned). HasStepped g.D.Disk made.before (number c.turns.pass) made.after out) c.in-Ok-Ended.field-0-is made.steps) is)
 
 pub returns-in-Ok-Ended-clause-end : goal.returns-in-Ok-Ended-clause-end
 returns-in-Ok-Ended-clause-end g c = λ other.
     let made = c.in-Ok-Ended.ensures.turn in
-    end_seen made.before made.after (number c.turns.pass) c.in-Ok-Ended.brief
-    (subst (λ (out : Turned). HasStepped made.before (number c.turns.pass) made.after out) c.in-Ok-Ended.field-0-is made.steps)
+    end_seen g.D.Disk made.before made.after (number c.turns.pass) c.in-Ok-Ended.brief
+    (subst (λ (out : Turned). HasStepped g.D.Disk made.before (number c.turns.pass) made.after out) c.in-Ok-Ended.field-0-is made.steps)
     (opened_of c.args.lock.now).origin (seen c.turn.new.pass) made.base made.seen

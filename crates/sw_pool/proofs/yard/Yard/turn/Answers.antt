@@ -1,5 +1,5 @@
 -- A turn by which the run has ended is kept as the end.
-use Rattle.std.proofs.Common.{◌∙◌, ℕ, Option, ap, subst, sym}
+use Rattle.std.proofs.Common.{◌∙◌, ℕ, Option, ap, rules, subst, sym}
 use Rattle.sw_pool.proofs.yard.Yard.turn.Goals as goal
 use Rattle.sw_pool.specs.Yards.{Stands, YardState, origin_of}
 use Rattle.sw_turns.specs.Ends.{Ended}
@@ -25,3 +25,13 @@ invariant_of-self-in-Err g c =
             c.in-Err.ensures.kept,
           );
     }
+
+pub returns-in-Err-clause-stepped : goal.returns-in-Err-clause-stepped
+returns-in-Err-clause-stepped g c = record {
+  stands = invariant_of-self-in-Err g c;
+  origin = search rules;
+  kept = search rules;
+  over = search rules;
+  ends = search rules;
+  turns = search rules;
+}
