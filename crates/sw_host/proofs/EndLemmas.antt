@@ -1,5 +1,5 @@
 -- A run that has ended on a disk, and a disk that is refused.
-use Rattle.std.proofs.Common.{◌≡◌, ◌∙◌, inr, ℕ, List, Result, Ok, Err, refl, sym, subst}
+use Rattle.std.proofs.Common.{◌≡◌, ◌∙◌, ◌^◌, inr, ℕ, List, Result, Ok, Err, refl, sym, subst}
 use Rattle.std.specs.Prelude.{IfOk, IsErrOf, OnErr}
 use Rattle.sw_data.specs.declared.histories.Entry.{Entry}
 use Rattle.sw_data.specs.declared.recordings.Recording.{Recording}
@@ -20,7 +20,7 @@ use Rattle.sw_turns.specs.Ends.{Ended}
 use Rattle.sw_print.specs.Transcript.{transcript}
 use Rattle.sw_store.specs.declared.errors.OpenError.{OpenError}
 use Rattle.sw_store.specs.declared.errors.OpenError.TheVariants as error
-use Rattle.sw_store.specs.Opened.{IsUnopened}
+use Rattle.sw_store.specs.Opened.{HasNoRoom, IsUnopened}
 
 -- ---- a run that has ended
 
@@ -70,26 +70,28 @@ by_report P report wanted is holds = subst (λ (r : Report). P r.status r.text) 
 refuses : {T D : Type 0} (disk : Ghosts D) (old new : D) (opened : Result T OpenError) (why : OpenError) (report : Report) → opened ≡ Err why
     → (IsErrOf opened error.NotFormatted → IsQuiet disk old new × ForTold (disk.seen old) (λ image. stored image ≡ Unformatted))
     → ((offset : ℕ) → IsErrOf opened (error.BadJournal offset) → IsQuiet disk old new × ForTold (disk.seen old) (λ image. stored image ≡ Bad offset))
+    → ((from needed : ℕ) → IsErrOf opened (error.Full from needed) → HasNoRoom disk new (2 ^ 32) from needed)
     → (IsErrOf opened error.DiskFault → Rose (disk.faults old) (disk.faults new))
     → IsUnopened disk old new
     → IsReportOf why report → RefusesDisk disk old new report.status report.text
-refuses disk old new opened error.NoMemory report was unformatted bad fault unopened is = absurd is
-refuses disk old new opened error.DiskFault report was unformatted bad fault unopened is =
+refuses disk old new opened error.NoMemory report was unformatted bad full fault unopened is = absurd is
+refuses disk old new opened error.DiskFault report was unformatted bad full fault unopened is =
     by_report (RefusesDisk disk old new) report _ is (refl, fault was, unopened)
-refuses disk old new opened error.NotFormatted report was unformatted bad fault unopened is =
+refuses disk old new opened error.NotFormatted report was unformatted bad full fault unopened is =
     by_report (RefusesDisk disk old new) report _ is (refl, (unformatted was).0, (unformatted was).1)
-refuses disk old new opened (error.BadJournal offset) report was unformatted bad fault unopened is =
+refuses disk old new opened (error.BadJournal offset) report was unformatted bad full fault unopened is =
     by_report (RefusesDisk disk old new) report _ is (offset, refl, (bad offset was).0, (bad offset was).1)
-refuses disk old new opened (error.Full from needed) report was unformatted bad fault unopened is =
-    by_report (RefusesDisk disk old new) report _ is (refl, unopened)
+refuses disk old new opened (error.Full from needed) report was unformatted bad full fault unopened is =
+    by_report (RefusesDisk disk old new) report _ is (refl, unopened, (from, needed, full from needed was))
 
 -- the report of a disk that was not opened
 pub refused : {T D E : Type 0} (disk : Ghosts D) (old new : D) (workers : ℕ) (recording : Recording) (opened : Result T OpenError) (why : OpenError) (result : Result Report E) → opened ≡ Err why
     → (IsErrOf opened error.NotFormatted → IsQuiet disk old new × ForTold (disk.seen old) (λ image. stored image ≡ Unformatted))
     → ((offset : ℕ) → IsErrOf opened (error.BadJournal offset) → IsQuiet disk old new × ForTold (disk.seen old) (λ image. stored image ≡ Bad offset))
+    → ((from needed : ℕ) → IsErrOf opened (error.Full from needed) → HasNoRoom disk new (2 ^ 32) from needed)
     → (IsErrOf opened error.DiskFault → Rose (disk.faults old) (disk.faults new))
     → IsUnopened disk old new
     → IfOk result (λ report. IsReportOf why report) → IfOk result (λ report. ReplaysOn disk old new workers recording report.status report.text)
-refused disk old new workers recording opened why (Err none_left) was unformatted bad fault unopened is = tt
-refused disk old new workers recording opened why (Ok report) was unformatted bad fault unopened is =
-    inr (refuses disk old new opened why report was unformatted bad fault unopened is)
+refused disk old new workers recording opened why (Err none_left) was unformatted bad full fault unopened is = tt
+refused disk old new workers recording opened why (Ok report) was unformatted bad full fault unopened is =
+    inr (refuses disk old new opened why report was unformatted bad full fault unopened is)

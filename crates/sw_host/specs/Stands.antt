@@ -1,5 +1,5 @@
 -- What a run comes to before writing: when each status stands, with which text, and what it has done to the disk.
-use Rattle.std.specs.Prelude.{◌≡◌, ◌⊎◌, ◌≤◌, ◌<◌, ℕ, List, length, codes, IsSome, Option, Result, Ok, Err}
+use Rattle.std.specs.Prelude.{◌≡◌, ◌⊎◌, ◌≤◌, ◌<◌, ◌^◌, ℕ, List, length, codes, IsSome, Option, Result, Ok, Err}
 use Rattle.sw_data.specs.declared.histories.Entry.{Entry}
 use Rattle.sw_data.specs.declared.recordings.Recording.{Recording}
 use Rattle.sw_data.specs.declared.storage.Kept.{Kept}
@@ -33,7 +33,7 @@ use Rattle.sw_record.specs.Refusals as refusals
 use Rattle.sw_rules.specs.Storage.{nothing}
 use Rattle.sw_store.specs.declared.errors.OpenError.{OpenError}
 use Rattle.sw_store.specs.declared.errors.OpenError.TheVariants as open_error
-use Rattle.sw_store.specs.Opened.{IsUnopened}
+use Rattle.sw_store.specs.Opened.{HasNoRoom, IsUnopened}
 use Rattle.sw_twin.specs.Current.{current}
 
 -- ---- a disk that is not opened
@@ -48,7 +48,9 @@ RefusesDisk disk old new status.NotFormatted text =
 RefusesDisk disk old new status.BadJournal text =
     (offset : ℕ) × (text ≡ bad_journal_text offset) × IsQuiet disk old new
     × ForTold (disk.seen old) (λ image. stored image ≡ Bad offset)
-RefusesDisk disk old new status.Full text = (text ≡ refusal_text status.Full) × IsUnopened disk old new
+RefusesDisk disk old new status.Full text =
+    (text ≡ refusal_text status.Full) × IsUnopened disk old new
+    × ((from needed : ℕ) × HasNoRoom disk new (2 ^ 32) from needed)
 RefusesDisk disk old new _ text = ⊥
 
 -- own: the status and the text of a refusal of the store

@@ -3,13 +3,13 @@
 #![tactic(auto)]
 
 ghost use Rattle.std.specs.Prelude.{◌≡◌, ◌≢◌, ◌+◌, ◌≤◌, ℕ, List, true, false};
-ghost use Rattle.std.specs.Io.KnownBytes.{Appends, Keeps};
+ghost use Rattle.std.specs.Io.KnownBytes.{Appends, IsAtEnd, Keeps};
 ghost use Rattle.std.specs.Process.{exit_status};
 ghost use Rattle.sw_data.specs.Faults.{Rose};
 ghost use Rattle.sw_data.specs.Streams.{AppendsPrefix, ConsumesSome};
 ghost use Rattle.sw_host.specs.declared.command.Command.TheVariants as command;
 ghost use Rattle.sw_host.specs.declared.statuses.Status.{Status};
-ghost use Rattle.sw_host.specs.Stands.{HasEnded, LeavesWithoutMemory, Stands};
+ghost use Rattle.sw_host.specs.Stands.{HasEnded, HasReadAll, LeavesWithoutMemory, Stands};
 ghost use Rattle.sw_host.specs.Texts.{code_of};
 ghost use Rattle.sw_host.specs.Words.{command_of, is_replay};
 ghost use Rattle.sw_lock.specs.declared.pass.Spent.{Spent};
@@ -71,6 +71,9 @@ fn ended<R: Threads + Wait + Sync, S: Source, K: Sink, D: Disk + Send, G: Gate +
     ensures reads { S.reads source.new ≤ S.reads source.old + (RECORDING_LIMIT + 2) }
     ensures consumed { is_replay (command_of words.now) ≡ true
         → ConsumesSome (S.left source.old) (S.left source.new) }
+    ensures end { is_replay (command_of words.now) ≡ true
+        → (outcome : Status) × (exit_status result.0 ≡ code_of outcome)
+        × (HasReadAll outcome → IsAtEnd (S.left source.new)) }
 {
     let outcome = run(rt, alloc, words, source, sink, disk, gate);
     (ExitCode::from(outcome.status.code()), outcome.disk)

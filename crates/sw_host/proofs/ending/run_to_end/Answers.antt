@@ -7,7 +7,7 @@ use Rattle.sw_host.specs.Stands.{IsLeftAfter}
 pub returns-in-Err-clause-replays : goal.returns-in-Err-clause-replays
 returns-in-Err-clause-replays g c =
     refused g.D.Disk c.args.disk c.reopen.new.disk c.args.workers c.args.recording (Err c.in-Err.error) c.in-Err.error c.unopened.result refl
-    c.in-Err.ensures.not_formatted c.in-Err.ensures.bad c.in-Err.ensures.fault c.in-Err.ensures.unopened c.unopened.ensures
+    c.in-Err.ensures.not_formatted c.in-Err.ensures.bad c.in-Err.ensures.full c.in-Err.ensures.fault c.in-Err.ensures.unopened c.unopened.ensures
 
 pub returns-in-Ok-clause-left : goal.returns-in-Ok-clause-left
 returns-in-Ok-clause-left g c =
