@@ -139,29 +139,30 @@ fn each_change_both_ways(rt: HostRuntime) -> Result<(), Fail> {
     Ok(())
 }
 
+// Whether reading these bytes says that they are bad at this offset.
+fn is_bad_at(alloc: Global, bytes: &[u8], offset: u64) -> bool {
+    match read(alloc, bytes) {
+        Err(ReadError::BadAt(at)) => at == offset,
+        _ => false,
+    }
+}
+
 #[test]
 fn bad_bytes(rt: HostRuntime) -> Result<(), Fail> {
-    assert!(rt; matches!(read(rt.alloc(), &[]), Err(ReadError::BadAt(0))));
-    assert!(rt; matches!(read(rt.alloc(), &[11]), Err(ReadError::BadAt(0))));
-    assert!(rt; matches!(read(rt.alloc(), &[12]), Err(ReadError::BadAt(0))));
-    assert!(rt; matches!(read(rt.alloc(), &[10, 10, 0]), Err(ReadError::BadAt(2))));
-    // A length that isn't there, a text that isn't UTF-8, and no operation.
-    assert!(rt;
-        matches!(
-            read(rt.alloc(), b"\x09\xff\xff\xff\xffk"),
-            Err(ReadError::BadAt(0))
-        )
-    );
-    assert!(rt;
-        matches!(
-            read(rt.alloc(), b"\x09\0\0\0\x01\xff"),
-            Err(ReadError::BadAt(0))
-        )
-    );
-    let none = b"\x08\0\0\0\0\0\0\0\0\0\0\0\0";
-    assert!(rt; matches!(read(rt.alloc(), none), Err(ReadError::BadAt(0))));
-    let many = b"\x08\0\0\0\0\0\0\0\0\xff\xff\xff\xff";
-    assert!(rt; matches!(read(rt.alloc(), many), Err(ReadError::BadAt(0))));
+    // Nothing, a tag alone, unknown tags, a length and a text that are none, no operation, and too few.
+    let rows: [(&[u8], u64); 8] = [
+        (&[], 0),
+        (&[11], 0),
+        (&[12], 0),
+        (&[10, 10, 0], 2),
+        (b"\x09\xff\xff\xff\xffk", 0),
+        (b"\x09\0\0\0\x01\xff", 0),
+        (b"\x08\0\0\0\0\0\0\0\0\0\0\0\0", 0),
+        (b"\x08\0\0\0\0\0\0\0\0\xff\xff\xff\xff", 0),
+    ];
+    for (bytes, offset) in rows {
+        assert!(rt; is_bad_at(rt.alloc(), bytes, offset), "{bytes:?}");
+    }
     let without = Change::CacheOps {
         key: text(rt.alloc(), "k").ok().ok_or("no memory")?,
         name: text(rt.alloc(), "v").ok().ok_or("no memory")?,

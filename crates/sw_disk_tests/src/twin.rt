@@ -6,7 +6,7 @@ ghost use Rattle.sw_twin.specs.Twin.{StandsFor};
 use std::alloc::Global;
 use std::test::Fail;
 use sw_data::{Bytes, NoMemory};
-use sw_disk::{CallKind, Disk, Failing, MemoryDisk, Part};
+use sw_disk::{Disk, MemoryDisk, Part};
 use sw_twin::*;
 
 const LIMIT: u64 = 4_294_967_296;
@@ -25,11 +25,9 @@ fn with_parts(
     root: &[u8],
     left: &[u8],
     right: &[u8],
-    failing: Vec<Failing>,
 ) -> Result<MemoryDisk, NoMemory> {
-    let root = Bytes::of(alloc, root)?;
-    let left = Bytes::of(alloc, left)?;
-    Ok(MemoryDisk::new(root, left, Bytes::of(alloc, right)?, failing))
+    let (root, left) = (Bytes::of(alloc, root)?, Bytes::of(alloc, left)?);
+    Ok(MemoryDisk::new(root, left, Bytes::of(alloc, right)?, Vec::new(alloc)))
 }
 
 // The first byte of the last payload, and 0 where there is no record; None for a bad part or a fault.
@@ -60,7 +58,8 @@ fn root_tells_the_current_part(rt: HostRuntime) -> Result<(), Fail> {
     let alloc = rt.alloc();
     let left = whole(alloc, &[1])?;
     let right = whole(alloc, &[2])?;
-    let rows: [(&[u8], u8); 7] = [
+    let long = vec![in alloc; 1u8; 8193]?;
+    let rows: [(&[u8], u8); 8] = [
         (&[], 1),
         (&[0, 1], 1),
         (&[7], 1),
@@ -68,22 +67,13 @@ fn root_tells_the_current_part(rt: HostRuntime) -> Result<(), Fail> {
         (&[1, 0, 1, 1], 2),
         (&[1, 1], 1),
         (&[1, 1, 1, 255], 2),
+        (&long, 2),
     ];
     for (root, want) in rows {
-        let (left, right) = (left.as_bytes(), right.as_bytes());
-        let mut disk = with_parts(alloc, root, left, right, Vec::new(alloc))?;
+        let mut disk = with_parts(alloc, root, left.as_bytes(), right.as_bytes())?;
         assert_eq!(rt; last_of(alloc, &mut disk), Some(want), "{root:?}");
+        assert_eq!(rt; last_of(alloc, &mut disk.crash(&[1, 0, 0])?), Some(want));
     }
-    let long = vec![in alloc; 1u8; 8193]?;
-    let mut disk = with_parts(
-        alloc,
-        &long,
-        left.as_bytes(),
-        right.as_bytes(),
-        Vec::new(alloc),
-    )?;
-    assert_eq!(rt; last_of(alloc, &mut disk), Some(2));
-    assert_eq!(rt; last_of(alloc, &mut disk.crash(&[1, 0, 0])?), Some(2));
     Ok(())
 }
 
@@ -131,58 +121,10 @@ fn replaced<D: Disk>(
 }
 
 #[test]
-fn the_limit_is_exact(rt: HostRuntime) -> Result<(), Fail> {
-    let alloc = rt.alloc();
-    let left = whole(alloc, &[7])?;
-    let mut disk = with_parts(alloc, &[], left.as_bytes(), b"rest", Vec::new(alloc))?;
-    let Some(mut twin) = reopened(alloc, &mut disk, 31) else {
-        return Err(Fail::new("not reopened"));
-    };
-    assert_eq!(rt; (twin.next(), twin.limit()), (31, 31));
-    twin.reserve(1)?;
-    assert_eq!(rt;
-        twin.append(&mut disk, &[8]),
-        Err(AppendError::Full {
-            length: 31,
-            needed: 14
-        })
-    );
-    Ok(())
-}
-
-#[test]
-fn contents_past_the_limit_are_not_written(rt: HostRuntime) -> Result<(), Fail> {
-    let alloc = rt.alloc();
-    let left = whole(alloc, &[7])?;
-    let mut disk = with_parts(alloc, &[], left.as_bytes(), b"rest", Vec::new(alloc))?;
-    let Some(mut twin) = reopened(alloc, &mut disk, 31) else {
-        return Err(Fail::new("not reopened"));
-    };
-    let contents = whole(alloc, &[1, 2])?;
-    assert_eq!(rt;
-        twin.checkpoint(&mut disk, contents.as_bytes()),
-        Err(CheckpointError::Full)
-    );
-    assert_eq!(rt; disk.image(Part::Right), b"rest".as_slice());
-    Ok(())
-}
-
-#[test]
-fn the_current_part_is_formatted(rt: HostRuntime) -> Result<(), Fail> {
-    let alloc = rt.alloc();
-    let mut disk = with_parts(alloc, &[1], &[], b"rest", Vec::new(alloc))?;
-    assert_eq!(rt; init(&mut disk), Ok(()));
-    assert_eq!(rt; init(&mut disk), Err(InitError::AlreadyFormatted));
-    assert_eq!(rt; disk.image(Part::Left), [].as_slice());
-    assert_eq!(rt; disk.image(Part::Right), b"SWHOST-JOURNAL-2\x00".as_slice());
-    Ok(())
-}
-
-#[test]
 fn a_checkpoint_goes_over_to_the_other_part(rt: HostRuntime) -> Result<(), Fail> {
     let alloc = rt.alloc();
     let left = whole(alloc, &[7])?;
-    let mut disk = with_parts(alloc, &[], left.as_bytes(), b"rest", Vec::new(alloc))?;
+    let mut disk = with_parts(alloc, &[], left.as_bytes(), b"rest")?;
     let Some(mut twin) = reopened(alloc, &mut disk, 31) else {
         return Err(Fail::new("not reopened"));
     };
@@ -193,28 +135,6 @@ fn a_checkpoint_goes_over_to_the_other_part(rt: HostRuntime) -> Result<(), Fail>
     assert_eq!(rt; disk.image(Part::Root), [1, 0].as_slice());
     assert_eq!(rt; disk.image(Part::Left), left.as_bytes());
     assert_eq!(rt; last_of(alloc, &mut disk), Some(9));
-    Ok(())
-}
-
-// A disk with one record, of whose calls to cut a part the first fails.
-#[test]
-fn a_part_that_is_not_cut_is_not_gone_over_to(rt: HostRuntime) -> Result<(), Fail> {
-    let alloc = rt.alloc();
-    let failing = vec![in alloc; Failing {
-        call: CallKind::Cut,
-        from: 0,
-        to: 0
-    }; 1]?;
-    let left = whole(alloc, &[1])?;
-    let mut disk = with_parts(alloc, &[], left.as_bytes(), &[], failing)?;
-    let Some(mut twin) = reopened(alloc, &mut disk, LIMIT) else {
-        return Err(Fail::new("not reopened"));
-    };
-    if replaced(alloc, &mut twin, &mut disk, 2)? {
-        return Err(Fail::new("a checkpoint"));
-    }
-    assert_eq!(rt; disk.image(Part::Root), [].as_slice());
-    assert_eq!(rt; last_of(alloc, &mut disk), Some(1));
     Ok(())
 }
 
@@ -288,7 +208,7 @@ fn a_crash_keeps_what_was_acknowledged(rt: HostRuntime) -> Result<(), Fail> {
             }
         }
     }
-    let mut disk = with_parts(alloc, &[], &[], &[], Vec::new(alloc))?;
+    let mut disk = with_parts(alloc, &[], &[], &[])?;
     assert_eq!(rt; play(alloc, &mut disk)?, 4);
     assert_eq!(rt; disk.image(Part::Root), [1, 1, 0].as_slice());
     assert_eq!(rt; last_of(alloc, &mut disk), Some(4));

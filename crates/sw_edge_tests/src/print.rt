@@ -1,11 +1,10 @@
 use std::alloc::Global;
 use std::test::Fail;
 use sw_data::{
-    Answer, Bytes, CacheAddAll, CacheMatch, CachePut, Call, End, Entry, Event, Items, Kept,
-    KeptCache, KeptRegistration, KeptWorker, Kind, Mode, NoMemory, Notice, Options, Phase, Place,
-    Request, Response, Settlement, Text, Who, WorkerState,
+    Answer, Bytes, CacheAddAll, CacheMatch, CachePut, Call, End, Entry, Event, Items, NoMemory,
+    Notice, Options, Phase, Place, Request, Response, Settlement, Text, Who, WorkerState,
 };
-use sw_print::{print_history, print_kept};
+use sw_print::print_history;
 
 fn entry(who: Who, event: Event, answer: Answer, notices: Items<Notice>) -> Entry {
     Entry {
@@ -164,81 +163,5 @@ fn prints_worked_lines(rt: HostRuntime) -> Result<(), Fail> {
         let text = print_history(alloc, &[], &end)?;
         assert_eq!(rt; text.as_str(), line);
     }
-    Ok(())
-}
-
-fn kept_worker(alloc: Global, script: &str, kind: Kind) -> Result<KeptWorker, NoMemory> {
-    Ok(KeptWorker {
-        script: Text::of(alloc, script)?,
-        kind,
-        body: Bytes::of(alloc, b"// v1")?,
-    })
-}
-
-fn updating(alloc: Global) -> Result<KeptRegistration, NoMemory> {
-    Ok(KeptRegistration {
-        key: Text::of(alloc, "https://a.test")?,
-        scope: Text::of(alloc, "https://a.test/")?,
-        mode: Mode::Imports,
-        waiting: Some(kept_worker(alloc, "https://a.test/new.js", Kind::Module)?),
-        active: Some(kept_worker(alloc, "https://a.test/sw.js", Kind::Classic)?),
-        activated: true,
-        preload: false,
-        preload_value: Text::of(alloc, "true")?,
-    })
-}
-
-fn preloading(alloc: Global) -> Result<KeptRegistration, NoMemory> {
-    Ok(KeptRegistration {
-        key: Text::of(alloc, "https://b.test^p")?,
-        scope: Text::of(alloc, "https://b.test/x/")?,
-        mode: Mode::Never,
-        waiting: None,
-        active: Some(kept_worker(alloc, "https://b.test/x/sw.js", Kind::Classic)?),
-        activated: false,
-        preload: true,
-        preload_value: Text::of(alloc, "a \"b\"")?,
-    })
-}
-
-fn kept(alloc: Global) -> Result<Kept, NoMemory> {
-    let mut registrations = Items::new(alloc);
-    registrations.push(updating(alloc)?)?;
-    registrations.push(preloading(alloc)?)?;
-    let response = Response {
-        status: 200,
-        headers: Items::new(alloc),
-        body: Bytes::of(alloc, b"hi")?,
-    };
-    let mut pairs = Items::new(alloc);
-    pairs.push((request(alloc)?, response))?;
-    let mut caches = Items::new(alloc);
-    for (name, pairs) in [("v", pairs), ("w", Items::new(alloc))] {
-        caches.push(KeptCache {
-            key: Text::of(alloc, "https://a.test")?,
-            name: Text::of(alloc, name)?,
-            pairs,
-        })?;
-    }
-    Ok(Kept {
-        registrations,
-        caches,
-    })
-}
-
-#[test]
-fn prints_what_is_kept(rt: HostRuntime) -> Result<(), Fail> {
-    let alloc = rt.alloc();
-    let expected = "registrations 2\n\
-        registration \"https://a.test\" \"https://a.test/\" imports\n \
-        waiting installed \"https://a.test/new.js\" module 5\n \
-        active activated \"https://a.test/sw.js\" classic 5\n\
-        registration \"https://b.test^p\" \"https://b.test/x/\" none\n \
-        active activating \"https://b.test/x/sw.js\" classic 5\n \
-        preload on \"a \\\"b\\\"\"\n\
-        caches 2\n\
-        cache \"https://a.test\" \"v\" 1\n\
-        cache \"https://a.test\" \"w\" 0\n";
-    assert_eq!(rt; print_kept(alloc, &kept(alloc)?)?.as_str(), expected);
     Ok(())
 }

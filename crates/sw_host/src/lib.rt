@@ -11,14 +11,3 @@ mod top;
 
 pub use statuses::Status;
 pub use top::{Outcome, run};
-
-#[cfg(test)]
-mod crash_tests;
-#[cfg(test)]
-mod record_tests;
-#[cfg(test)]
-mod store_tests;
-#[cfg(test)]
-mod tests;
-#[cfg(test)]
-mod worker_tests;

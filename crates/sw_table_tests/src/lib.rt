@@ -8,18 +8,10 @@ mod flags;
 #[cfg(test)]
 mod ledgers;
 #[cfg(test)]
-mod order;
-#[cfg(test)]
 mod queue;
 #[cfg(test)]
 mod reg;
 #[cfg(test)]
 mod scope;
-#[cfg(test)]
-mod tables;
-#[cfg(test)]
-mod tables_activation;
-#[cfg(test)]
-mod tables_slots;
 #[cfg(test)]
 mod worker;

@@ -1,5 +1,4 @@
-use super::*;
-use crate::tests::words;
+use crate::commands::words;
 use std::alloc::Global;
 use std::sync::Wait;
 use std::sync::atomic::{AtomicBool, AtomicU32, Ordering};
@@ -7,6 +6,7 @@ use std::test::Fail;
 use std::thread::{Threads, yield_now};
 use sw_data::{Bytes, NoMemory, Text};
 use sw_disk::PlainDisk;
+use sw_host::{Status, run};
 use sw_io::{MemorySink, MemorySource};
 use sw_net::{Gate, NoGate};
 
@@ -87,18 +87,6 @@ fn workers_replay_each_lane_in_its_order(rt: HostRuntime) -> Result<(), Fail> {
                 assert_eq!(rt; stand, Some(calls), "{line} {lane} {lines}");
             }
         }
-    }
-    Ok(())
-}
-
-// The pick order fixes the history of one worker, with its number or without.
-#[test]
-fn one_worker_replays_in_the_pick_order(rt: HostRuntime) -> Result<(), Fail> {
-    let alloc = rt.alloc();
-    for lines in [TWO_PAGES, FIVE_LANES, WAITS] {
-        let (_, without) = ran(&rt, alloc, "replay", lines, &NoGate)?;
-        let (_, with) = ran(&rt, alloc, "replay 1", lines, &NoGate)?;
-        assert!(rt; without.bytes() == with.bytes(), "{lines}");
     }
     Ok(())
 }

@@ -1,11 +1,11 @@
-use super::*;
-use crate::tests::words;
+use crate::commands::words;
 use std::alloc::Global;
 use std::sync::Wait;
 use std::test::Fail;
 use std::thread::Threads;
 use sw_data::{Bytes, NoMemory};
 use sw_disk::MemoryDisk;
+use sw_host::{Outcome, Status, run};
 use sw_io::{MemorySink, MemorySource};
 use sw_net::NoGate;
 
