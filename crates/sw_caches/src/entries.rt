@@ -206,14 +206,6 @@ pub(crate) fn into_pairs(alloc: Global, entries: Vec<Entry>) -> Result<Items<Pai
 pub(crate) fn copy_pair(alloc: Global, pair: &Pair) -> Result<Pair, NoMemory>
     ensures { IfOk result (λ copy. copy ≡ pair.now) }
 {
-    let request = copy_request(alloc, &pair.0)?;
+    let request = pair.0.copy(alloc)?;
     Ok((request, pair.1.copy(alloc)?))
-}
-
-/// A request of its own that equals this one.
-pub(crate) fn copy_request(alloc: Global, request: &Request) -> Result<Request, NoMemory>
-    ensures { IfOk result (λ copy. copy ≡ request.now) }
-{
-    let url = request.url.copy(alloc)?;
-    request.with_url(alloc, url)
 }

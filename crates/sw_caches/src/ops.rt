@@ -6,7 +6,7 @@ ghost use Rattle.sw_rules.specs.Matching.{Pair};
 ghost use Rattle.sw_rules.specs.Batch.{batch, go, matches_added, without_matching};
 ghost use Rattle.sw_caches.specs.Plans.{IsThrown, without_op, without_ops};
 
-use crate::entries::{Pair, copy_request};
+use crate::entries::Pair;
 use crate::fault::BatchFault;
 use crate::plan::NO_OPTIONS;
 use crate::rules::{QUOTA, put_fault, size_of};
@@ -78,7 +78,7 @@ fn scan_op(alloc: Global, added: &mut Vec<Pair>, at: u32, op: &Op) -> Result<(),
             if is_added(added, request, NO_OPTIONS) {
                 return Err(BatchFault::InvalidState { at });
             }
-            let copy = copy_request(alloc, request)?;
+            let copy = request.copy(alloc)?;
             added.push((copy, response.copy(alloc)?))?;
         }
     }

@@ -4,7 +4,8 @@ ghost use Rattle.std.specs.Prelude.{◌≡◌, ◌<◌, ◌≤◌, ◌+◌, ◌^
 ghost use Rattle.std.specs.List.{range_with_len};
 ghost use Rattle.std.specs.Option.{IfSome};
 ghost use Rattle.sw_rules.specs.Matching.{Pair, first_match, query_of};
-ghost use Rattle.sw_rules.specs.Batch.{batch, op_size};
+ghost use Rattle.sw_data.specs.Sizes.{op_size};
+ghost use Rattle.sw_rules.specs.Batch.{batch};
 ghost use Rattle.sw_index.specs.Numbered.{AllFrom};
 ghost use Rattle.sw_caches.specs.Entries.{number};
 ghost use Rattle.sw_caches.specs.Plans.{Fits, IsThrown, carried};

@@ -3,7 +3,8 @@
 ghost use Rattle.std.specs.Prelude.{◌≡◌, ◌+◌, ◌==◌, ◌||◌, IfOk, sum_by, codes, bytes_eq};
 ghost use Rattle.std.specs.List.{list_any};
 ghost use Rattle.sw_data.specs.Addresses.{scheme_of};
-ghost use Rattle.sw_rules.specs.Batch.{has_http_scheme, headers_size, op_size, put_fault, request_size, response_size, text_size};
+ghost use Rattle.sw_data.specs.Sizes.{headers_size, op_size, request_size, response_size, text_size};
+ghost use Rattle.sw_rules.specs.Batch.{has_http_scheme, put_fault};
 
 use sw_data::cut::before;
 use sw_data::{Cause, Header, NoMemory, Op, Request, Response};

@@ -118,7 +118,8 @@ fn start(
     ensures draw_room { draws.old.spare ≤ draws.new.spare }
     ensures fits { IfOk result (λ step. FitsStart step.start tasks.new draws.new) }
     ensures maker { IfOk result (λ step. IfSome step.start (λ new. new.row.maker ≡ who)) }
-    ensures step { IfOk result (λ step. (caches : List KeptCache) → IsBegun caches tasks.old.rows who
+    ensures step { IfOk result (λ step. (caches : List KeptCache)
+        → IsBegun caches tasks.old.rows who
         (λ state. rules.start_task state who key.now name.now requests) step) }
 {
     let new = draws.draw_rows(alloc, requests.as_slice())?;

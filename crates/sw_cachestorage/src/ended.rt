@@ -19,7 +19,6 @@ use crate::act::{CacheAct, CacheStep, refused};
 use crate::writes::batch;
 use std::alloc::Global;
 use sw_caches::Caches;
-use sw_copy::copy_request;
 use sw_data::{
     Answer, Cause, Fault, FetchLine, Fetched, NoMemory, Op, Request, Response, Settlement, Who,
 };
@@ -110,7 +109,7 @@ fn put_at(
 {
     match fetched_at(lines, place) {
         Some(fetched) => Ok(Some(Op::Put {
-            request: copy_request(alloc, request)?,
+            request: request.copy(alloc)?,
             response: fetched.response.copy(alloc)?,
         })),
         None => Ok(None),

@@ -17,7 +17,8 @@ use Rattle.sw_data.specs.declared.storage.KeptRegistration.{KeptRegistration}
 use Rattle.sw_data.specs.declared.storage.KeptWorker.{KeptWorker}
 use Rattle.sw_data.specs.declared.workers.Mode.{Mode}
 use Rattle.sw_data.specs.Exchange.{no_options}
-use Rattle.sw_rules.specs.Batch.{Quota, without_matching, op_size, quota}
+use Rattle.sw_data.specs.Sizes.{op_size}
+use Rattle.sw_rules.specs.Batch.{Quota, without_matching, quota}
 use Rattle.sw_rules.specs.Durable.{preload_changes, registration_changes, pair_change, cache_changes}
 use Rattle.sw_rules.specs.Matching.{Pair, matches_pair}
 use Rattle.sw_rules.specs.Storage.{is_registration, with_registration, first_waiting, promoted, marked_activated, is_cache, pairs_after, with_cache, applied}

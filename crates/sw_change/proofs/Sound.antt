@@ -18,7 +18,8 @@ use Rattle.sw_data.specs.declared.storage.KeptRegistration.{KeptRegistration}
 use Rattle.sw_data.specs.declared.storage.KeptWorker.{KeptWorker}
 use Rattle.sw_data.specs.declared.workers.Mode.{Mode}
 use Rattle.sw_data.specs.Exchange.{no_options}
-use Rattle.sw_rules.specs.Batch.{BatchFault, TypeError, InvalidState, Quota, put_fault, matches_added, without_matching, go, op_size, quota, within_quota}
+use Rattle.sw_data.specs.Sizes.{op_size}
+use Rattle.sw_rules.specs.Batch.{BatchFault, TypeError, InvalidState, Quota, put_fault, matches_added, without_matching, go, quota, within_quota}
 use Rattle.sw_rules.specs.Matching.{Pair, matches_pair, finds_nothing}
 use Rattle.sw_rules.specs.Storage.{nothing, is_registration, with_registration, first_waiting, promoted, marked_activated, is_cache, pairs_after, with_cache, with_batch, applied, IsMade}
 use Rattle.sw_change.proofs.Apart.{all-push, all-filter, all-filter_front, all-map, none-all, apart-push, apart-filter_front, apart-filter, apart-map}

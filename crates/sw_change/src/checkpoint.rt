@@ -105,21 +105,13 @@ fn push_registrations(
     Ok(())
 }
 
-// A request of its own that equals this one.
-fn copy_request(alloc: Global, request: &Request) -> Result<Request, NoMemory>
-    ensures { IfOk result (λ copy. copy ≡ request.now) }
-{
-    let url = request.url.copy(alloc)?;
-    request.with_url(alloc, url)
-}
-
 // The batch that puts one pair.
 fn put_of(alloc: Global, cache: &KeptCache, pair: &(Request, Response)) -> Result<Change, NoMemory>
     ensures { IfOk result (λ change. change ≡ pair_change cache.now pair.now) }
 {
     let mut operations = Items::new(alloc);
     operations.push(Op::Put {
-        request: copy_request(alloc, &pair.0)?,
+        request: pair.0.copy(alloc)?,
         response: pair.1.copy(alloc)?,
     })?;
     Ok(Change::CacheOps {

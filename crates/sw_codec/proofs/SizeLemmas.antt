@@ -9,7 +9,7 @@ use Rattle.sw_data.specs.declared.exchange.Header.{Header}
 use Rattle.sw_data.specs.declared.exchange.Op.TheVariants as op
 use Rattle.sw_data.specs.declared.exchange.Request.{Request}
 use Rattle.sw_data.specs.declared.exchange.Response.{Response}
-use Rattle.sw_rules.specs.Batch.{text_size, headers_size, request_size, response_size}
+use Rattle.sw_data.specs.Sizes.{text_size, headers_size, request_size, response_size}
 use Rattle.sw_codec.specs.Laws.{HasQuotaSize}
 use Rattle.sw_codec.specs.Spelling.{bytes_spelling, header_spelling, counted_spelling, request_spelling, response_spelling, op_spelling, options_byte}
 

@@ -2,7 +2,7 @@
 use Rattle.std.specs.Prelude.{◌≡◌, ◌≢◌, ℕ, ◌<◌, ◌≤◌, List, [], ◌++◌, length, take, drop, Some, Ok, Err, get_or}
 use Rattle.sw_data.specs.declared.exchange.Op.{Op}
 use Rattle.sw_data.specs.declared.storage.Change.{Change}
-use Rattle.sw_rules.specs.Batch.{op_size}
+use Rattle.sw_data.specs.Sizes.{op_size}
 use Rattle.sw_codec.specs.Spelling.{op_spelling, spelled, spelled_all}
 use Rattle.sw_codec.specs.Reading.{read_changes}
 

@@ -2,7 +2,7 @@
 
 ghost use Rattle.std.specs.Prelude.{◌≡◌, IfOk};
 
-use crate::exchange::{copy_ops, copy_request, copy_requests};
+use crate::exchange::{copy_ops, copy_requests};
 use std::alloc::Global;
 use sw_data::{
     CacheAddAll, CacheBatch, CacheDelete, CachePut, Call, FetchLine, Fetched, Handlers, Items,
@@ -14,7 +14,7 @@ fn copy_put(alloc: Global, put: &CachePut) -> Result<CachePut, NoMemory>
 {
     Ok(CachePut {
         name: put.name.copy(alloc)?,
-        request: copy_request(alloc, &put.request)?,
+        request: put.request.copy(alloc)?,
         response: put.response.copy(alloc)?,
     })
 }
@@ -24,7 +24,7 @@ fn copy_delete(alloc: Global, delete: &CacheDelete) -> Result<CacheDelete, NoMem
 {
     Ok(CacheDelete {
         name: delete.name.copy(alloc)?,
-        request: copy_request(alloc, &delete.request)?,
+        request: delete.request.copy(alloc)?,
         options: delete.options,
     })
 }

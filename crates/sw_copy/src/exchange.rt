@@ -5,25 +5,17 @@ ghost use Rattle.std.specs.Prelude.{◌≡◌, IfOk};
 use std::alloc::Global;
 use sw_data::{Items, NoMemory, Op, Request};
 
-/// A request of its own that equals this one.
-pub fn copy_request(alloc: Global, request: &Request) -> Result<Request, NoMemory>
-    ensures { IfOk result (λ copy. copy ≡ request.now) }
-{
-    let url = request.url.copy(alloc)?;
-    request.with_url(alloc, url)
-}
-
 /// An operation of its own that equals this one.
 pub fn copy_op(alloc: Global, op: &Op) -> Result<Op, NoMemory>
     ensures { IfOk result (λ copy. copy ≡ op.now) }
 {
     match op {
         Op::Delete { request, options } => Ok(Op::Delete {
-            request: copy_request(alloc, request)?,
+            request: request.copy(alloc)?,
             options: *options,
         }),
         Op::Put { request, response } => Ok(Op::Put {
-            request: copy_request(alloc, request)?,
+            request: request.copy(alloc)?,
             response: response.copy(alloc)?,
         }),
     }
@@ -38,7 +30,7 @@ pub(crate) fn copy_requests(
 {
     let mut copy = Items::new(alloc);
     for request in requests.as_slice() {
-        copy.push(copy_request(alloc, request)?)?;
+        copy.push(request.copy(alloc)?)?;
     }
     Ok(copy)
 }

@@ -1,7 +1,7 @@
 -- Events and their makers.
 use Rattle.std.specs.Prelude.{Bool, true, false}
 use Rattle.sw_data.specs.declared.events.Who.{Who}
-use Rattle.sw_data.specs.declared.events.Who.TheVariants.{Host, Lane, Handler}
+use Rattle.sw_data.specs.declared.events.Who.TheVariants.{Lane, Handler}
 use Rattle.sw_data.specs.declared.events.Event.{Event}
 use Rattle.sw_data.specs.declared.events.Event.TheVariants as event
 use Rattle.sw_data.specs.declared.recordings.Action.{Action}
@@ -81,10 +81,6 @@ who_of (event.TryActivate who registration) = who
 who_of (event.Activated who worker) = who
 who_of (event.Added who task lines) = who
 who_of (event.Restarted who) = who
-
-abbrev pub is_host : Who → Bool
-is_host Host = true
-is_host _ = false
 
 abbrev pub is_lane : Who → Bool
 is_lane (Lane lane at) = true

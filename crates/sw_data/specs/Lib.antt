@@ -5,6 +5,8 @@ pub mod Faults
 pub mod Headers
 pub mod Keys
 pub mod Media
+pub mod Network
 pub mod Parts
 pub mod Sameness
+pub mod Sizes
 pub mod Streams

@@ -76,6 +76,14 @@ pub fn copy_headers(alloc: Global, headers: &Items<Header>) -> Result<Items<Head
 }
 
 impl Request {
+    /// A request of its own that equals this one.
+    pub fn copy(&self, alloc: Global) -> Result<Request, NoMemory>
+        ensures { IfOk result (λ request. request ≡ self.now) }
+    {
+        let url = self.url.copy(alloc)?;
+        self.with_url(alloc, url)
+    }
+
     /// A request that is this one but for its address.
     pub fn with_url(&self, alloc: Global, url: Text) -> Result<Request, NoMemory>
         ensures { IfOk result (λ request. request ≡ record self.now { url = url }) }

@@ -13,6 +13,7 @@ pub mod events;
 pub mod exchange;
 pub mod header;
 pub mod histories;
+pub mod media;
 pub mod recordings;
 pub mod rows;
 pub mod storage;
@@ -27,6 +28,7 @@ pub use base::text::Text;
 pub use events::{Event, Who};
 pub use exchange::{Header, Op, Options, Request, Response};
 pub use histories::{End, Entry, Task};
+pub use media::is_javascript;
 pub use recordings::{
     Action, CacheAddAll, CacheBatch, CacheDelete, CacheMatch, CachePut, CacheQuery, Call,
     ClientScope, FetchLine, Fetched, Handlers, Place, Recording, Registering,

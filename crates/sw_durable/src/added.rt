@@ -10,7 +10,6 @@ ghost use Rattle.sw_rules.specs.State.{State};
 use crate::caching::{batch_changes, is_fault};
 use crate::kept::nothing;
 use std::alloc::Global;
-use sw_copy::copy_request;
 use sw_data::{Answer, Change, FetchLine, Fetched, NoMemory, Op, Request};
 use sw_ledgers::{TaskRow, Tasks};
 
@@ -44,7 +43,7 @@ fn put_of(
 {
     match fetched {
         Some(fetched) => Ok(Some(Op::Put {
-            request: copy_request(alloc, request)?,
+            request: request.copy(alloc)?,
             response: fetched.response.copy(alloc)?,
         })),
         None => Ok(None),

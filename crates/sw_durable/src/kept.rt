@@ -16,6 +16,7 @@ ghost use Rattle.sw_worker.specs.Table as workers;
 use std::alloc::Global;
 use sw_data::{Change, Mode, NoMemory, RegistrationRow, Text};
 use sw_reg::Registrations;
+use sw_rules::same_mode;
 use sw_scope::ScopeMap;
 
 // Whether a number is there and is this one.
@@ -164,13 +165,6 @@ pub(crate) fn gone_change(
 {
     let names = names(alloc, kept_row(registration, map, registrations))?;
     told(alloc, gone(names))
-}
-
-// Whether two modes are the same.
-fn same_mode(one: Mode, other: Mode) -> bool
-    ensures { result ≡ rules.same_mode one other }
-{
-    one == other
 }
 
 // The row of a registration, unless it has this mode.

@@ -23,27 +23,13 @@ ghost use Rattle.sw_tables.specs.Linked.{ArePlaces, HasSlots, Linked};
 use crate::calls::{Ran, Rows};
 use crate::starting::fetch_script;
 use sw_client::Clients;
-use sw_data::{Fault, Job, Kind, Mode, Settlement, WorkerRow};
+use sw_data::{Fault, Job, Mode, Settlement, WorkerRow};
 use sw_queue::Queues;
 use sw_reg::{NewRegistration, Registrations};
-use sw_rules::Notices;
+use sw_rules::{Notices, same_kind, same_mode};
 use sw_scope::{NewScope, ScopeMap};
 use sw_tables::{NotNow, map_registration, mapped_row, may_run, newest_row, resolve_and_finish};
 use sw_worker::Workers;
-
-// Whether two scripts are of one kind.
-fn same_kind(one: Kind, other: Kind) -> bool
-    ensures { result ≡ same_kind one other }
-{
-    one == other
-}
-
-// Whether two modes are the same.
-fn same_mode(one: Mode, other: Mode) -> bool
-    ensures { result ≡ same_mode one other }
-{
-    one == other
-}
 
 // Whether a worker has the script and the type of a job, and its registration's mode is that of the job.
 fn is_of_job(newest: &WorkerRow, job: &Job, mode: Mode) -> bool
@@ -142,6 +128,7 @@ pub fn run_register(
         (drawn_by result (script_of job queues.old.rows) (with_jobs queues.new.rows rest))) }
     ensures linked { Linked map.new workers.new registrations.new clients.new }
     ensures counts { KeepCounts workers.old workers.new }
+    ensures worker { rows.new.worker ≡ rows.old.worker }
 {
     if !may_run(job, queues) {
         return Err(NotNow);

@@ -5,7 +5,6 @@ pub mod CoherentLaw
 pub mod ControlledLaw
 pub mod Contents
 pub mod Controls
-pub mod Cuts
 pub mod DurableKept
 pub mod DurableLaw
 pub mod DurableRestart
@@ -21,7 +20,6 @@ pub mod ForwardLaw
 pub mod HandlerSteps
 pub mod Held
 pub mod HeldLaw
-pub mod HostEvents
 pub mod InstallSteps
 pub mod JobEvents
 pub mod JobMoves
@@ -36,9 +34,7 @@ pub mod KeptWorkers
 pub mod LawProofs
 pub mod Lists
 pub mod MakeSteps
-pub mod Marks
 pub mod Moves
-pub mod Naming
 pub mod Ordered
 pub mod Places
 pub mod RegistrationSteps
@@ -46,7 +42,6 @@ pub mod Reopened
 pub mod Rest
 pub mod Restarts
 pub mod RowSteps
-pub mod SameCalls
 pub mod ScheduleSteps
 pub mod SlotMoves
 pub mod Split

@@ -1,3 +1,2 @@
 pub mod Coherent
 pub mod Laws
-pub mod Naming

@@ -4,7 +4,7 @@
 ghost use Rattle.std.specs.Prelude.{◌≡◌, ◌-◌, ◌++◌, ◌∷◌, [], List, ℕ, min, length, bytes_eq, slice_get, if◌then◌else◌, None, IfOk, OnOk};
 ghost use Rattle.std.specs.Option.{option_copied, option_and_then};
 ghost use Rattle.indexmap.specs.IndexMap.{get_by};
-ghost use Rattle.sw_rules.specs.Recordings.{answered_line, drawn_from};
+ghost use Rattle.sw_data.specs.Network.{answered_line, drawn_from};
 ghost use Rattle.sw_net.specs.Places.{noted, places_from};
 
 use indexmap::IndexMap;

@@ -3,25 +3,12 @@
 ghost use Rattle.std.specs.Prelude.{◌≡◌};
 ghost use Rattle.sw_rules.specs.Jobs.{is_equivalent, same_job_kind, same_kind, same_mode};
 
-use sw_data::{Job, JobKind, Kind, Mode};
+use sw_data::{Job, JobKind};
+use sw_rules::{same_kind, same_mode};
 
 // Whether two jobs are of one type.
 fn same_job_kind(one: JobKind, other: JobKind) -> bool
     ensures { result ≡ same_job_kind one other }
-{
-    one == other
-}
-
-// Whether two scripts are of one kind.
-fn same_kind(one: Kind, other: Kind) -> bool
-    ensures { result ≡ same_kind one other }
-{
-    one == other
-}
-
-// Whether two jobs use the cache alike.
-fn same_mode(one: Mode, other: Mode) -> bool
-    ensures { result ≡ same_mode one other }
 {
     one == other
 }

@@ -1,7 +1,6 @@
 -- A batch of operations on one cache.
-use Rattle.std.specs.Prelude.{ℕ, ◌+◌, Bool, not, ◌||◌, ◌==◌, nat_le, List, [], ◌∷◌, ◌++◌, filter, length, sum_by, codes, bytes_eq, Option, Some, None, Result, Ok, Err, if◌then◌else◌}
+use Rattle.std.specs.Prelude.{ℕ, ◌+◌, Bool, not, ◌||◌, ◌==◌, nat_le, List, [], ◌∷◌, ◌++◌, filter, sum_by, codes, bytes_eq, Option, Some, None, Result, Ok, Err, if◌then◌else◌}
 use Rattle.std.specs.List.{list_any}
-use Rattle.sw_data.specs.declared.exchange.Header.{Header}
 use Rattle.sw_data.specs.declared.exchange.Options.{Options}
 use Rattle.sw_data.specs.declared.exchange.Request.{Request}
 use Rattle.sw_data.specs.declared.exchange.Response.{Response}
@@ -11,6 +10,7 @@ use Rattle.sw_data.specs.declared.answers.Cause.{Cause}
 use Rattle.sw_data.specs.declared.answers.Cause.TheVariants as cause
 use Rattle.sw_data.specs.Addresses.{scheme_of}
 use Rattle.sw_data.specs.Exchange.{no_options}
+use Rattle.sw_data.specs.Sizes.{op_size}
 use Rattle.sw_rules.specs.Matching.{Pair, is_get, varies_on_all, finds_nothing, matches_pair}
 
 -- what a batch throws, with the place of the operation, or with the size of all operations
@@ -56,24 +56,6 @@ go old added at (op.Put request response ∷ rest) =
           if matches_added request no_options added then Err (InvalidState at)
           else go (without_matching request no_options old) (added ++ (request, response) ∷ []) (at + 1) rest
     ]
-
--- ---- the size of a batch: the length of its operations' spellings in the journal (own)
-
-abbrev pub text_size : List ℕ → ℕ
-text_size text = 4 + length text
-
-abbrev pub headers_size : List Header → ℕ
-headers_size headers = 4 + sum_by (λ line. text_size line.name + text_size line.value) headers
-
-abbrev pub request_size : Request → ℕ
-request_size request = text_size request.method + text_size request.url + headers_size request.headers
-
-abbrev pub response_size : Response → ℕ
-response_size response = 2 + headers_size response.headers + text_size response.body
-
-abbrev pub op_size : Op → ℕ
-op_size (op.Delete request options) = 2 + request_size request
-op_size (op.Put request response) = 1 + request_size request + response_size response
 
 -- the most bytes that the operations of one batch may have together
 abbrev pub quota : ℕ

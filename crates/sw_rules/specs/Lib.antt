@@ -5,7 +5,9 @@ pub use Rattle.sw_data.specs.Faults
 pub use Rattle.sw_data.specs.Headers
 pub use Rattle.sw_data.specs.Keys
 pub use Rattle.sw_data.specs.Media
+pub use Rattle.sw_data.specs.Network
 pub use Rattle.sw_data.specs.Sameness
+pub use Rattle.sw_data.specs.Sizes
 pub use Rattle.sw_data.specs.Streams
 pub mod Activating
 pub mod Batch

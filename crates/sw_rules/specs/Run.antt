@@ -4,7 +4,7 @@ use Rattle.sw_data.specs.declared.histories.Entry.{Entry}
 use Rattle.sw_data.specs.declared.recordings.Recording.{Recording}
 use Rattle.sw_data.specs.declared.storage.Kept.{Kept}
 use Rattle.sw_rules.specs.History.{Controlled, Legal, Stamped, after}
-use Rattle.sw_rules.specs.Picks.{Complete, Follows, Seq}
+use Rattle.sw_rules.specs.Picks.{Complete, Follows}
 use Rattle.sw_rules.specs.State.{State}
 
 -- own: what a run is: what it follows, from which content, between which clocks it was acknowledged, how many workers made it, and how it has ended
@@ -25,11 +25,6 @@ pub record IsRun (run : Kind) (history : List Entry) : Type 0 where
   pub passes : All (λ entry. entry.pass < run.workers) history
   pub ended : run.HasEnded history (after run.base history)
 
--- own: a run of one worker, in which each entry is the one that a pick order fixes
-pub record IsPickedRun (made : Kind) (Picked : Kept → List Entry → Type 0) (history : List Entry) : Type 0 where
-  pub run : IsRun made history
-  pub picked : Picked made.base history
-
 -- the run of a recording by one worker that is complete
 abbrev pub whole_run : Recording → Kept → ℕ → ℕ → Kind
 whole_run recording base low high = record {
@@ -40,7 +35,3 @@ whole_run recording base low high = record {
   workers = 1;
   HasEnded = Complete recording;
 }
-
-abbrev pub IsWholeRun : Recording → Kept → ℕ → ℕ → List Entry → Type 0
-IsWholeRun recording base low high history =
-    IsPickedRun (whole_run recording base low high) (Seq recording) history

@@ -4,9 +4,11 @@
 //! the definitions of `sw_data` are passed on.
 #![tactic(auto)]
 
+mod jobs;
 pub mod laws;
 mod notices;
 
+pub use jobs::{same_kind, same_mode};
 pub use notices::Notices;
 pub use sw_data::{
     Action, Answer, Bytes, CacheAddAll, CacheBatch, CacheDelete, CacheMatch, CachePut, CacheQuery,

@@ -1,5 +1,5 @@
 use Rattle.std.proofs.Common.{◌≡◌, take}
-use Rattle.sw_rules.specs.Batch.{headers_size}
+use Rattle.sw_data.specs.Sizes.{headers_size}
 use Rattle.sw_caches.proofs.rules.headers_size.Given as goal
 
 abbrev pub invariant-loop-line : goal.invariant-loop-line

@@ -1,6 +1,6 @@
 use Rattle.std.proofs.Common.{◌≡◌, take}
 use Rattle.std.specs.Prelude.{sum_by}
-use Rattle.sw_rules.specs.Batch.{op_size}
+use Rattle.sw_data.specs.Sizes.{op_size}
 use Rattle.sw_caches.proofs.rules.size_of.Given as goal
 
 abbrev pub invariant-loop-op : goal.invariant-loop-op

@@ -1,6 +1,6 @@
 use Rattle.std.proofs.Common.{◌≡◌, ◌∙◌, sym, ap, slice_get, Option, ℕ}
 use Rattle.std.specs.Option.{option_and_then}
-use Rattle.sw_rules.specs.Recordings.{answered_line}
+use Rattle.sw_data.specs.Network.{answered_line}
 use Rattle.sw_net.proofs.Drawing.{drawn_at}
 use Rattle.sw_net.proofs.Net.fetch_bytes.Goals as goal
 

@@ -1,6 +1,7 @@
-//! That a transcript names one history.
+//! A transcript names one history. A call does nothing; its clause is the law.
+#![tactic(auto)]
 
-ghost use Rattle.sw_laws.specs.Naming.{NamesOneHistory};
+ghost use Rattle.sw_naming.specs.Naming.{NamesOneHistory};
 
 /// Two legal histories from one content that follow one recording and have one transcript are equal but for their
 /// passes and stamps.

@@ -11,8 +11,8 @@ use Rattle.sw_data.specs.declared.workers.Phase.{Phase}
 use Rattle.sw_data.specs.declared.workers.Phase.TheVariants as phase
 use Rattle.sw_data.specs.Events.{who_of}
 use Rattle.sw_print.specs.Transcript.{call_word, event_text, mark, phase_word, who_text}
-use Rattle.sw_laws.specs.Naming.{WhoFits, named_number}
-use Rattle.sw_laws.proofs.Cuts.{cut, free, free-append, free-decimal}
+use Rattle.sw_naming.specs.Naming.{WhoFits, named_number}
+use Rattle.sw_naming.proofs.Cuts.{cut, free, free-append, free-decimal}
 
 -- ---- makers
 

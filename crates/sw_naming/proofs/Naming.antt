@@ -26,11 +26,11 @@ use Rattle.sw_rules.specs.Rows.{free_handler, worker_row}
 use Rattle.sw_rules.specs.State.{State, Worker}
 use Rattle.sw_rules.specs.Step.{state_after, step}
 use Rattle.sw_rules.specs.Told.{Outcome}
-use Rattle.sw_laws.specs.Naming.{Fits, IsSameEntry, IsSameHistory, NamesOneHistory}
-use Rattle.sw_laws.proofs.Cuts.{cut, free, free-append}
-use Rattle.sw_laws.proofs.HostEvents.{call_form, host_form, same_host_event}
-use Rattle.sw_laws.proofs.Marks.{free_mark, same_mark}
-use Rattle.sw_laws.proofs.SameCalls.{equal_calls}
+use Rattle.sw_naming.specs.Naming.{Fits, IsSameEntry, IsSameHistory, NamesOneHistory}
+use Rattle.sw_naming.proofs.Cuts.{cut, free, free-append}
+use Rattle.sw_naming.proofs.HostEvents.{call_form, host_form, same_host_event}
+use Rattle.sw_naming.proofs.Marks.{free_mark, same_mark}
+use Rattle.sw_naming.proofs.SameCalls.{equal_calls}
 
 -- ---- one event
 

@@ -19,7 +19,7 @@ use Rattle.sw_rules.specs.State.{State}
 use Rattle.sw_rules.specs.Step.{by_host, by_lane, step}
 use Rattle.sw_rules.specs.Tasks.{add_all_lines, job_line}
 use Rattle.sw_rules.specs.Told.{Outcome}
-use Rattle.sw_laws.specs.Naming.{named_number}
+use Rattle.sw_naming.specs.Naming.{named_number}
 
 -- ---- the kinds of the host's events
 

@@ -5,14 +5,14 @@ ghost use Rattle.http_header.specs.Token.{lowercase};
 ghost use Rattle.sw_data.specs.Headers.{last_value, trimmed};
 ghost use Rattle.sw_data.specs.Media.{essence, is_javascript, is_javascript_essence};
 
-use sw_data::Header;
-use sw_data::cut::before;
-use sw_data::header::{same_name, trimmed};
+use crate::cut::before;
+use crate::exchange::Header;
+use crate::header::{same_name, trimmed};
 
 /// The last `Content-Type` line has an essence of JavaScript (MIME Sniffing, 4.6, "JavaScript MIME
 /// type"): cut before its first `;`, without spaces and tabs at both ends and in any case. It takes
 /// no memory.
-#[tactic(auto, unfolding(sw_data::specs::Media::is_javascript))]
+#[tactic(auto, unfolding(crate::specs::Media::is_javascript))]
 pub fn is_javascript(headers: &[Header]) -> bool
     ensures { result ≡ is_javascript headers.now }
 {

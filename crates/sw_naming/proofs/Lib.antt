@@ -1,0 +1,5 @@
+pub mod Cuts
+pub mod HostEvents
+pub mod Marks
+pub mod Naming
+pub mod SameCalls
