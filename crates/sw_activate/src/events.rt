@@ -66,7 +66,8 @@ pub fn skip_waiting(
     ensures did { (rest : Rest) → IfSome
         (worker_row (lent map.old workers.old registrations.old clients.old rest) worker)
         (λ row. Happened
-        (Some (rules.skip_waiting_of (lent map.old workers.old registrations.old clients.old rest) row))
+        (Some (rules.skip_waiting_of
+        (lent map.old workers.old registrations.old clients.old rest) row))
         (ok_answer result) notices.old notices.new
         (lent map.old workers.old registrations.old clients.old rest)
         (lent map.new workers.new registrations.new clients.new rest)) }

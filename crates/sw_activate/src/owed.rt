@@ -47,7 +47,8 @@ pub fn try_activate(
     requires linked { Linked map.old workers.old registrations.old clients.old }
     requires room { 2 + users_of registration clients.old.rows ≤ notices.old.spare }
     ensures did { (rest : Rest) → Happened
-        (rules.tryactivate (lent map.old workers.old registrations.old clients.old rest) registration)
+        (rules.tryactivate
+        (lent map.old workers.old registrations.old clients.old rest) registration)
         (activate_answer result) notices.old notices.new
         (lent map.old workers.old registrations.old clients.old rest)
         (lent map.new workers.new registrations.new clients.new rest) }

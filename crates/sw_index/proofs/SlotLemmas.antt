@@ -112,3 +112,10 @@ same_slots slots same e key n h = ap (λ keys. list_any (is_at (slot_cmp (key, n
 -- an index without a slot has those of other numbers
 pub fewer_slots : (slots fewer : BTreeSet Slot) (key number : ℕ) → Updates slot_cmp slots fewer (key, number) false → KeepsOthers number slots fewer
 fewer_slots slots fewer key number up other n apart_from = up.2 (other, n) (apart key number other n (λ e. apart_from (sym e)))
+
+-- an index without a slot hasn't got it
+pub slot_gone : (slots fewer : BTreeSet Slot) (key number : ℕ) → Updates slot_cmp slots fewer (key, number) false → has fewer key number ≡ false
+slot_gone slots fewer key number up = up.0 (key, number) ∙ ap (λ b. cond b false (has slots key number)) itself
+  where
+    itself : is_at (slot_cmp (key, number)) (key, number) ≡ true
+    itself = rw (cmp_same key, cmp_same number) refl

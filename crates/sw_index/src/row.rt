@@ -132,7 +132,8 @@ pub(crate) fn first_asked<V>(
     name: Option<&Text>,
 ) -> Option<usize>
     requires { AreIndexed rows.now slots.now }
-    ensures { result ≡ position (is_asked key.now (option_copied name.entry)) (named_rows rows.now) }
+    ensures { result
+        ≡ position (is_asked key.now (option_copied name.entry)) (named_rows rows.now) }
 {
     let digest = asked_digest(key, name);
     let mut after = before(rows);
@@ -155,7 +156,8 @@ pub(crate) fn drop_asked<V: Drop>(
     requires { AreIndexed rows.old.items slots.old }
     ensures indexed { AreIndexed rows.new.items slots.new }
     ensures rows { named_rows rows.new.items
-        ≡ filter (λ row. not (is_asked key.now (option_copied name.entry) row)) (named_rows rows.old.items) }
+        ≡ filter (λ row. not (is_asked key.now (option_copied name.entry) row))
+        (named_rows rows.old.items) }
     ensures above { KeepsAbove number rows.old.items slots.old rows.new.items slots.new }
     ensures bound { vec_len rows.new ≤ vec_len rows.old }
 {

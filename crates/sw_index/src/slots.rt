@@ -1,6 +1,6 @@
 //! An index: a set of slots, each a digest and a number.
 
-ghost use Rattle.std.specs.Prelude.{◌≡◌, ◌^◌, ◌<◌, true, MatchOption, OnOk};
+ghost use Rattle.std.specs.Prelude.{◌≡◌, ◌^◌, ◌<◌, true, false, MatchOption, OnOk};
 ghost use Rattle.sw_index.specs.Slots.{KeepsOthers, KeepsSlots, NoneBetween, digest, digest_from, has, mixed};
 
 use std::collections::BTreeSet;
@@ -65,7 +65,8 @@ pub fn put_number(slots: &mut Slots, key: u64, number: u64) -> Result<(), NoMemo
 
 /// Takes a number from under a digest; it takes no memory.
 pub fn take_number(slots: &mut Slots, key: u64, number: u64)
-    ensures { KeepsOthers number slots.old slots.new }
+    ensures others { KeepsOthers number slots.old slots.new }
+    ensures gone { has slots.new key number ≡ false }
 {
     slots.remove(&(key, number));
 }

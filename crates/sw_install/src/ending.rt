@@ -61,7 +61,8 @@ fn leave(
     requires there { is_there registration registrations.now.rows ≡ true }
     requires room { 0 < notices.old.spare }
     ensures did { (rest : Rest) → Did (if is_none remembered
-        then mapping.unmap (lent map.old workers.now registrations.now clients.now rest) registration
+        then mapping.unmap
+        (lent map.old workers.now registrations.now clients.now rest) registration
         else quiet (lent map.old workers.now registrations.now clients.now rest))
         notices.old notices.new (lent map.new workers.now registrations.now clients.now rest) }
     ensures linked { Linked map.new workers.now registrations.now clients.now }
@@ -178,6 +179,7 @@ pub fn installed(
         (lent map.new workers.new registrations.new clients.new (with_jobs queues.new.rows rest)) }
     ensures linked { Linked map.new workers.new registrations.new clients.new }
     ensures counts { KeepCounts workers.old workers.new }
+    ensures rows { _rows.new ≡ _rows.old }
 {
     let Some(row) = job_in(job, JobPhase::Installing, queues) else {
         return Err(NotNow);

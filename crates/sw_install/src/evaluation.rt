@@ -191,6 +191,7 @@ pub fn evaluated(
         (lent map.new workers.new registrations.new clients.new (with_jobs queues.new.rows rest)) }
     ensures linked { Linked map.new workers.new registrations.new clients.new }
     ensures counts { KeepCounts workers.old workers.new }
+    ensures rows { _rows.new ≡ _rows.old }
 {
     let Some(row) = job_in(job, JobPhase::Evaluating, queues) else {
         return Err(NotNow);

@@ -138,6 +138,8 @@ pub fn fetched(
         (lent map.new workers.new registrations.new clients.new (with_jobs queues.new.rows rest)) }
     ensures linked { Linked map.new workers.new registrations.new clients.new }
     ensures counts { KeepCounts workers.old workers.new }
+    ensures registration { rows.new.registration ≡ rows.old.registration }
+    ensures scope { rows.new.scope ≡ rows.old.scope }
 {
     let Some(row) = job_in(job, JobPhase::Fetching, queues) else {
         return Err(NotNow);

@@ -68,6 +68,7 @@ pub fn run_update(
         (drawn_by result (script_of job queues.old.rows) (with_jobs queues.new.rows rest))) }
     ensures linked { Linked map.new workers.new registrations.new clients.new }
     ensures counts { KeepCounts workers.old workers.new }
+    ensures rows { _rows.new ≡ _rows.old }
 {
     if !may_run(job, queues) {
         return Err(NotNow);

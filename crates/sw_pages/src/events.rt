@@ -22,7 +22,8 @@ use sw_worker::{BeginFault, NewEvent, Workers};
 
 // What a fetch event comes to that begins.
 fn begun(new: NewEvent, worker: u32) -> Worked
-    ensures { result ≡ record { answer = Answer.Worker worker; act = PageAct.Begin new; awaited = None } }
+    ensures { result
+        ≡ record { answer = Answer.Worker worker; act = PageAct.Begin new; awaited = None } }
 {
     Worked {
         answer: Answer::Worker(worker),

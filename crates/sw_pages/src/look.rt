@@ -249,8 +249,8 @@ pub fn registrations_of(
 
 // The value of what a promise waits for, where it has one.
 fn value_of(awaited: Awaited, queues: &Queues, tasks: &Tasks) -> Option<Settlement>
-    ensures { (scopes : Scopes) (of_workers : workers.Table) (of_registrations : registrations.Table)
-        (of_clients : clients.Table) (rest : Rest)
+    ensures { (scopes : Scopes) (of_workers : workers.Table)
+        (of_registrations : registrations.Table) (of_clients : clients.Table) (rest : Rest)
         → rest.jobs ≡ queues.now.rows → rest.tasks ≡ tasks.now.rows
         → result ≡ awaited_value (lent scopes of_workers of_registrations of_clients rest)
         (meaning awaited) }

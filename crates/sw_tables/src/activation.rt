@@ -228,7 +228,8 @@ fn is_free(
     requires slots { HasSlots workers.now registrations.now }
     requires noted { All (IsNoted workers.now) clients.now.rows }
     ensures free { (scopes : Scopes) (rest : Rest)
-        → result ≡ is_free (lent scopes workers.now registrations.now clients.now rest) registration }
+        → result
+        ≡ is_free (lent scopes workers.now registrations.now clients.now rest) registration }
     ensures quiet { result ≡ true → IsQuiet registration workers.now registrations.now }
 {
     if is_used(registration, clients) {
@@ -250,7 +251,8 @@ pub fn try_clear(
     requires there { is_there registration registrations.old.rows ≡ true }
     requires room { 3 ≤ notices.old.spare }
     ensures did { (scopes : Scopes) (rest : Rest)
-        → Did (rules.try_clear (lent scopes workers.old registrations.old clients.now rest) registration)
+        → Did (rules.try_clear
+        (lent scopes workers.old registrations.old clients.now rest) registration)
         notices.old notices.new (lent scopes workers.new registrations.new clients.now rest) }
     ensures slots { HasSlots workers.new registrations.new }
     ensures linked { StayLinked workers.old registrations.old workers.new registrations.new }

@@ -56,7 +56,8 @@ fn ended(phase: Phase, row: &WorkerRow) -> Option<HandlerRow>
 pub fn ended_handler(phase: Phase, row: &WorkerRow) -> Option<HandlerRow>
     ensures ended { (scopes : Scopes) (of_workers : workers.Table)
         (of_registrations : registrations.Table) (of_clients : clients.Table) (rest : Rest)
-        → worker_at row.now.number of_workers.rows ≡ Some row.now → CountsTasks of_workers rest.tasks
+        → worker_at row.now.number of_workers.rows ≡ Some row.now
+        → CountsTasks of_workers rest.tasks
         → option_map shown_handler result
         ≡ rules.ended_handler (lent scopes of_workers of_registrations of_clients rest)
         (is_in phase) (shown_worker row.now) }

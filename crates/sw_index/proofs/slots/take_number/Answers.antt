@@ -1,5 +1,8 @@
-use Rattle.sw_index.proofs.SlotLemmas.{fewer_slots}
+use Rattle.sw_index.proofs.SlotLemmas.{fewer_slots, slot_gone}
 use Rattle.sw_index.proofs.slots.take_number.Goals as goal
 
-pub returns : goal.returns
-returns c key n other = fewer_slots c.args.slots.now c.remove.new.self c.args.key c.args.number c.remove.ensures.updates key n other
+pub returns-clause-others : goal.returns-clause-others
+returns-clause-others c key n other = fewer_slots c.args.slots.now c.remove.new.self c.args.key c.args.number c.remove.ensures.updates key n other
+
+pub returns-clause-gone : goal.returns-clause-gone
+returns-clause-gone c = slot_gone c.args.slots.now c.remove.new.self c.args.key c.args.number c.remove.ensures.updates
