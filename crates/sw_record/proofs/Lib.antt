@@ -1,4 +1,2 @@
 pub mod LineLemmas
 pub mod OnLiterals
-pub mod OnlyListed
-pub mod PartLemmas

@@ -6,9 +6,9 @@ use Rattle.std.proofs.lemmas.Str.{IsUtf8-from_is_utf8, is_utf8-from_IsUtf8}
 use Rattle.serde_json.specs.Data.{Data}
 use Rattle.serde_json.specs.Read.{read}
 use Rattle.sw_data.specs.declared.recordings.Action.{Action}
-use Rattle.sw_record.specs.declared.flaw.Flaw.{Flaw}
+use Rattle.sw_forms.specs.declared.flaw.Flaw.{Flaw}
+use Rattle.sw_forms.specs.Flaws.{no_json}
 use Rattle.sw_record.specs.declared.reading.Reading.{Reading}
-use Rattle.sw_record.specs.Flaws.{no_json}
 use Rattle.sw_record.specs.Grammar.{json_of, with_action, with_text, with_value}
 
 json_of_is : (line : List ℕ) (value : Data) → IsUtf8 line → read line ≡ Some value → json_of line ≡ Some value

@@ -9,17 +9,17 @@ use Rattle.sw_data.specs.declared.recordings.Action.{Action}
 use Rattle.sw_data.specs.declared.recordings.Action.TheVariants as action
 use Rattle.sw_data.specs.declared.recordings.FetchLine.{FetchLine}
 use Rattle.sw_data.specs.declared.recordings.Recording.{Recording}
-use Rattle.sw_record.specs.declared.error.LineCause.TheVariants as cause
-use Rattle.sw_record.specs.declared.error.Limit.TheVariants as limit
-use Rattle.sw_record.specs.declared.error.RecordingError.{RecordingError}
-use Rattle.sw_record.specs.declared.error.RecordingError.TheVariants as error
-use Rattle.sw_record.specs.declared.flaw.Flaw.{Flaw}
-use Rattle.sw_record.specs.declared.flaw.Flaw.TheVariants as flaw
+use Rattle.sw_forms.specs.declared.error.LineCause.TheVariants as cause
+use Rattle.sw_forms.specs.declared.error.Limit.TheVariants as limit
+use Rattle.sw_forms.specs.declared.error.RecordingError.{RecordingError}
+use Rattle.sw_forms.specs.declared.error.RecordingError.TheVariants as error
+use Rattle.sw_forms.specs.declared.flaw.Flaw.{Flaw}
+use Rattle.sw_forms.specs.declared.flaw.Flaw.TheVariants as flaw
+use Rattle.sw_forms.specs.Fetches.{fetch_line}
+use Rattle.sw_forms.specs.Flaws.{error_at, made, needs, no_json}
+use Rattle.sw_forms.specs.declared.limits.TheConstants.{ACTIONS_LIMIT}
 use Rattle.sw_record.specs.declared.reading.Reading.{Reading}
-use Rattle.sw_record.specs.Fetches.{fetch_line}
-use Rattle.sw_record.specs.Flaws.{error_at, made, needs, no_json}
 use Rattle.sw_record.specs.Lanes.{lane_line}
-use Rattle.sw_record.specs.declared.limits.TheConstants.{ACTIONS_LIMIT}
 
 -- ---- what was read so far
 

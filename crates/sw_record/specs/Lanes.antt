@@ -21,17 +21,17 @@ use Rattle.sw_data.specs.declared.workers.Mode.{Mode}
 use Rattle.sw_data.specs.declared.workers.Mode.TheVariants as mode
 use Rattle.sw_data.specs.declared.workers.Slot.{Slot}
 use Rattle.sw_data.specs.declared.workers.Slot.TheVariants as slot
-use Rattle.sw_record.specs.declared.error.LineCause.TheVariants as cause
-use Rattle.sw_record.specs.declared.error.Limit.TheVariants as limit
-use Rattle.sw_record.specs.declared.flaw.Flaw.{Flaw}
-use Rattle.sw_record.specs.declared.flaw.Flaw.TheVariants as flaw
-use Rattle.sw_record.specs.declared.word.Word.{Word}
-use Rattle.sw_record.specs.declared.word.Word.TheVariants as word
-use Rattle.sw_record.specs.Caches.{add_all_parts, batch_parts, delete_parts, match_parts, name_member, put_parts, query_parts}
-use Rattle.sw_record.specs.Flaws.{both, formed, made, needs, no_form}
-use Rattle.sw_record.specs.declared.limits.TheConstants.{LANES_LIMIT, PARTITION_LIMIT}
-use Rattle.sw_record.specs.Members.{count_of, defaulted, has_only, number_of, optional, required, short, short_text_of}
-use Rattle.sw_record.specs.Words.{word_member}
+use Rattle.sw_forms.specs.declared.error.LineCause.TheVariants as cause
+use Rattle.sw_forms.specs.declared.error.Limit.TheVariants as limit
+use Rattle.sw_forms.specs.declared.flaw.Flaw.{Flaw}
+use Rattle.sw_forms.specs.declared.flaw.Flaw.TheVariants as flaw
+use Rattle.sw_forms.specs.declared.word.Word.{Word}
+use Rattle.sw_forms.specs.declared.word.Word.TheVariants as word
+use Rattle.sw_forms.specs.Caches.{add_all_parts, batch_parts, delete_parts, match_parts, name_member, put_parts, query_parts}
+use Rattle.sw_forms.specs.Flaws.{both, formed, made, needs, no_form}
+use Rattle.sw_forms.specs.declared.limits.TheConstants.{LANES_LIMIT, PARTITION_LIMIT}
+use Rattle.sw_forms.specs.Members.{count_of, defaulted, has_only, number_of, optional, required, short, short_text_of}
+use Rattle.sw_forms.specs.Words.{word_member}
 
 -- ---- clients and registrations
 

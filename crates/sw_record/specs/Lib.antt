@@ -1,9 +1,2 @@
-pub mod Caches
-pub mod Exchanges
-pub mod Fetches
-pub mod Flaws
 pub mod Grammar
 pub mod Lanes
-pub mod Members
-pub mod Refusals
-pub mod Words

@@ -4,18 +4,15 @@ ghost use Rattle.std.specs.Prelude.{◌≡◌, IfOk};
 ghost use Rattle.serde_json.specs.View.{view};
 ghost use Rattle.sw_record.specs.Lanes as lanes;
 
-use crate::error::Limit;
-use crate::flaw::{Flaw, NO_FORM, Part, both};
 use crate::lanes::{
     add_all_line, await_line, batch_line, begin_line, client_line, delete_line, event_line,
     match_line, name_line, open_line, page_line, preload_line, put_line, query_line, register_line,
     scope_line, slot_line, url_line,
 };
-use crate::limits::LANES_LIMIT;
-use crate::word::{Word, word_member};
 use serde_json::Value;
 use std::alloc::Global;
 use sw_data::Action;
+use sw_forms::{Flaw, LANES_LIMIT, Limit, NO_FORM, Part, Word, both, word_member};
 
 #[tactic(auto, unfolding(crate::specs::Lanes::action_of_word))]
 fn open_action(alloc: Global, value: &Value) -> Part<Action>

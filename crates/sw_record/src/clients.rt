@@ -5,14 +5,14 @@ ghost use Rattle.std.specs.List.{list_all};
 ghost use Rattle.serde_json.specs.View.{view};
 ghost use Rattle.sw_record.specs.Lanes as lanes;
 
-use crate::error::LineCause;
-use crate::flaw::{Flaw, NO_FORM, Part, both, needs};
-use crate::limits::PARTITION_LIMIT;
-use crate::members::{number_member, short, short_text_member, short_text_option};
 use serde_json::Value;
 use std::alloc::Global;
 use sw_data::header::is_value;
 use sw_data::{ClientScope, Kind, Mode, Place, Registering, Slot, Text};
+use sw_forms::{
+    Flaw, LineCause, NO_FORM, PARTITION_LIMIT, Part, both, needs, number_member, short,
+    short_text_member, short_text_option,
+};
 
 #[tactic(auto, unfolding(crate::specs::Lanes::client_member))]
 pub fn client_member(value: &Value) -> Result<u32, Flaw>
@@ -50,7 +50,7 @@ fn scope_option(alloc: Global, value: &Value) -> Part<Option<Text>>
     short_text_option(alloc, value.get("scope"))
 }
 
-#[tactic(auto, unfolding(crate::specs::Flaws::both))]
+#[tactic(auto, unfolding(sw_forms::specs::Flaws::both))]
 fn client_scope_from(
     client: Result<u32, Flaw>,
     scope: Result<Text, Flaw>,
@@ -159,7 +159,7 @@ fn addresses(alloc: Global, value: &Value) -> Part<(Text, Option<Text>)>
     Ok(both(script, scope))
 }
 
-#[tactic(auto, unfolding(crate::specs::Flaws::both))]
+#[tactic(auto, unfolding(sw_forms::specs::Flaws::both))]
 fn register_from(
     client: Result<u32, Flaw>,
     addresses: Result<(Text, Option<Text>), Flaw>,
@@ -252,7 +252,7 @@ pub fn partition_member(alloc: Global, value: &Value) -> Part<Option<Text>>
     }
 }
 
-#[tactic(auto, unfolding(crate::specs::Flaws::both))]
+#[tactic(auto, unfolding(sw_forms::specs::Flaws::both))]
 fn place_from(at: Result<Text, Flaw>, partition: Result<Option<Text>, Flaw>) -> Result<Place, Flaw>
     ensures { result ≡ lanes.place_from at partition }
 {

@@ -4,20 +4,19 @@ ghost use Rattle.std.specs.Prelude.{◌≡◌, IfOk};
 ghost use Rattle.serde_json.specs.View.{view};
 ghost use Rattle.sw_record.specs.Lanes as lanes;
 
-use crate::caches::{
-    add_all_parts, batch_parts, delete_parts, match_parts, name_member, put_parts, query_parts,
-};
 use crate::clients::{
     client_member, client_scope_parts, event_member, of_member, partition_member, place_parts,
     preload_value_member, register_parts, slot_member, text_member,
 };
-use crate::flaw::{Flaw, NO_FORM, Part, both};
-use crate::members::has_only;
 use serde_json::Value;
 use std::alloc::Global;
 use sw_data::{
     CacheAddAll, CacheBatch, CacheDelete, CacheMatch, CachePut, CacheQuery, ClientScope, Place,
     Registering, Slot, Text,
+};
+use sw_forms::{
+    Flaw, NO_FORM, Part, add_all_parts, batch_parts, both, delete_parts, has_only, match_parts,
+    name_member, put_parts, query_parts,
 };
 
 /// A client that opens at an address.

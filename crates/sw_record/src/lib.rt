@@ -4,21 +4,10 @@
 #![tactic(auto)]
 
 mod actions;
-mod caches;
-mod calls;
 mod clients;
-mod error;
-mod exchanges;
-mod fetches;
-mod flaw;
 mod lanes;
-mod limits;
-mod lists;
-mod members;
 mod reading;
 mod recording;
-mod word;
 
-pub use error::{Limit, LineCause, RecordingError};
-pub use limits::RECORDING_LIMIT;
 pub use recording::read_recording;
+pub use sw_forms::{Limit, LineCause, RECORDING_LIMIT, RecordingError};

@@ -7,13 +7,10 @@ ghost use Rattle.sw_data.specs.declared.recordings.Action.{Action};
 ghost use Rattle.sw_record.specs.Grammar as grammar;
 
 use crate::actions::lane_line;
-use crate::error::{Limit, LineCause};
-use crate::fetches::fetch_line;
-use crate::flaw::{Flaw, Part, needs};
-use crate::limits::ACTIONS_LIMIT;
 use serde_json::Value;
 use std::alloc::Global;
 use sw_data::{Action, FetchLine, Items, NoMemory, Recording};
+use sw_forms::{ACTIONS_LIMIT, Flaw, Limit, LineCause, Part, fetch_line, needs};
 
 /// The recording of the lines so far, and the count of its actions.
 #[derive(Drop)]

@@ -4,12 +4,11 @@ ghost use Rattle.std.specs.Prelude.{◌≡◌};
 ghost use Rattle.sw_record.specs.Grammar as grammar;
 ghost use Rattle.sw_record.specs.Grammar.{recording_of, Reads};
 
-use crate::error::RecordingError;
-use crate::flaw::error_at;
 use crate::reading::{nothing_read, with_line};
 use std::alloc::Global;
 use sw_data::Recording;
 use sw_data::cut::first_part;
+use sw_forms::{RecordingError, error_at};
 
 // What the lines of these bytes come to, or the refusal of the first bad one.
 fn with_lines(alloc: Global, bytes: &[u8]) -> Result<Recording, RecordingError>

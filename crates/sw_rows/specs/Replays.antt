@@ -11,10 +11,10 @@ use Rattle.sw_data.specs.declared.recordings.Recording.{Recording}
 use Rattle.sw_data.specs.declared.storage.Change.{Change}
 use Rattle.sw_data.specs.declared.storage.Change.TheVariants as change
 use Rattle.sw_data.specs.Events.{who_of}
+use Rattle.sw_forms.specs.Refusals.{refusal_text}
 use Rattle.sw_print.specs.Showing.{shown}
 use Rattle.sw_print.specs.Transcript.{transcript}
 use Rattle.sw_record.specs.Grammar.{recording_of}
-use Rattle.sw_record.specs.Refusals.{refusal_text}
 use Rattle.sw_rules.specs.Durable.{durable}
 use Rattle.sw_rules.specs.History.{restart_answer}
 use Rattle.sw_rules.specs.Picks.{next, next_action}

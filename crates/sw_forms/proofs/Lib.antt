@@ -1,0 +1,3 @@
+pub mod OnLiterals
+pub mod OnlyListed
+pub mod PartLemmas
