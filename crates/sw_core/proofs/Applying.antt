@@ -9,16 +9,17 @@ use Rattle.sw_rules.specs.Step.{Step, step}
 use Rattle.sw_rules.specs.Told.{Outcome}
 use Rattle.sw_core.proofs.Doing.{if_some_map}
 use Rattle.sw_core.proofs.Same.{same_state}
-use Rattle.sw_core.specs.Hosted.{Hosted, SameRows, state_of}
-use Rattle.sw_core.specs.Plans.{Fits, IsAsked, IsStarted, Means, Works}
+use Rattle.sw_core.specs.Planned.{Fits}
 use Rattle.sw_core.specs.declared.plan.Plan.{Plan}
-use Rattle.sw_core.specs.declared.plan.Work.{Work}
-use Rattle.sw_core.specs.declared.plan.Work.TheVariants as work
 use Rattle.sw_cachestorage.specs.Added.{IsAdded}
 use Rattle.sw_install.specs.Fetches.{ComesTo}
 use Rattle.sw_rules.specs.Activating as activating
 use Rattle.sw_rules.specs.Installing as installing
 use Rattle.sw_rules.specs.Registering as registering
+use Rattle.sw_work.specs.Hosted.{Hosted, SameRows, state_of}
+use Rattle.sw_work.specs.Plans.{IsAsked, IsStarted, Means, Works}
+use Rattle.sw_work.specs.declared.plan.Work.{Work}
+use Rattle.sw_work.specs.declared.plan.Work.TheVariants as work
 
 -- an event that is enabled comes to what its work means
 pub worked : (comes : Option Outcome) (done : Work) (host : Hosted) → is_some comes ≡ true → IfSome comes (Means done host)

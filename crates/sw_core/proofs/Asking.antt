@@ -3,11 +3,6 @@ use Rattle.std.proofs.Common.{◌≡◌, ℕ, List, [], Option, Some, refl, sym,
 use Rattle.sw_cachestorage.specs.Adding.{begun, started_by}
 use Rattle.sw_cachestorage.specs.declared.adding.AddAllStep.{AddAllStep}
 use Rattle.sw_cachestorage.specs.declared.adding.NewAddAll.{NewAddAll}
-use Rattle.sw_core.specs.Plans.{IsAsked, IsStarted, TellSame, outcome_of, told_then}
-use Rattle.sw_core.specs.declared.plan.Act.{Act}
-use Rattle.sw_core.specs.declared.plan.Act.TheVariants as act
-use Rattle.sw_core.specs.declared.plan.Asked.{Asked}
-use Rattle.sw_core.specs.declared.plan.Then.{Then}
 use Rattle.sw_data.specs.declared.events.Who.TheVariants as maker
 use Rattle.sw_data.specs.declared.storage.Change.{Change}
 use Rattle.sw_pages.specs.Acts as pages
@@ -15,6 +10,11 @@ use Rattle.sw_rules.specs.Caching.{add_task}
 use Rattle.sw_rules.specs.Jobs.{promise}
 use Rattle.sw_rules.specs.State.{State}
 use Rattle.sw_rules.specs.Told.{Told, Outcome, followed}
+use Rattle.sw_work.specs.Plans.{IsAsked, IsStarted, TellSame, outcome_of, told_then}
+use Rattle.sw_work.specs.declared.plan.Act.{Act}
+use Rattle.sw_work.specs.declared.plan.Act.TheVariants as act
+use Rattle.sw_work.specs.declared.plan.Asked.{Asked}
+use Rattle.sw_work.specs.declared.plan.Then.{Then}
 
 tell_same : (done : Act) (all : List Change) → TellSame done all all
 tell_same (act.Page done) all = refl

@@ -6,7 +6,7 @@ use Rattle.sw_data.specs.declared.rows.RegistrationRow.{RegistrationRow}
 use Rattle.sw_data.specs.declared.rows.WorkerRow.{WorkerRow}
 use Rattle.sw_rules.specs.State.{AddAll, FetchEvent}
 use Rattle.sw_scope.specs.Scopes.{maps}
-use Rattle.sw_core.specs.Hosted.{Hosted, IsJoined}
+use Rattle.sw_work.specs.Hosted.{Hosted, IsJoined}
 
 -- a host with these rows
 abbrev with_rows : Hosted → List WorkerRow → List FetchEvent → List RegistrationRow → List OpenClient → List AddAll → Hosted

@@ -5,10 +5,6 @@ use Rattle.std.proofs.lemmas.List.{append_cancel_left, length-append}
 use Rattle.sw_cachestorage.specs.Adding.{FitsNew, FitsStart, begun, started_by}
 use Rattle.sw_cachestorage.specs.declared.adding.AddAllStep.{AddAllStep}
 use Rattle.sw_cachestorage.specs.declared.adding.NewAddAll.{NewAddAll}
-use Rattle.sw_core.specs.Hosted.{Hosted, state_of}
-use Rattle.sw_core.specs.Plans as plans
-use Rattle.sw_core.specs.Plans.{FitsThen, caller_of}
-use Rattle.sw_core.specs.declared.plan.Then.{Then}
 use Rattle.sw_data.specs.declared.answers.Cause.{Cause}
 use Rattle.sw_data.specs.declared.answers.Fault.{Fault}
 use Rattle.sw_data.specs.declared.answers.Fault.TheVariants as fault
@@ -23,6 +19,10 @@ use Rattle.sw_rules.specs.Registering.{rejected}
 use Rattle.sw_rules.specs.Rows.{maker_worker}
 use Rattle.sw_rules.specs.State.{State, AddAll}
 use Rattle.sw_rules.specs.Told.{Outcome, followed, type_error}
+use Rattle.sw_work.specs.Hosted.{Hosted, state_of}
+use Rattle.sw_work.specs.Plans as plans
+use Rattle.sw_work.specs.Plans.{FitsThen, caller_of}
+use Rattle.sw_work.specs.declared.plan.Then.{Then}
 
 module _ (state : State) (lane at : ℕ) where
   -- an outcome adds no addAll, or one of this lane's action

@@ -3,7 +3,6 @@ use Rattle.std.proofs.Common.{◌≡◌, ◌∙◌, ℕ, Bool, true, false, not,
 use Rattle.std.specs.Prelude.{is_some}
 use Rattle.std.specs.Option.{option_map_or}
 use Rattle.sw_client.specs.Table as clients
-use Rattle.sw_core.specs.Hosted.{Hosted, rest_of, state_of}
 use Rattle.sw_data.specs.declared.events.Who.{Who}
 use Rattle.sw_data.specs.declared.events.Who.TheVariants as maker
 use Rattle.sw_data.specs.declared.answers.Answer.TheVariants as answer
@@ -22,10 +21,11 @@ use Rattle.sw_scope.specs.Scopes.{Scopes}
 use Rattle.sw_tables.proofs.Lookups.{worker_shown}
 use Rattle.sw_tables.specs.Parts as parts
 use Rattle.sw_tables.specs.Lent.{Rest, lent, shown_worker}
+use Rattle.sw_work.specs.Hosted.{Hosted, rest_of, state_of}
 use Rattle.sw_worker.specs.Table as workers
 use Rattle.sw_worker.specs.Table.{worker_at}
 
-some_mapped : {X Y : Type 0} (f : X → Y) (o : Option X) → is_some o ≡ is_some (option_map f o)
+pub some_mapped : {X Y : Type 0} (f : X → Y) (o : Option X) → is_some o ≡ is_some (option_map f o)
 some_mapped f None = refl
 some_mapped f (Some x) = refl
 

@@ -1,10 +1,6 @@
 -- A key is forgotten or busy as the definition says.
 use Rattle.std.proofs.Common.{◌≡◌, ◌∙◌, ℕ, Bool, true, false, List, refl, sym, ap, subst, if◌then◌else◌}
 use Rattle.std.specs.Prelude.{Result, Ok, Err}
-use Rattle.sw_core.specs.Plans.{IsAsked}
-use Rattle.sw_core.specs.declared.plan.Act.TheVariants as act
-use Rattle.sw_core.specs.declared.plan.Asked.{Asked}
-use Rattle.sw_core.specs.declared.plan.Then.TheVariants as then
 use Rattle.sw_data.specs.declared.answers.Answer.TheVariants as answer
 use Rattle.sw_data.specs.declared.answers.Fault.{Fault}
 use Rattle.sw_data.specs.declared.recordings.Place.{Place}
@@ -12,6 +8,10 @@ use Rattle.sw_pages.specs.declared.worked.PageAct.TheVariants as page
 use Rattle.sw_rules.specs.Caching.{forget, forget_key, is_busy, place_key, with_key}
 use Rattle.sw_rules.specs.State.{State}
 use Rattle.sw_rules.specs.Told.{Outcome, answered, refused}
+use Rattle.sw_work.specs.Plans.{IsAsked}
+use Rattle.sw_work.specs.declared.plan.Act.TheVariants as act
+use Rattle.sw_work.specs.declared.plan.Asked.{Asked}
+use Rattle.sw_work.specs.declared.plan.Then.TheVariants as then
 
 module _ (state : State) (place : Place) (key : List ℕ) (asked : Asked) where
   -- what forgetting comes to at a key

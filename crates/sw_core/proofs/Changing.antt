@@ -4,10 +4,6 @@ use Rattle.std.proofs.lemmas.List.{append-nil}
 use Rattle.std.specs.Option.{option_map_or}
 use Rattle.std.specs.Prelude.{find}
 use Rattle.sw_cachestorage.specs.Actions.{CacheAction, cache_action}
-use Rattle.sw_core.specs.Plans.{IsAsked, TellSame, told_by_act, told_then}
-use Rattle.sw_core.specs.declared.plan.Asked.{Asked}
-use Rattle.sw_core.specs.declared.plan.Then.{Then}
-use Rattle.sw_core.specs.declared.plan.Then.TheVariants as then
 use Rattle.sw_core.proofs.Doing.{if_some_map}
 use Rattle.sw_data.specs.declared.answers.Answer.{Answer}
 use Rattle.sw_data.specs.declared.events.Event.{Event}
@@ -32,6 +28,10 @@ use Rattle.sw_rules.specs.State.{State}
 use Rattle.sw_rules.specs.Step.{by_host, by_lane, step}
 use Rattle.sw_rules.specs.Told.{Told, Outcome, followed}
 use Rattle.sw_tables.specs.Linked.{registration_of}
+use Rattle.sw_work.specs.Plans.{IsAsked, TellSame, told_by_act, told_then}
+use Rattle.sw_work.specs.declared.plan.Asked.{Asked}
+use Rattle.sw_work.specs.declared.plan.Then.{Then}
+use Rattle.sw_work.specs.declared.plan.Then.TheVariants as then
 use Rattle.sw_worker.specs.Table.{worker_at}
 
 -- ---- what an event comes to

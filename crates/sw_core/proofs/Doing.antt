@@ -24,11 +24,11 @@ use Rattle.sw_tables.specs.Lent.{lent, shown_worker}
 use Rattle.sw_tables.specs.Linked.{IsNoted, registration_of}
 use Rattle.sw_worker.specs.Table as workers
 use Rattle.sw_worker.specs.Table.{event_at, worker_at}
-use Rattle.sw_core.specs.Hosted.{Hosted, IsJoined, rest_of, state_of}
-use Rattle.sw_core.specs.Plans as plans
-use Rattle.sw_core.specs.declared.plan.Then.{Then}
-use Rattle.sw_core.specs.declared.plan.Then.TheVariants as then
 use Rattle.sw_ledgers.specs.Promised as promises
+use Rattle.sw_work.specs.Hosted.{Hosted, IsJoined, rest_of, state_of}
+use Rattle.sw_work.specs.Plans as plans
+use Rattle.sw_work.specs.declared.plan.Then.{Then}
+use Rattle.sw_work.specs.declared.plan.Then.TheVariants as then
 
 -- ---- the five tables that an event is lent
 

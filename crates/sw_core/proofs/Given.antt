@@ -1,8 +1,5 @@
 -- What was worked out on the tables of a host was worked out on the host.
 use Rattle.std.proofs.Common.{◌≡◌, ◌∙◌, ℕ, Option, Some, None, IfSome, option_map, refl, sym, ap, subst}
-use Rattle.sw_core.specs.Hosted.{Hosted, SameRows}
-use Rattle.sw_core.specs.Plans.{IsAsked}
-use Rattle.sw_core.specs.declared.plan.Asked.{Asked}
 use Rattle.sw_core.specs.declared.core_tables.Core.TheInside.{Inside}
 use Rattle.sw_core.proofs.Same.{same_refl}
 use Rattle.sw_data.specs.declared.events.Event.{Event}
@@ -16,6 +13,9 @@ use Rattle.sw_rules.specs.Clients.{await, begin, ready}
 use Rattle.sw_rules.specs.State.{State}
 use Rattle.sw_rules.specs.Step.{by_lane, step}
 use Rattle.sw_rules.specs.Told.{Outcome}
+use Rattle.sw_work.specs.Hosted.{Hosted, SameRows}
+use Rattle.sw_work.specs.Plans.{IsAsked}
+use Rattle.sw_work.specs.declared.plan.Asked.{Asked}
 use Rattle.sw_worker.specs.Table as workers
 
 -- own: the host that these tables show

@@ -5,7 +5,7 @@ use Rattle.sw_data.specs.declared.answers.Notice.{Notice}
 use Rattle.sw_rules.specs.Noticing.{NoticeList}
 use Rattle.sw_rules.specs.State.{State}
 use Rattle.sw_rules.specs.Told.{Outcome}
-use Rattle.sw_core.specs.Plans.{Agree, Goes}
+use Rattle.sw_work.specs.Plans.{Agree, Goes}
 
 pub agree_goes : (one other : Outcome) (reply : Option Answer) (before after : NoticeList) (new : State) → Agree one other → Goes other reply before after new
     → Goes one reply before after new

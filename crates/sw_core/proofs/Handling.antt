@@ -5,7 +5,6 @@ use Rattle.std.specs.List.{list_any}
 use Rattle.std.specs.Option.{option_map_or}
 use Rattle.std.proofs.lemmas.Bool.Decides.{nat_tests}
 use Rattle.sw_core.specs.Free.{activates, free_of}
-use Rattle.sw_core.specs.Hosted.{Hosted, IsJoined, state_of}
 use Rattle.sw_data.specs.declared.rows.HandlerRow.{HandlerRow}
 use Rattle.sw_data.specs.declared.rows.WorkerRow.{WorkerRow}
 use Rattle.sw_rules.specs.Rows.{free_handler, is_install, is_unsettled_of}
@@ -14,6 +13,7 @@ use Rattle.sw_rules.specs.Tasks.{may_activate}
 use Rattle.sw_tables.proofs.Lookups.{worker_shown}
 use Rattle.sw_tables.proofs.Rows.{map_on}
 use Rattle.sw_tables.specs.Lent.{shown_handler, shown_worker}
+use Rattle.sw_work.specs.Hosted.{Hosted, IsJoined, state_of}
 use Rattle.sw_worker.specs.Table.{runs_activate, worker_at}
 
 any_counted : {X : Type 0} (test : X → Bool) (xs : List X) → (length (filter test xs) == 0) ≡ (if list_any test xs then false else true)

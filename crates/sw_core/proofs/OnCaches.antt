@@ -3,10 +3,6 @@ use Rattle.std.proofs.Common.{◌≡◌, true, Option, Some, None, IfSome, is_so
 use Rattle.sw_cachestorage.specs.Actions.{CacheAction, cache_action}
 use Rattle.sw_cachestorage.specs.Acts.{IsStep}
 use Rattle.sw_cachestorage.specs.declared.act.CacheStep.{CacheStep}
-use Rattle.sw_core.specs.Plans.{IsAsked}
-use Rattle.sw_core.specs.declared.plan.Act.TheVariants as act
-use Rattle.sw_core.specs.declared.plan.Asked.{Asked}
-use Rattle.sw_core.specs.declared.plan.Then.TheVariants as then
 use Rattle.sw_data.specs.declared.events.Event.{Event}
 use Rattle.sw_data.specs.declared.events.Event.TheVariants as event
 use Rattle.sw_data.specs.declared.events.Who.TheVariants.{Lane}
@@ -15,6 +11,10 @@ use Rattle.sw_rules.specs.Caching.{with_key}
 use Rattle.sw_rules.specs.State.{State}
 use Rattle.sw_rules.specs.Step.{step}
 use Rattle.sw_rules.specs.Told.{Outcome}
+use Rattle.sw_work.specs.Plans.{IsAsked}
+use Rattle.sw_work.specs.declared.plan.Act.TheVariants as act
+use Rattle.sw_work.specs.declared.plan.Asked.{Asked}
+use Rattle.sw_work.specs.declared.plan.Then.TheVariants as then
 
 -- own: an action on caches that was worked out
 abbrev pub asked_of : CacheStep → Asked

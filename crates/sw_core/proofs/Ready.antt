@@ -2,7 +2,6 @@
 use Rattle.std.proofs.Common.{◌≡◌, ◌∙◌, ℕ, Bool, List, map, filter, Option, Some, None, option_map, slice_get, refl, ap}
 use Rattle.std.specs.Prelude.{find, is_none}
 use Rattle.std.proofs.lemmas.Option.{slice_get-map}
-use Rattle.sw_core.specs.Hosted.{Hosted, rest_of, state_of}
 use Rattle.sw_data.specs.declared.histories.Task.{Task}
 use Rattle.sw_data.specs.declared.histories.Task.TheVariants as task
 use Rattle.sw_data.specs.declared.rows.JobRow.{JobRow}
@@ -17,6 +16,7 @@ use Rattle.sw_rules.specs.State.{AddAll, Registration, Worker}
 use Rattle.sw_rules.specs.Tasks.{activates, evaluations, installs, may_activate, may_install, runs, try_activates}
 use Rattle.sw_tables.proofs.Rows.{find_map}
 use Rattle.sw_tables.specs.Lent.{shown_registration, shown_worker}
+use Rattle.sw_work.specs.Hosted.{Hosted, rest_of, state_of}
 
 -- ---- the first of each kind
 

@@ -15,14 +15,14 @@ use Rattle.sw_tables.proofs.Rows.{any_map}
 
 -- ---- what passes among rows that pass
 
-any_filter : {X : Type 0} (p test : X → Bool) (xs : List X) → list_any p (filter test xs) ≡ list_any (λ x. p x && test x) xs
+pub any_filter : {X : Type 0} (p test : X → Bool) (xs : List X) → list_any p (filter test xs) ≡ list_any (λ x. p x && test x) xs
 any_filter p test [] = refl
 any_filter p test (x ∷ xs) = grind (arith, any_filter p test xs)
 
 abbrev number : JobRow → ℕ
 number row = row.job.number
 
-any_job : (p : Task → Bool) (f : ℕ → Task) (test : JobRow → Bool) (rows : List JobRow)
+pub any_job : (p : Task → Bool) (f : ℕ → Task) (test : JobRow → Bool) (rows : List JobRow)
     → list_any p (map f (map number (filter test rows))) ≡ list_any (λ (row : JobRow). p (f row.job.number) && test row) rows
 any_job p f test rows =
     any_map p f (map number (filter test rows))
@@ -34,7 +34,7 @@ none_passes : {X : Type 0} (p : X → Bool) → ((x : X) → p x ≡ false) → 
 none_passes p fails [] = refl
 none_passes p fails (x ∷ xs) = grind (arith, fails x, none_passes p fails xs)
 
-none_mapped : {X : Type 0} (p : Task → Bool) (f : X → Task) → ((x : X) → p (f x) ≡ false) → (xs : List X) → list_any p (map f xs) ≡ false
+pub none_mapped : {X : Type 0} (p : Task → Bool) (f : X → Task) → ((x : X) → p (f x) ≡ false) → (xs : List X) → list_any p (map f xs) ≡ false
 none_mapped p f fails xs = any_map p f xs ∙ none_passes (λ x. p (f x)) fails xs
 
 or_false : (b : Bool) → (b || false) ≡ b

@@ -14,8 +14,8 @@ use Rattle.sw_rules.specs.State.{State, Registration, FetchEvent, Promise, AddAl
 use Rattle.sw_scope.specs.Scopes.{Scopes, maps}
 use Rattle.sw_tables.specs.Lent.{Rest, shown_registration, shown_worker}
 use Rattle.sw_tables.specs.Linked.{HasSlots, IsNoted, Linked}
+use Rattle.sw_work.specs.Hosted.{Hosted, IsJoined, SameRows, rest_of, state_of}
 use Rattle.sw_worker.specs.Table as workers
-use Rattle.sw_core.specs.Hosted.{Hosted, IsJoined, SameRows, rest_of, state_of}
 
 -- the rows of a host, without the room for more
 record Bare : Type 0 where

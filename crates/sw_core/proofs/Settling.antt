@@ -19,10 +19,10 @@ use Rattle.sw_rules.specs.Rows.{is_task, is_unsettled_of, maker_worker}
 use Rattle.sw_rules.specs.State.{State, AddAll}
 use Rattle.sw_rules.specs.Told.{Outcome}
 use Rattle.sw_tables.specs.Happened.{CountsTasks, unsettled_of}
+use Rattle.sw_work.specs.Hosted.{Hosted, state_of}
+use Rattle.sw_work.specs.Plans.{Goes}
 use Rattle.sw_worker.specs.Table as workers
 use Rattle.sw_worker.specs.Table.{has_unsettled, has_worker, worker_at}
-use Rattle.sw_core.specs.Hosted.{Hosted, state_of}
-use Rattle.sw_core.specs.Plans.{Goes}
 
 -- one that is found and passes is counted
 counted : (found test : AddAll → Bool) (rows : List AddAll) (row : AddAll) → find found rows ≡ Some row → test row ≡ true → 0 < length (filter test rows)

@@ -9,9 +9,9 @@ use Rattle.sw_rules.specs.Rows.{is_unsettled_of, maker_worker}
 use Rattle.sw_rules.specs.State.{AddAll}
 use Rattle.sw_rules.specs.Told.{Told, quiet}
 use Rattle.sw_tables.specs.Happened.{CountsTasks, unsettled_of}
+use Rattle.sw_work.specs.Hosted.{Hosted, state_of}
+use Rattle.sw_work.specs.Plans.{told_by_start}
 use Rattle.sw_worker.specs.Table as workers
-use Rattle.sw_core.specs.Hosted.{Hosted, state_of}
-use Rattle.sw_core.specs.Plans.{told_by_start}
 
 module _ (host : Hosted) (new : NewAddAll) (of_tasks : tasks.Table) (of_draws : draws.Table)
     (told : told_by_start new (state_of host) ≡ quiet (record (state_of host) { tasks = of_tasks.rows; draws = of_draws.rows })) where

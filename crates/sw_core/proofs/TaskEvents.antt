@@ -6,7 +6,6 @@ use Rattle.std.specs.Option.{option_map_or}
 use Rattle.std.proofs.lemmas.Bool.Decides.{nat_tests}
 use Rattle.sw_core.proofs.ReadyAny.{ready_activate, ready_install}
 use Rattle.sw_lane.specs.Picked.{is_fetch}
-use Rattle.sw_core.specs.Hosted.{Hosted, state_of}
 use Rattle.sw_data.specs.declared.events.Event.{Event}
 use Rattle.sw_data.specs.declared.events.Event.TheVariants as event
 use Rattle.sw_data.specs.declared.events.Who.TheVariants as maker
@@ -26,6 +25,7 @@ use Rattle.sw_tables.proofs.Lookups.{worker_shown}
 use Rattle.sw_tables.proofs.Rows.{any_at}
 use Rattle.sw_tables.specs.Linked.{ArePlaces}
 use Rattle.sw_tables.specs.Lent.{shown_handler, shown_worker}
+use Rattle.sw_work.specs.Hosted.{Hosted, state_of}
 use Rattle.sw_worker.specs.Table.{worker_at}
 
 -- ---- calls
@@ -65,10 +65,10 @@ own_passes number passes n (x ∷ xs) is =
     by true same false one later rest is = rest is
     by false same q one later rest is = rest is
 
-other_way : (n m : ℕ) → (n == m) ≡ (m == n)
+pub other_way : (n m : ℕ) → (n == m) ≡ (m == n)
 other_way n m = grind (arith, nat_tests)
 
-same_any : {X : Type 0} (p q : X → Bool) → ((x : X) → p x ≡ q x) → (xs : List X) → list_any p xs ≡ list_any q xs
+pub same_any : {X : Type 0} (p q : X → Bool) → ((x : X) → p x ≡ q x) → (xs : List X) → list_any p xs ≡ list_any q xs
 same_any p q same [] = refl
 same_any p q same (x ∷ xs) = grind (arith, same x, same_any p q same xs)
 

@@ -1,9 +1,5 @@
-pub mod Called
 pub mod Fetching
 pub mod Flying
 pub mod Free
-pub mod Hosted
-pub mod Keeping
 pub mod Paged
-pub mod Plans
-pub mod Running
+pub mod Planned

@@ -1,7 +1,6 @@
 -- What an action of a page that was worked out needs of a host, and what it comes to there.
 use Rattle.std.specs.Prelude.{◌≡◌, Bool, true, is_some, Option, IfSome}
 use Rattle.sw_cachestorage.specs.Actions.{cache_action}
-use Rattle.sw_core.specs.Hosted.{Hosted, state_of}
 use Rattle.sw_data.specs.declared.events.Event.{Event}
 use Rattle.sw_data.specs.declared.events.Event.TheVariants as event
 use Rattle.sw_data.specs.declared.events.Who.{Who}
@@ -10,6 +9,7 @@ use Rattle.sw_pages.specs.Fits.{FitsPage}
 use Rattle.sw_pages.specs.declared.worked.Worked.{Worked}
 use Rattle.sw_rules.specs.State.{State}
 use Rattle.sw_rules.specs.Told.{Outcome}
+use Rattle.sw_work.specs.Hosted.{Hosted, state_of}
 
 -- own: what was worked out may be done on a host without memory
 abbrev pub FitsHost : Worked → Hosted → Type 0

@@ -6,8 +6,6 @@ ghost use Rattle.sw_cachestorage.specs.Added.{IsAdded};
 ghost use Rattle.sw_cachestorage.specs.Adding.{FitsNew};
 ghost use Rattle.sw_cachestorage.specs.Forgetting.{AreQuiet};
 ghost use Rattle.sw_client.specs.Table as clients_table;
-ghost use Rattle.sw_core.specs.Hosted.{state_of};
-ghost use Rattle.sw_core.specs.Plans.{FitsAdded, FitsAsked, FitsPageAct, FitsStart, FitsTheAct, FitsThen, Goes, act_room, has_calls_left, outcome_of, page_room, started_outcome, told_by_act, told_by_start, told_then, with_caches_acted, with_promise};
 ghost use Rattle.sw_pages.specs.Acts.{told_by};
 ghost use Rattle.sw_queue.specs.Tables.{FitsJob};
 ghost use Rattle.sw_rules.specs.Caching.{forget_key};
@@ -19,10 +17,11 @@ ghost use Rattle.sw_rules.specs.Preloading.{set_preload};
 ghost use Rattle.sw_rules.specs.Rows.{maker_worker};
 ghost use Rattle.sw_rules.specs.Told.{Outcome, Told};
 ghost use Rattle.sw_tables.specs.Linked.{IsNoted, registration_of};
+ghost use Rattle.sw_work.specs.Hosted.{state_of};
+ghost use Rattle.sw_work.specs.Plans.{FitsAdded, FitsAsked, FitsPageAct, FitsStart, FitsTheAct, FitsThen, Goes, act_room, has_calls_left, outcome_of, page_room, started_outcome, told_by_act, told_by_start, told_then, with_caches_acted, with_promise};
 ghost use Rattle.sw_worker.specs.Fits.{FitsEvent};
 
 use crate::core_tables::Core;
-use crate::plan::{Act, Asked, Then};
 use sw_activate::{claim, end_event, skip_waiting, unload};
 use sw_cachestorage::{
     AddedStep, CacheAct, NewAddAll, finish_on_caches, forget, settle_added, start_all,
@@ -34,6 +33,7 @@ use sw_pages::PageAct;
 use sw_queue::NewJob;
 use sw_rules::Notices;
 use sw_tables::{add, note_call, remove};
+use sw_work::{Act, Asked, Then};
 use sw_worker::NewEvent;
 
 impl Core {
@@ -41,7 +41,8 @@ impl Core {
     fn add_client(&mut self, new: NewClient)
         requires fits { clients_table.Fits new self.old.clients }
         requires noted { IsNoted self.old.workers new }
-        ensures state { state_of self.new ≡ (rules.add_client (state_of self.old) new.client).state }
+        ensures state { state_of self.new
+            ≡ (rules.add_client (state_of self.old) new.client).state }
         ensures promises { self.new.promises ≡ self.old.promises }
     {
         add(new, &mut self.clients);

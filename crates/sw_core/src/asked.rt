@@ -1,21 +1,21 @@
 //! Actions of pages that were worked out, with the room for their promises and navigation preloads.
 
 ghost use Rattle.std.specs.Prelude.{◌≡◌, None, IfOk};
-ghost use Rattle.sw_core.specs.Hosted.{Hosted, SameRows};
 ghost use Rattle.sw_core.specs.Paged.{FitsHost};
-ghost use Rattle.sw_core.specs.Plans.{FitsAsked, FitsTheAct, FitsThen, IsAsked, caller_of, told_by_act, told_then};
 ghost use Rattle.sw_data.specs.declared.events.Who.TheVariants as maker;
 ghost use Rattle.sw_pages.specs.Acts as pages;
 ghost use Rattle.sw_pages.specs.Fits.{FitsPage};
 ghost use Rattle.sw_rules.specs.State.{State};
 ghost use Rattle.sw_rules.specs.Told.{Told};
+ghost use Rattle.sw_work.specs.Hosted.{Hosted, SameRows};
+ghost use Rattle.sw_work.specs.Plans.{FitsAsked, FitsTheAct, FitsThen, IsAsked, caller_of, told_by_act, told_then};
 
 use crate::core_tables::Core;
-use crate::plan::{Act, Asked, Then};
 use std::alloc::Global;
 use sw_data::NoMemory;
 use sw_ledgers::Awaited;
 use sw_pages::{PageAct, Worked};
+use sw_work::{Act, Asked, Then};
 
 impl Core {
     // What follows a lane's action whose promise waits for this, if for anything.

@@ -2,12 +2,12 @@
 
 ghost use Rattle.std.specs.Prelude.{◌≡◌, ◌<◌, ◌^◌, ℕ, true, is_some, length};
 ghost use Rattle.std.specs.List.{list_all};
-ghost use Rattle.sw_core.specs.Hosted.{state_of};
 ghost use Rattle.sw_data.specs.declared.events.Who.TheVariants as maker;
 ghost use Rattle.sw_lane.specs.Picked.{in_flight, is_fetch};
 ghost use Rattle.sw_rules.specs.Clients as rules;
 ghost use Rattle.sw_rules.specs.Rows.{worker_row};
 ghost use Rattle.sw_tables.specs.Parts.{is_activating};
+ghost use Rattle.sw_work.specs.Hosted.{state_of};
 
 use crate::core_tables::Core;
 use crate::flights::many_in_flight;
@@ -24,7 +24,7 @@ fn is_activating(state: WorkerState) -> bool
 
 impl Core {
     // Whether the promise of an action of a lane has settled.
-    fn has_settled(&self, lane: u32, of: u32) -> bool
+    pub(crate) fn has_settled(&self, lane: u32, of: u32) -> bool
         ensures { (at : ℕ)
             → result ≡ is_some (rules.await (state_of self.now) (maker.Lane lane at) of) }
     {
@@ -32,7 +32,7 @@ impl Core {
     }
 
     // Whether the ready promise of a client has a registration, or the client isn't open.
-    fn is_ready(&self, client: u32) -> bool
+    pub(crate) fn is_ready(&self, client: u32) -> bool
         ensures { result ≡ is_some (rules.ready (state_of self.now) client) }
     {
         let worked = ready(
@@ -57,7 +57,7 @@ impl Core {
     }
 
     // Whether a fetch event of a client may begin, or is refused at once.
-    fn may_begin(&self, client: u32) -> bool
+    pub(crate) fn may_begin(&self, client: u32) -> bool
         ensures { (event : ℕ) → result ≡ is_some (rules.begin (state_of self.now) client event) }
     {
         let Some(row) = self.clients.row(client) else {
@@ -80,8 +80,8 @@ pub struct CoreBoard<'a> {
 }
 
 impl Board for CoreBoard<'_> {
-    ghost use Rattle.sw_core.specs.Hosted.{state_of};
     ghost use Rattle.sw_lane.specs.Picked as lane;
+    ghost use Rattle.sw_work.specs.Hosted.{state_of};
 
     ghost state = { λ board. state_of board.core.now };
 

@@ -1,8 +1,7 @@
 //! The durable changes of an event that was worked out, told before it is done.
 
 ghost use Rattle.std.specs.Prelude.{◌≡◌, ℕ, Option, find, true, false, IfOk, IfSome, Some};
-ghost use Rattle.sw_core.specs.Hosted.{state_of};
-ghost use Rattle.sw_core.specs.Plans.{Fits, FitsAsked, FitsWork, IsAsked, IsUnregister, Means};
+ghost use Rattle.sw_core.specs.Planned.{Fits};
 ghost use Rattle.sw_data.specs.declared.events.Who.{Who};
 ghost use Rattle.sw_data.specs.declared.events.Who.TheVariants as maker;
 ghost use Rattle.sw_data.specs.declared.recordings.FetchLine.{FetchLine};
@@ -25,9 +24,11 @@ ghost use Rattle.sw_rules.specs.Rows.{is_job};
 ghost use Rattle.sw_rules.specs.Step.{changes_of, enabled, step};
 ghost use Rattle.sw_rules.specs.Told.{Outcome};
 ghost use Rattle.sw_tables.specs.Linked.{registration_of};
+ghost use Rattle.sw_work.specs.Hosted.{state_of};
+ghost use Rattle.sw_work.specs.Plans.{FitsAsked, FitsWork, IsAsked, IsUnregister, Means};
 
 use crate::core_tables::Core;
-use crate::plan::{Act, Asked, Plan, Work};
+use crate::plan::Plan;
 use std::alloc::Global;
 use sw_cachestorage::is_on_caches;
 use sw_data::{Answer, Call, Change, ClientScope, Event, Fault, NoMemory, Text, Who};
@@ -38,6 +39,7 @@ use sw_durable::{
 };
 use sw_install::FetchOutcome;
 use sw_pages::{PageAct, Worked};
+use sw_work::{Act, Asked, Work};
 
 // Whether a call acts on caches, and has no fetches.
 fn acts_on_caches(call: &Call) -> bool
@@ -419,7 +421,7 @@ impl Core {
     }
 
     // The durable changes where the install handler of a job's worker ends.
-    #[tactic(auto, using(crate::proofs::Coherence::under_way))]
+    #[tactic(auto, using(sw_work::proofs::Coherence::under_way))]
     fn installed_changes(&self, alloc: Global, job: u32) -> Result<Vec<Change>, NoMemory>
         requires { Coherent (state_of self.now) }
         ensures { IfOk result (λ changes.
@@ -455,7 +457,7 @@ impl Core {
     }
 
     // The durable changes where the activate handler of a worker ends.
-    #[tactic(auto, using(crate::proofs::Coherence::runs_while_activating))]
+    #[tactic(auto, using(sw_work::proofs::Coherence::runs_while_activating))]
     fn activated_changes(&self, alloc: Global, worker: u32) -> Result<Vec<Change>, NoMemory>
         requires { Coherent (state_of self.now) }
         ensures { IfOk result (λ changes.

@@ -1,8 +1,8 @@
 //! The tables of a host.
 
 ghost use Rattle.std.specs.Prelude.{◌≡◌};
-ghost use Rattle.sw_core.specs.Hosted.{state_of};
 ghost use Rattle.sw_rules.specs.State.{initial};
+ghost use Rattle.sw_work.specs.Hosted.{state_of};
 
 use std::alloc::Global;
 use std::marker::Model;
@@ -30,7 +30,7 @@ pub struct Core {
 }
 
 impl Model for Core {
-    ghost use Rattle.sw_core.specs.Hosted.{Hosted, IsJoined};
+    ghost use Rattle.sw_work.specs.Hosted.{Hosted, IsJoined};
 
     ghost Value = { Hosted };
 

@@ -1,10 +1,10 @@
 //! How much a host keeps.
 
 ghost use Rattle.std.specs.Prelude.{◌≡◌, filter, length};
-ghost use Rattle.sw_core.specs.Hosted.{state_of};
 ghost use Rattle.sw_rules.specs.History.{mapped_registrations};
 ghost use Rattle.sw_rules.specs.Rows.{is_number};
 ghost use Rattle.sw_scope.specs.Scopes.{maps};
+ghost use Rattle.sw_work.specs.Hosted.{state_of};
 
 use crate::core_tables::Core;
 use sw_data::RegistrationRow;

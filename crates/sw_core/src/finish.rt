@@ -1,15 +1,17 @@
 //! Plans carried out: it takes no memory, and can't fail.
 
 ghost use Rattle.std.specs.Prelude.{◌≡◌, ◌≤◌};
-ghost use Rattle.sw_core.specs.Hosted.{state_of};
-ghost use Rattle.sw_core.specs.Plans.{Fits, FitsWork, Goes, Means, work_room};
+ghost use Rattle.sw_core.specs.Planned.{Fits};
 ghost use Rattle.sw_laws.specs.Coherent.{Coherent};
 ghost use Rattle.sw_rules.specs.Told.{Outcome};
+ghost use Rattle.sw_work.specs.Hosted.{state_of};
+ghost use Rattle.sw_work.specs.Plans.{FitsWork, Goes, Means, work_room};
 
 use crate::core_tables::Core;
-use crate::plan::{Plan, Reply, Work};
+use crate::plan::{Plan, Reply};
 use sw_data::Answer;
 use sw_rules::Notices;
+use sw_work::Work;
 
 impl Core {
     // What a work comes to; none exactly where it isn't enabled.

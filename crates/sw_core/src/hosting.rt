@@ -2,8 +2,6 @@
 
 ghost use Rattle.std.specs.Prelude.{◌≡◌, ◌≤◌, ◌+◌, Option, None, false, codes, length};
 ghost use Rattle.sw_client.specs.Table.{users_of};
-ghost use Rattle.sw_core.specs.Hosted.{state_of};
-ghost use Rattle.sw_core.specs.Plans.{FitsFetched, FitsPreload, FitsRegister, FitsUpdate, IsUnregister, job_room, users_with};
 ghost use Rattle.sw_data.specs.declared.recordings.FetchLine.{FetchLine};
 ghost use Rattle.sw_install.specs.Fetches.{ComesTo};
 ghost use Rattle.sw_laws.specs.Coherent.{Coherent};
@@ -12,18 +10,19 @@ ghost use Rattle.sw_rules.specs.Activating as activating;
 ghost use Rattle.sw_rules.specs.Installing as installing;
 ghost use Rattle.sw_rules.specs.Registering as registering;
 ghost use Rattle.sw_tables.specs.Happened.{Happened};
+ghost use Rattle.sw_work.specs.Hosted.{state_of};
+ghost use Rattle.sw_work.specs.Plans.{FitsFetched, FitsPreload, FitsRegister, FitsUpdate, IsUnregister, job_room, users_with};
 
-use crate::answers::{
-    activate_answer, draw_where, evaluated_answer, fetched_answer, finished_answer,
-    installed_answer, ok_answer, ran_answer,
-};
 use crate::core_tables::Core;
-use crate::plan::NewFetch;
 use sw_activate::{activated, run_unregister, try_activate};
 use sw_data::{Answer, Fault};
 use sw_install::{FetchOutcome, Rows, evaluated, fetched, installed, run_register, run_update};
 use sw_ledgers::NewPreload;
 use sw_rules::Notices;
+use sw_work::{
+    NewFetch, activate_answer, draw_where, evaluated_answer, fetched_answer, finished_answer,
+    installed_answer, ok_answer, ran_answer,
+};
 
 // An event adds no rows.
 fn no_rows() -> Rows
@@ -51,7 +50,7 @@ impl Core {
     }
 
     /// A register job runs.
-    #[tactic(auto, using(crate::proofs::Coherence::job_numbers))]
+    #[tactic(auto, using(sw_work::proofs::Coherence::job_numbers))]
     pub(crate) fn run_register(
         &mut self,
         job: u32,
@@ -85,7 +84,7 @@ impl Core {
     }
 
     /// An update job runs.
-    #[tactic(auto, using(crate::proofs::Coherence::job_numbers))]
+    #[tactic(auto, using(sw_work::proofs::Coherence::job_numbers))]
     pub(crate) fn run_update(
         &mut self,
         job: u32,
@@ -140,7 +139,7 @@ impl Core {
     }
 
     /// The fetch of a job's script has ended.
-    #[tactic(auto, using(crate::proofs::Coherence::under_way))]
+    #[tactic(auto, using(sw_work::proofs::Coherence::under_way))]
     pub(crate) fn fetched(
         &mut self,
         job: u32,
@@ -171,7 +170,7 @@ impl Core {
     }
 
     /// A job's script was evaluated.
-    #[tactic(auto, using(crate::proofs::Coherence::under_way))]
+    #[tactic(auto, using(sw_work::proofs::Coherence::under_way))]
     pub(crate) fn evaluated(&mut self, job: u32, notices: &mut Notices) -> Option<Answer>
         requires coherent { Coherent (state_of self.old) }
         requires room { job_room job self.old ≤ notices.old.spare }
@@ -193,7 +192,7 @@ impl Core {
     }
 
     /// The install handler of a job's worker ends.
-    #[tactic(auto, using(crate::proofs::Coherence::under_way))]
+    #[tactic(auto, using(sw_work::proofs::Coherence::under_way))]
     pub(crate) fn installed(&mut self, job: u32, notices: &mut Notices) -> Option<Answer>
         requires coherent { Coherent (state_of self.old) }
         requires room { job_room job self.old ≤ notices.old.spare }
@@ -237,7 +236,7 @@ impl Core {
     }
 
     /// The activate handler of a worker ends.
-    #[tactic(auto, using(crate::proofs::Coherence::runs_while_activating))]
+    #[tactic(auto, using(sw_work::proofs::Coherence::runs_while_activating))]
     pub(crate) fn activated(&mut self, worker: u32, notices: &mut Notices) -> Option<Answer>
         requires coherent { Coherent (state_of self.old) }
         requires room { 6 + users_with worker self.old ≤ notices.old.spare }

@@ -1,7 +1,6 @@
 //! What a host keeps, and the host that a restart makes of it.
 
 ghost use Rattle.std.specs.Prelude.{◌≡◌, [], IfOk};
-ghost use Rattle.sw_core.specs.Hosted.{state_of};
 ghost use Rattle.sw_restart.specs.Restored.{quiet_rest};
 ghost use Rattle.sw_rules.specs.Durable.{durable};
 ghost use Rattle.sw_rules.specs.Restart.{restart};
@@ -9,6 +8,7 @@ ghost use Rattle.sw_rules.specs.Storage.{IsMade};
 ghost use Rattle.sw_tables.specs.Happened.{CountsTasks};
 ghost use Rattle.sw_tables.specs.Lent.{lent};
 ghost use Rattle.sw_tables.specs.Linked.{Linked};
+ghost use Rattle.sw_work.specs.Hosted.{state_of};
 
 use crate::core_tables::Core;
 use std::alloc::Global;

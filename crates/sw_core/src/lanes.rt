@@ -4,25 +4,25 @@ ghost use Rattle.std.specs.Prelude.{◌≡◌, true, false, is_some, IfOk, IfSom
 ghost use Rattle.sw_cachestorage.specs.Actions.{cache_action};
 ghost use Rattle.sw_cachestorage.specs.Adding as adding;
 ghost use Rattle.sw_cachestorage.specs.Adding.{FitsStart};
-ghost use Rattle.sw_core.specs.Hosted.{Hosted, SameRows, state_of};
 ghost use Rattle.sw_core.specs.Paged.{FitsHost, is_of_storage};
-ghost use Rattle.sw_core.specs.Plans.{FitsAsked, FitsWork, IsAsked, Means, Works};
 ghost use Rattle.sw_data.specs.declared.events.Who.TheVariants as maker;
 ghost use Rattle.sw_data.specs.Events.{is_lane, who_of};
 ghost use Rattle.sw_laws.specs.Coherent.{Coherent};
 ghost use Rattle.sw_pages.specs.Acts as pages;
 ghost use Rattle.sw_rules.specs.Caching as rules;
 ghost use Rattle.sw_rules.specs.Step.{step};
+ghost use Rattle.sw_work.specs.Hosted.{Hosted, SameRows, state_of};
+ghost use Rattle.sw_work.specs.Plans.{FitsAsked, FitsWork, IsAsked, Means, Works};
 
 use crate::core_tables::Core;
 use crate::pages::idle;
-use crate::plan::{Act, Asked, Then, Work};
 use std::alloc::Global;
 use sw_cachestorage::{
     AddAllStep, add_all_at, is_busy, is_on_caches, place_key, prepare_on_caches,
 };
 use sw_data::{Answer, CacheAddAll, Event, NoMemory, Place, Who};
 use sw_pages::{PageAct, Worked};
+use sw_work::{Act, Asked, Then, Work};
 
 // An answer that leaves all as it is.
 fn answered(answer: Answer) -> Asked
@@ -65,9 +65,9 @@ impl Core {
             Event::SoftUpdate { of, .. } => self.soft_update(alloc, of),
             Event::Unregister { of, .. } => self.unregister(alloc, of),
             Event::Await { of, .. } => Ok(self.await_value(lane, *of)),
-            Event::Ready { client, .. } => Ok(self.ready(*client)),
+            Event::Ready { client, .. } => Ok(self.ready_value(*client)),
             Event::Registration { client, url, .. } => self.registration(alloc, *client, url),
-            Event::Registrations { client, .. } => self.registrations(alloc, *client),
+            Event::Registrations { client, .. } => self.registrations_of(alloc, *client),
             Event::SkipWaiting { of, slot, .. } => self.skip_waiting_in(alloc, of, *slot),
             Event::Claim { of, slot, .. } => self.claim_in(alloc, of, *slot),
             Event::Begin { client, event, .. } => self.begin(*client, *event),
@@ -106,7 +106,8 @@ impl Core {
         ensures same { SameRows self.old self.new }
         ensures fits { IfOk result (λ asked. FitsAsked asked self.new) }
         ensures agrees { IfOk result (λ asked. IfSome (cache_action event.now) (λ action.
-            IsAsked (rules.with_key (state_of self.old) action.place (action.act (state_of self.old)))
+            IsAsked
+            (rules.with_key (state_of self.old) action.place (action.act (state_of self.old)))
             asked (state_of self.old))) }
     {
         let step = prepare_on_caches(alloc, &mut self.caches, event)?;
@@ -183,7 +184,8 @@ impl Core {
     fn forget(&self, alloc: Global, place: &Place) -> Result<Asked, NoMemory>
         ensures fits { IfOk result (λ asked. FitsAsked asked self.now) }
         ensures agrees { IfOk result (λ asked.
-            IsAsked (rules.with_key (state_of self.now) place.now (rules.forget (state_of self.now)))
+            IsAsked
+            (rules.with_key (state_of self.now) place.now (rules.forget (state_of self.now)))
             asked (state_of self.now)) }
     {
         let key = match place_key(alloc, place)? {

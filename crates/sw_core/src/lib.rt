@@ -3,7 +3,6 @@
 #![tactic(auto)]
 
 mod acts;
-mod answers;
 mod apply;
 mod asked;
 mod behind;
@@ -12,18 +11,18 @@ mod calls;
 mod changes;
 mod core_tables;
 mod counts;
-mod fetches;
+mod enabled;
 mod finish;
 mod flights;
 mod hosting;
 mod hosts;
 mod kept;
 mod lanes;
+mod lent;
 mod pages;
 mod plan;
 mod planning;
 mod prepare;
-mod runs;
 mod task_events;
 mod task_fetches;
 mod tasks;

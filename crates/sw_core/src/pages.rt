@@ -1,7 +1,6 @@
 //! Actions of pages, worked out on the tables of a host.
 
 ghost use Rattle.std.specs.Prelude.{◌≡◌, ℕ, true, false, IfOk, IfSome, option_copied};
-ghost use Rattle.sw_core.specs.Hosted.{Hosted, SameRows, state_of};
 ghost use Rattle.sw_core.specs.Paged.{FitsHost, Gives, MayGive};
 ghost use Rattle.sw_data.specs.declared.events.Who.TheVariants as maker;
 ghost use Rattle.sw_laws.specs.Coherent.{Coherent};
@@ -9,6 +8,7 @@ ghost use Rattle.sw_pages.specs.Acts.{outcome_of};
 ghost use Rattle.sw_rules.specs.Clients as clients;
 ghost use Rattle.sw_rules.specs.Preloading as preloading;
 ghost use Rattle.sw_rules.specs.Registering as registering;
+ghost use Rattle.sw_work.specs.Hosted.{Hosted, SameRows, state_of};
 
 use crate::core_tables::Core;
 use std::alloc::Global;
@@ -144,7 +144,7 @@ impl Core {
     }
 
     // The registration that a client's address matches, once it has an active worker.
-    pub(crate) fn ready(&self, client: u32) -> Worked
+    pub(crate) fn ready_value(&self, client: u32) -> Worked
         ensures fits { FitsHost result self.now }
         ensures gives { MayGive (λ state who. clients.ready state client) result self.now }
     {
@@ -182,7 +182,7 @@ impl Core {
     }
 
     // The mapped registrations of a client's key.
-    pub(crate) fn registrations(&self, alloc: Global, client: u32) -> Result<Worked, NoMemory>
+    pub(crate) fn registrations_of(&self, alloc: Global, client: u32) -> Result<Worked, NoMemory>
         ensures fits { IfOk result (λ worked. FitsHost worked self.now) }
         ensures gives { IfOk result (λ worked. Gives (λ state who.
             clients.get_registrations state client) worked self.now) }

@@ -1,15 +1,17 @@
 //! Room for what a work tells.
 
 ghost use Rattle.std.specs.Prelude.{◌≡◌, ◌≤◌, [], IfOk};
-ghost use Rattle.sw_core.specs.Plans.{Fits, FitsWork, act_room, job_room, page_room, users_with, work_room};
+ghost use Rattle.sw_core.specs.Planned.{Fits};
+ghost use Rattle.sw_work.specs.Plans.{FitsWork, act_room, job_room, page_room, users_with, work_room};
 
 use crate::core_tables::Core;
-use crate::plan::{Act, Plan, Work};
+use crate::plan::Plan;
 use std::alloc::Global;
 use sw_cachestorage::mapped_many;
 use sw_data::NoMemory;
 use sw_pages::PageAct;
 use sw_rules::Notices;
+use sw_work::{Act, Work};
 
 // A work that isn't done, for want of memory. The arms of `planned` move their work: one that they would drop themselves at
 // an early end costs the check minutes.

@@ -4,7 +4,6 @@ ghost use Rattle.std.specs.Prelude.{◌≡◌, true, not, is_some, None, Some, I
 ghost use Rattle.std.specs.List.{list_any};
 ghost use Rattle.std.specs.Option.{option_copied};
 ghost use Rattle.sw_lane.specs.Picked.{is_fetch};
-ghost use Rattle.sw_core.specs.Hosted.{state_of};
 ghost use Rattle.sw_data.specs.declared.events.Event.TheVariants as event;
 ghost use Rattle.sw_data.specs.declared.events.Who.TheVariants as maker;
 ghost use Rattle.sw_data.specs.declared.recordings.Recording.{Recording};
@@ -13,6 +12,7 @@ ghost use Rattle.sw_rules.specs.Installing.{calls_of};
 ghost use Rattle.sw_rules.specs.Rows.{job_row};
 ghost use Rattle.sw_rules.specs.Tasks as rules;
 ghost use Rattle.sw_tables.specs.Lent.{shown_handler, shown_worker};
+ghost use Rattle.sw_work.specs.Hosted.{state_of};
 
 use crate::core_tables::Core;
 use std::alloc::Global;
@@ -30,7 +30,7 @@ fn calls_of(row: &WorkerRow, phase: Phase) -> &[Call]
 }
 
 // The next call of a worker's handler, none where it has made all.
-fn call_at(row: &WorkerRow, handler: HandlerRow) -> Option<&Call>
+pub(crate) fn call_at(row: &WorkerRow, handler: HandlerRow) -> Option<&Call>
     ensures { option_copied result
         ≡ slice_get (calls_of (shown_worker row.now) handler.phase) handler.made }
 {

@@ -2,8 +2,8 @@
 
 ghost use Rattle.std.specs.Prelude.{◌≡◌, IfOk};
 ghost use Rattle.sw_core.specs.Fetching.{fetches_of, fetches_of_add_all, fetches_of_job};
-ghost use Rattle.sw_core.specs.Hosted.{state_of};
 ghost use Rattle.sw_ledgers.specs.Tasks.{row_of};
+ghost use Rattle.sw_work.specs.Hosted.{state_of};
 
 use crate::core_tables::Core;
 use std::alloc::Global;

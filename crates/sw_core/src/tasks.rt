@@ -5,13 +5,13 @@ ghost use Rattle.std.specs.List.{list_all};
 ghost use Rattle.std.specs.Option.{option_map_or, option_or};
 ghost use Rattle.sw_core.specs.Flying.{add_all_left, fetch_left, left_of};
 ghost use Rattle.sw_core.specs.Free.{activates, free_of};
-ghost use Rattle.sw_core.specs.Hosted.{state_of};
 ghost use Rattle.sw_data.specs.declared.histories.Task.TheVariants as task;
 ghost use Rattle.sw_lane.specs.Picked.{in_flight, is_fetch, task_left};
 ghost use Rattle.sw_rules.specs.Rows.{free_handler, is_install};
 ghost use Rattle.sw_rules.specs.Tasks as rules;
 ghost use Rattle.sw_tables.specs.Lent.{shown_handler, shown_worker};
 ghost use Rattle.sw_tables.specs.Linked.{ArePlaces};
+ghost use Rattle.sw_work.specs.Hosted.{state_of};
 
 use crate::behind::{job_behind, task_behind, worker_behind};
 use crate::core_tables::Core;
@@ -113,7 +113,7 @@ impl Core {
     }
 
     // Whether a worker, where there is one, has an install handler that may go on.
-    fn goes_on(&self, worker: Option<u32>) -> bool
+    pub(crate) fn goes_on(&self, worker: Option<u32>) -> bool
         ensures { result ≡ option_map_or (λ handler. is_install handler.phase)
             (option_and_then (free_handler (state_of self.now)) worker) false }
     {
@@ -127,7 +127,7 @@ impl Core {
     }
 
     // Whether the activate handler of a worker may go on.
-    fn may_activate(&self, row: &WorkerRow) -> bool
+    pub(crate) fn may_activate(&self, row: &WorkerRow) -> bool
         ensures { result ≡ rules.may_activate (state_of self.now) (shown_worker row.now) }
     {
         match self.free_handler(row.number) {

@@ -11,8 +11,8 @@ use Rattle.sw_host.specs.Stands.{HasEnded, IsRead, RefusedAs, RefusesDisk, Repla
 use Rattle.sw_lock.specs.declared.pass.Spent.{Spent}
 use Rattle.sw_turns.specs.declared.ends.DriveEnd.{DriveEnd}
 use Rattle.sw_turns.specs.declared.ends.DriveEnd.TheVariants as drive_end
-use Rattle.sw_record.specs.declared.error.RecordingError.{RecordingError}
-use Rattle.sw_record.specs.declared.error.RecordingError.TheVariants as error
+use Rattle.sw_forms.specs.declared.error.RecordingError.{RecordingError}
+use Rattle.sw_forms.specs.declared.error.RecordingError.TheVariants as error
 use Rattle.sw_record.specs.Grammar.{recording_of}
 
 -- own: statuses that of all recordings only those that were run have

@@ -25,11 +25,11 @@ use Rattle.sw_turns.specs.Ends.{Ended}
 use Rattle.sw_turns.specs.declared.ends.DriveEnd.{DriveEnd}
 use Rattle.sw_print.specs.Showing.{shown}
 use Rattle.sw_print.specs.Transcript.{transcript}
-use Rattle.sw_record.specs.declared.error.RecordingError.{RecordingError}
-use Rattle.sw_record.specs.declared.error.RecordingError.TheVariants as error
+use Rattle.sw_forms.specs.declared.error.RecordingError.{RecordingError}
+use Rattle.sw_forms.specs.declared.error.RecordingError.TheVariants as error
+use Rattle.sw_forms.specs.declared.limits.TheConstants.{RECORDING_LIMIT}
+use Rattle.sw_forms.specs.Refusals as refusals
 use Rattle.sw_record.specs.Grammar.{recording_of}
-use Rattle.sw_record.specs.declared.limits.TheConstants.{RECORDING_LIMIT}
-use Rattle.sw_record.specs.Refusals as refusals
 use Rattle.sw_rules.specs.Storage.{nothing}
 use Rattle.sw_store.specs.declared.errors.OpenError.{OpenError}
 use Rattle.sw_store.specs.declared.errors.OpenError.TheVariants as open_error

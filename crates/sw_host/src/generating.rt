@@ -1,7 +1,6 @@
 //! A generated recording, run on a disk of its own.
 
 ghost use Rattle.std.specs.Prelude.{◌≡◌, ◌≤◌, ◌^◌, ℕ, Ok, length, IfOk, IfSome};
-ghost use Rattle.sw_core.specs.Hosted.{state_of};
 ghost use Rattle.sw_data.specs.declared.recordings.Recording as recordings;
 ghost use Rattle.sw_disk.specs.Plain.{plain, plain_image};
 ghost use Rattle.sw_gen.specs.Generated.{generated};
@@ -13,6 +12,7 @@ ghost use Rattle.sw_rules.specs.History.{mapped_registrations};
 ghost use Rattle.sw_rules.specs.Storage.{nothing};
 ghost use Rattle.sw_store.specs.Opened.{HasOpened, IsFresh};
 ghost use Rattle.sw_turns.specs.Turns.{IsAtRest};
+ghost use Rattle.sw_work.specs.Hosted.{state_of};
 
 use crate::ending::{play, printed};
 use crate::report::Report;

@@ -1,10 +1,10 @@
 //! What a run comes to before writing: its status, and the text that stands for it.
 
 ghost use Rattle.std.specs.Prelude.{◌≡◌, IfOk};
+ghost use Rattle.sw_forms.specs.Refusals.{cause_word, limit_word, refusal_text};
+ghost use Rattle.sw_forms.specs.declared.error.RecordingError.{RecordingError};
 ghost use Rattle.sw_host.specs.Stands.{RefusedAs};
 ghost use Rattle.sw_host.specs.Texts as texts;
-ghost use Rattle.sw_record.specs.Refusals.{cause_word, limit_word, refusal_text};
-ghost use Rattle.sw_record.specs.declared.error.RecordingError.{RecordingError};
 
 use crate::statuses::Status;
 use std::alloc::Global;

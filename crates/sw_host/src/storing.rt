@@ -36,7 +36,8 @@ pub(crate) fn format<D: Disk>(alloc: Global, disk: &mut D) -> Result<Report, NoM
 
 // What is kept, as text.
 fn shown(alloc: Global, content: Content) -> Result<Report, NoMemory>
-    ensures { IfOk result (λ report. report ≡ record { status = Status.Done; text = shown content }) }
+    ensures { IfOk result (λ report. report
+        ≡ record { status = Status.Done; text = shown content }) }
 {
     let kept = content.into_kept(alloc)?;
     Ok(Report {

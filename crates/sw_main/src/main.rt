@@ -7,6 +7,7 @@ ghost use Rattle.std.specs.Io.KnownBytes.{Appends, IsAtEnd, Keeps};
 ghost use Rattle.std.specs.Process.{exit_status};
 ghost use Rattle.sw_data.specs.Faults.{Rose};
 ghost use Rattle.sw_data.specs.Streams.{AppendsPrefix, ConsumesSome};
+ghost use Rattle.sw_forms.specs.declared.limits.TheConstants.{RECORDING_LIMIT};
 ghost use Rattle.sw_host.specs.declared.command.Command.TheVariants as command;
 ghost use Rattle.sw_host.specs.declared.statuses.Status.{Status};
 ghost use Rattle.sw_host.specs.Stands.{HasEnded, HasReadAll, LeavesWithoutMemory, Stands};
@@ -14,7 +15,6 @@ ghost use Rattle.sw_host.specs.Texts.{code_of};
 ghost use Rattle.sw_host.specs.Words.{command_of, is_replay};
 ghost use Rattle.sw_lock.specs.declared.pass.Spent.{Spent};
 ghost use Rattle.sw_turns.specs.declared.ends.DriveEnd.TheVariants as drive_end;
-ghost use Rattle.sw_record.specs.declared.limits.TheConstants.{RECORDING_LIMIT};
 
 use std::alloc::Global;
 use std::env;

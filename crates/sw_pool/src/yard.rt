@@ -40,10 +40,12 @@ impl<D: Disk> Model for Yard<D> {
     ghost Value = { YardState D };
 
     ghost view = { λ yard.
-        yard_of yard.passes yard.recording.value yard.base.value yard.start.value yard.disk yard.progress yard.end };
+        yard_of yard.passes yard.recording.value yard.base.value yard.start.value yard.disk
+        yard.progress yard.end };
 
     ghost invariant = { λ yard. IsYard D.Disk
-        (yard_of yard.passes yard.recording.value yard.base.value yard.start.value yard.disk yard.progress yard.end) };
+        (yard_of yard.passes yard.recording.value yard.base.value yard.start.value yard.disk
+        yard.progress yard.end) };
 }
 
 impl<D: Disk> Yard<D> {

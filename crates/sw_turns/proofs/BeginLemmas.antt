@@ -3,7 +3,6 @@ use Rattle.std.proofs.Common.{◌≡◌, ◌∙◌, ◌⊎◌, inl, inr, ℕ, ze
 use Rattle.std.specs.List.{enumerate_from, list_all}
 use Rattle.std.proofs.lemmas.List.{length-replicate}
 use Rattle.std.proofs.lemmas.List.Elements.{All-nil, All-push}
-use Rattle.sw_core.specs.Hosted.{state_of}
 use Rattle.sw_data.specs.declared.answers.Answer.TheVariants as answer
 use Rattle.sw_data.specs.declared.histories.Entry.{Entry}
 use Rattle.sw_data.specs.declared.histories.Task.{Task}
@@ -33,6 +32,7 @@ use Rattle.sw_rules.specs.Restart.{restart, restored_registration}
 use Rattle.sw_rules.specs.State.{Registration, State}
 use Rattle.sw_store.specs.Opened.{HasOpened, IsFresh, IsLeft, kept_restarted}
 use Rattle.sw_store.specs.Stores.{StoreState, all_stamped}
+use Rattle.sw_work.specs.Hosted.{state_of}
 
 -- ---- the history of a restart
 

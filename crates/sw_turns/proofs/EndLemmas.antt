@@ -1,7 +1,6 @@
 -- How a run ends that has come to its end, or can't go on.
 use Rattle.std.proofs.Common.{◌≡◌, ◌∙◌, ℕ, ◌<◌, true, List, [], ◌∷◌, ◌++◌, length, All, Option, Some, None, is_some, refl, sym, ap, subst, arith, append-nil}
 use Rattle.std.proofs.lemmas.List.Elements.{All-head}
-use Rattle.sw_core.specs.Hosted.{state_of}
 use Rattle.sw_data.specs.declared.events.Event.{Event}
 use Rattle.sw_data.specs.declared.histories.Entry.{Entry}
 use Rattle.sw_data.specs.declared.histories.Task.{Task}
@@ -36,6 +35,7 @@ use Rattle.sw_rules.specs.Tasks.{ready_tasks}
 use Rattle.sw_rules.specs.Told.{Outcome}
 use Rattle.sw_store.specs.Groups.{IsEntry, IsTooLong}
 use Rattle.sw_store.specs.Stores.{StoreState, all_stamped}
+use Rattle.sw_work.specs.Hosted.{state_of}
 
 -- a history of the recording by so many workers, in the pick order where there is one
 pub record IsPlayed (workers : ℕ) (recording : Recording) (base : Kept) (history : List Entry) : Type 0 where

@@ -3,7 +3,6 @@ use Rattle.std.proofs.Common.{◌≡◌, ◌∙◌, ℕ, ◌+◌, ◌<◌, List,
 use Rattle.std.specs.Option.{option_map_or}
 use Rattle.std.proofs.lemmas.List.{append-nil, map_push}
 use Rattle.std.proofs.lemmas.List.Elements.{All-append, All-nil, All-push}
-use Rattle.sw_core.specs.Hosted.{Hosted, state_of}
 use Rattle.sw_data.specs.declared.events.Event.{Event}
 use Rattle.sw_data.specs.declared.histories.Entry.{Entry}
 use Rattle.sw_data.specs.declared.histories.Task.{Task}
@@ -31,6 +30,7 @@ use Rattle.sw_rules.specs.Told.{Outcome}
 use Rattle.sw_store.specs.Groups.{IsEntry, IsGroup, IsStaged, IsTooLong}
 use Rattle.sw_store.specs.Stores.{IsSame, IsSameTwin, StoreState, all_stamped, stamped}
 use Rattle.sw_twin.specs.Twin.{TwinState}
+use Rattle.sw_work.specs.Hosted.{Hosted, state_of}
 
 -- ---- an event has joined
 

@@ -1,7 +1,6 @@
 -- A group is written, or is refused; and what is kept is written anew.
 use Rattle.std.proofs.Common.{◌≡◌, ◌≢◌, ◌∙◌, ◌⊎◌, ⊎_elim, inl, inr, ℕ, ◌+◌, ◌≤◌, List, [], ◌∷◌, ◌++◌, Option, Some, Vec, Global, refl, sym, ap, subst, arith, append-nil}
 use Rattle.sw_codec.specs.Spelling.{spelled_all}
-use Rattle.sw_core.specs.Hosted.{Hosted, state_of}
 use Rattle.sw_data.specs.declared.events.Event.{Event}
 use Rattle.sw_data.specs.declared.histories.Entry.{Entry}
 use Rattle.sw_data.specs.declared.histories.Task.{Task}
@@ -43,6 +42,7 @@ use Rattle.sw_store.proofs.Appends.{same_kept}
 use Rattle.sw_store.specs.Groups.{IsTooLong}
 use Rattle.sw_store.specs.Stores.{IsQuiet, IsTended, StoreState, all_stamped}
 use Rattle.sw_twin.specs.Twin.{TwinState}
+use Rattle.sw_work.specs.Hosted.{Hosted, state_of}
 
 -- ---- what stopped a group
 

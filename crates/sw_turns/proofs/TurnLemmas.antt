@@ -7,7 +7,6 @@ use Rattle.std.proofs.lemmas.List.{length-map, nil_from_length, with_items_is}
 use Rattle.std.proofs.lemmas.List.Elements.{All-append, All-cons, All-head, All-nil, All-tail}
 use Rattle.sw_codec.specs.Spelling.{spelled_all}
 use Rattle.sw_core.specs.Fetching.{fetches_of}
-use Rattle.sw_core.specs.Hosted.{state_of}
 use Rattle.sw_data.specs.declared.events.Event.{Event}
 use Rattle.sw_data.specs.declared.histories.Entry.{Entry}
 use Rattle.sw_data.specs.declared.histories.Task.{Task}
@@ -46,6 +45,7 @@ use Rattle.sw_turns.specs.declared.ends.Turn.{Turn}
 use Rattle.sw_turns.specs.declared.ends.Turn.TheVariants as turn
 use Rattle.sw_turns.specs.declared.progress.Progress.{Progress}
 use Rattle.sw_twin.specs.Twin.{StandsIn, TwinState}
+use Rattle.sw_work.specs.Hosted.{state_of}
 
 -- ---- what is under way
 

@@ -1,7 +1,6 @@
 -- Events that wait for their changes to be written, behind a history.
 use Rattle.std.specs.Prelude.{◌≡◌, ◌≢◌, ◌⊎◌, ◌≤◌, ◌+◌, ℕ, Bool, List, [], ◌++◌, length, Option, Some, None, Result, Ok, Err, slice_get, slice_set, if◌then◌else◌}
 use Rattle.sw_core.specs.Fetching.{fetches_of}
-use Rattle.sw_core.specs.Hosted.{state_of}
 use Rattle.sw_data.specs.declared.events.Event.{Event}
 use Rattle.sw_data.specs.declared.histories.Entry.{Entry}
 use Rattle.sw_data.specs.declared.histories.Task.{Task}
@@ -25,6 +24,7 @@ use Rattle.sw_rules.specs.State.{State}
 use Rattle.sw_rules.specs.Step.{changes_of}
 use Rattle.sw_store.specs.Groups.{IsGroup, IsTooLong}
 use Rattle.sw_store.specs.Stores.{StoreState, all_stamped}
+use Rattle.sw_work.specs.Hosted.{state_of}
 
 -- own: the history goes on by the entries that wait, whatever clock they will be stamped with; they are no more than sixteen,
 -- and what waits to be written are their changes

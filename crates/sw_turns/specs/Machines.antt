@@ -5,7 +5,7 @@ use Rattle.sw_data.specs.declared.histories.Task.{Task}
 use Rattle.sw_data.specs.declared.recordings.FetchLine.{FetchLine}
 use Rattle.sw_data.specs.declared.recordings.Recording.{Recording}
 use Rattle.sw_data.specs.Addresses.{without_fragment}
-use Rattle.sw_rules.specs.Recordings.{answered_line, drawn_from}
+use Rattle.sw_data.specs.Network.{answered_line, drawn_from}
 use Rattle.sw_rules.specs.State.{State}
 use Rattle.sw_rules.specs.Tasks.{event_of}
 

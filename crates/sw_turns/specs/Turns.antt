@@ -4,7 +4,6 @@ use Rattle.std.specs.declared.alloc.Global.{Global}
 use Rattle.std.specs.Prelude.{Vec}
 use Rattle.sw_codec.specs.Spelling.{spelled_all}
 use Rattle.sw_core.specs.Fetching.{fetches_of}
-use Rattle.sw_core.specs.Hosted.{state_of}
 use Rattle.sw_data.specs.declared.histories.Entry.{Entry}
 use Rattle.sw_data.specs.declared.histories.Task.{Task}
 use Rattle.sw_data.specs.declared.recordings.Recording.{Recording}
@@ -31,6 +30,7 @@ use Rattle.sw_turns.specs.declared.ends.Turn.{Turn}
 use Rattle.sw_turns.specs.declared.ends.Turn.TheVariants as turn
 use Rattle.sw_turns.specs.declared.progress.Progress.{Progress}
 use Rattle.sw_twin.specs.Twin.{TwinState}
+use Rattle.sw_work.specs.Hosted.{state_of}
 
 -- own: a recording is under way: nothing waits, the disk keeps what the history makes of the base, and so it stays after a crash
 pub record IsGoing {D : Type 0} (disk : Ghosts D) (start now : D) (recording : Recording) (base : Kept) (p : Progress) : Type 0 where

@@ -3,10 +3,10 @@
 ghost use Rattle.std.specs.Prelude.{◌≡◌, true, map, slice_get, IfOk};
 ghost use Rattle.std.specs.List.{list_any};
 ghost use Rattle.std.specs.Option.{option_and_then};
-ghost use Rattle.sw_core.specs.Hosted.{state_of};
 ghost use Rattle.sw_turns.specs.Machines.{IsEventOf, line_for};
 ghost use Rattle.sw_lane.specs.Picked.{is_task};
 ghost use Rattle.sw_rules.specs.Tasks.{ready_tasks};
+ghost use Rattle.sw_work.specs.Hosted.{state_of};
 
 use std::alloc::Global;
 use sw_copy::copy_line;

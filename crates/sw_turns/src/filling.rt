@@ -1,7 +1,6 @@
 //! Groups of events.
 
 ghost use Rattle.std.specs.Prelude.{◌≡◌, ◌≢◌, ◌↔◌, ◌<◌, ◌≤◌, ◌+◌, ◌++◌, ◌∷◌, [], ℕ, List, Option, Some, None, length, true, false, slice_get, IfErr, IsErrOf, OnErr, OnOk};
-ghost use Rattle.sw_core.specs.Hosted.{state_of};
 ghost use Rattle.sw_data.specs.declared.events.Event as events;
 ghost use Rattle.sw_data.specs.declared.histories.Entry as entries;
 ghost use Rattle.sw_data.specs.declared.histories.Task as tasks;
@@ -20,6 +19,7 @@ ghost use Rattle.sw_store.specs.Stores.{IsSameTwin};
 ghost use Rattle.sw_turns.specs.Flights.{AreInFlight, Flies, IsDue, Spares};
 ghost use Rattle.sw_turns.specs.Groups.{Begins, HasEntered, HasSome, IsBarren, IsByPick, IsHeld, IsTaken, IsUnderWay, LacksRoom, Leaves, Stops};
 ghost use Rattle.sw_turns.specs.declared.ends.Stop.TheVariants as stopped;
+ghost use Rattle.sw_work.specs.Hosted.{state_of};
 
 use crate::ends::Stop;
 use crate::next::{action_event, landing, ready_event};
@@ -263,7 +263,8 @@ fn fill(
 
     // It stops at once where nothing is ready but what is in flight, and only there without an event.
     ensures idle { result ≡ stopped.Idle → length store.new.staged ≡ length store.old.staged
-        → picks.picked (state_of store.old.core) (picks.in_flight flights.old) lanes.old ≡ pick.Idle }
+        → picks.picked (state_of store.old.core) (picks.in_flight flights.old) lanes.old
+        ≡ pick.Idle }
     ensures at_once { length store.old.staged < 16
         → picks.picked (state_of store.old.core) (picks.in_flight flights.old) lanes.old ≡ pick.Idle
         → (result ≡ stopped.Idle) × (length store.new.staged ≡ length store.old.staged) }

@@ -1,7 +1,6 @@
 //! The event that comes next.
 
 ghost use Rattle.std.specs.Prelude.{◌≡◌, ◌≢◌, ◌↔◌, ◌<◌, [], false, length, Some, None, IfOk, IfSome, OnErr, OnOk, slice_get, slice_set};
-ghost use Rattle.sw_core.specs.Hosted.{state_of};
 ghost use Rattle.sw_data.specs.declared.histories.Task as tasks;
 ghost use Rattle.sw_lane.specs.Picked as picks;
 ghost use Rattle.sw_lane.specs.declared.picks.Pick.TheVariants as pick;
@@ -10,6 +9,7 @@ ghost use Rattle.sw_laws.specs.Coherent.{Coherent};
 ghost use Rattle.sw_turns.specs.Flights.{AreInFlight, Flies, IsDue, Spares};
 ghost use Rattle.sw_turns.specs.Machines.{IsEventOf};
 ghost use Rattle.sw_turns.specs.Playing.{ComesNext};
+ghost use Rattle.sw_work.specs.Hosted.{state_of};
 
 use crate::acting::event_of_action;
 use crate::fetching::task_event;

@@ -2,7 +2,6 @@
 
 ghost use Rattle.std.specs.Prelude.{◌≡◌, ◌<◌, ◌+◌, ◌++◌, ◌≤◌, ◌∷◌, [], length, IfErr, IfOk};
 ghost use Rattle.std.specs.Vec.{vec_capacity, vec_len};
-ghost use Rattle.sw_core.specs.Hosted.{state_of};
 ghost use Rattle.sw_data.specs.declared.histories.Entry as entries;
 ghost use Rattle.sw_data.specs.declared.recordings.Recording.{Recording};
 ghost use Rattle.sw_data.specs.declared.storage.Kept.{Kept};
@@ -16,6 +15,7 @@ ghost use Rattle.sw_turns.specs.Surviving.{IsAtWork, kept_of};
 ghost use Rattle.sw_turns.specs.Turns.{HasTurned, IsGoing, IsSameBeside, IsTurn, standing_of};
 ghost use Rattle.sw_turns.specs.declared.ends.Stop.TheVariants as stopped;
 ghost use Rattle.sw_turns.specs.declared.ends.Turn.TheVariants as turned;
+ghost use Rattle.sw_work.specs.Hosted.{state_of};
 
 use crate::ends::{DriveEnd, Stop, Turn};
 use crate::filling::{begin, enter};

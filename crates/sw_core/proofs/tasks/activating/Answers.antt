@@ -2,11 +2,11 @@ use Rattle.std.proofs.Common.{◌∙◌, option_map, sym, ap}
 use Rattle.std.specs.Option.{option_copied}
 use Rattle.sw_core.proofs.Searching.{fewer_left, is_last, none_left, passes_both, passes_one}
 use Rattle.sw_worker.specs.Table.{runs_activate}
-use Rattle.sw_core.specs.Hosted.{state_of}
 use Rattle.sw_data.specs.declared.histories.Task.TheVariants as task
 use Rattle.sw_data.specs.declared.rows.WorkerRow.{WorkerRow}
 use Rattle.sw_rules.specs.Tasks.{may_activate}
 use Rattle.sw_tables.specs.Lent.{shown_worker}
+use Rattle.sw_work.specs.Hosted.{state_of}
 use Rattle.sw_core.proofs.tasks.activating.Goals as goal
 
 pub returns-then-may_activate : goal.returns-then-may_activate

@@ -1,11 +1,11 @@
 use Rattle.std.proofs.Common.{◌∙◌, false, option_map, option_and_then, sym, ap}
 use Rattle.std.specs.Option.{option_copied, option_map_or}
 use Rattle.sw_core.proofs.Searching.{fewer_left, is_last, none_left, passes_both, passes_one}
-use Rattle.sw_core.specs.Hosted.{state_of}
 use Rattle.sw_data.specs.declared.histories.Task.TheVariants as task
 use Rattle.sw_data.specs.declared.rows.JobRow.{JobRow}
 use Rattle.sw_rules.specs.Rows.{free_handler, in_phase, is_install, is_installing}
 use Rattle.sw_rules.specs.State.{Handler}
+use Rattle.sw_work.specs.Hosted.{state_of}
 use Rattle.sw_core.proofs.tasks.installing.Goals as goal
 
 pub returns-then-goes_on : goal.returns-then-goes_on

@@ -1,8 +1,8 @@
 -- The lines are those of the fetches of the addAll.
 use Rattle.std.proofs.Common.{◌∙◌, ap, map}
-use Rattle.sw_core.specs.Hosted.{state_of}
 use Rattle.sw_turns.specs.Machines.{line_for}
 use Rattle.sw_turns.proofs.FetchLemmas.{added_is}
+use Rattle.sw_work.specs.Hosted.{state_of}
 use Rattle.sw_turns.proofs.fetching.added.Goals as goal
 
 pub returns : goal.returns

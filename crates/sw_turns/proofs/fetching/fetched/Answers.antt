@@ -1,9 +1,9 @@
 -- The line is that of the job's one fetch.
 use Rattle.std.proofs.Common.{◌∙◌, List, ℕ, ap, slice_get}
 use Rattle.std.specs.Prelude.{option_and_then}
-use Rattle.sw_core.specs.Hosted.{state_of}
 use Rattle.sw_turns.specs.Machines.{line_for}
 use Rattle.sw_turns.proofs.FetchLemmas.{fetched_is}
+use Rattle.sw_work.specs.Hosted.{state_of}
 use Rattle.sw_turns.proofs.fetching.fetched.Goals as goal
 
 pub returns : goal.returns

@@ -1,10 +1,10 @@
 -- The event is that of the task, whatever recording has these lines.
 use Rattle.std.proofs.Common.{◌≡◌, Option, Some, subst}
 use Rattle.std.specs.Option.{IfSome}
-use Rattle.sw_core.specs.Hosted.{state_of}
 use Rattle.sw_data.specs.declared.events.Event.{Event}
 use Rattle.sw_data.specs.declared.recordings.Recording.{Recording}
 use Rattle.sw_rules.specs.Tasks.{event_of}
+use Rattle.sw_work.specs.Hosted.{state_of}
 use Rattle.sw_turns.proofs.fetching.task_event.Goals as goal
 
 pub returns-in-Some : goal.returns-in-Some

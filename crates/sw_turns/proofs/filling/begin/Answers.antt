@@ -2,7 +2,6 @@
 use Rattle.std.proofs.Common.{◌≡◌, ◌∙◌, inr, ℕ, zero, suc, List, [], ◌∷◌, length, Option, Some, None, slice_get, slice_set, refl, sym, ap, subst, arith}
 use Rattle.std.proofs.lemmas.List.{length-set}
 use Rattle.std.specs.Option.{IfSome}
-use Rattle.sw_core.specs.Hosted.{Hosted, state_of}
 use Rattle.sw_data.specs.declared.events.Event.{Event}
 use Rattle.sw_data.specs.declared.histories.Entry.{Entry}
 use Rattle.sw_data.specs.declared.histories.Task.{Task}
@@ -17,6 +16,7 @@ use Rattle.sw_turns.specs.declared.ends.Stop.{Stop}
 use Rattle.sw_turns.specs.declared.ends.Stop.TheVariants as stop
 use Rattle.sw_turns.proofs.FlightLemmas.{free_due, set_else, set_there}
 use Rattle.sw_turns.proofs.GroupLemmas.{first_waits, further_own, taken_up}
+use Rattle.sw_work.specs.Hosted.{Hosted, state_of}
 use Rattle.sw_turns.proofs.filling.begin.Goals as goal
 
 -- what stays where a pass lays down what it has taken up

@@ -1,12 +1,12 @@
 -- What waits grows by what is picked, until none may join.
 use Rattle.std.proofs.Common.{◌≡◌, ◌∙◌, ℕ, List, length, Option, sym, ap, subst, arith, slice_get}
-use Rattle.sw_core.specs.Hosted.{state_of}
 use Rattle.sw_data.specs.declared.histories.Task.{Task}
 use Rattle.sw_lane.specs.Picked.{in_flight}
 use Rattle.sw_lane.specs.declared.picks.Pick.TheVariants as pick
 use Rattle.sw_turns.specs.Groups.{IsByPick, IsTaken, IsUnderWay, Stops}
 use Rattle.sw_turns.proofs.FlightLemmas.{free_due}
 use Rattle.sw_turns.proofs.GroupLemmas.{further_own, picked_by, same_twins}
+use Rattle.sw_work.specs.Hosted.{state_of}
 use Rattle.sw_turns.proofs.filling.fill.Goals as goal
 
 pub take_up-requires-clause-free : goal.take_up-requires-clause-free

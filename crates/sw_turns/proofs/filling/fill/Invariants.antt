@@ -1,5 +1,4 @@
 use Rattle.std.proofs.Common.{◌≡◌, ◌≤◌, ◌-◌, List, None, length}
-use Rattle.sw_core.specs.Hosted.{state_of}
 use Rattle.sw_data.specs.declared.histories.Entry.{Entry}
 use Rattle.sw_data.specs.declared.recordings.Recording.{Recording}
 use Rattle.sw_data.specs.declared.storage.Kept.{Kept}
@@ -10,6 +9,7 @@ use Rattle.sw_lock.specs.Entries.{ThenOwn}
 use Rattle.sw_turns.specs.Flights.{AreInFlight}
 use Rattle.sw_turns.specs.Groups.{IsUnderWay}
 use Rattle.sw_store.specs.Stores.{IsSameTwin}
+use Rattle.sw_work.specs.Hosted.{state_of}
 use Rattle.sw_turns.proofs.filling.fill.Given as goal
 
 abbrev pub invariant-events : goal.invariant-events

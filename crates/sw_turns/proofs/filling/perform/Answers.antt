@@ -1,7 +1,6 @@
 -- The event of the task that was picked joins the group.
 use Rattle.std.proofs.Common.{◌≡◌, length, None, sym, subst}
 use Rattle.std.proofs.lemmas.Option.{slice_get_within}
-use Rattle.sw_core.specs.Hosted.{Hosted, state_of}
 use Rattle.sw_lane.specs.Picked.{in_flight, picked}
 use Rattle.sw_lane.specs.declared.picks.Pick.TheVariants as pick
 use Rattle.sw_lane.specs.declared.picks.Work.TheVariants as work
@@ -9,6 +8,7 @@ use Rattle.sw_laws.specs.Coherent.{Coherent}
 use Rattle.sw_turns.specs.Playing.{ComesNext}
 use Rattle.sw_turns.proofs.FlightLemmas.{none_flies}
 use Rattle.sw_turns.proofs.GroupLemmas.{taken_up}
+use Rattle.sw_work.specs.Hosted.{Hosted, state_of}
 use Rattle.sw_turns.proofs.filling.perform.Goals as goal
 
 pub ready_event-requires-clause-coherent : goal.ready_event-requires-clause-coherent

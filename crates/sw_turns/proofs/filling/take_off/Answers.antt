@@ -2,8 +2,8 @@
 use Rattle.std.proofs.Common.{◌∙◌, Some, None, ap}
 use Rattle.std.proofs.lemmas.Option.{slice_get_within}
 use Rattle.sw_core.specs.Fetching.{fetches_of}
-use Rattle.sw_core.specs.Hosted.{Hosted, state_of}
 use Rattle.sw_turns.proofs.FlightLemmas.{free_due, set_there, taken_due, taken_fly}
+use Rattle.sw_work.specs.Hosted.{Hosted, state_of}
 use Rattle.sw_turns.proofs.filling.take_off.Goals as goal
 
 pub returns-in-Ok-clause-flights : goal.returns-in-Ok-clause-flights

@@ -1,7 +1,6 @@
 -- What was picked joins the group, or is taken up.
 use Rattle.std.proofs.Common.{◌≡◌, ◌∙◌, length, None, sym, ap, subst}
 use Rattle.std.proofs.lemmas.Option.{slice_get_within}
-use Rattle.sw_core.specs.Hosted.{Hosted, state_of}
 use Rattle.sw_lane.specs.Picked.{in_flight, picked}
 use Rattle.sw_lane.specs.declared.picks.Pick.TheVariants as pick
 use Rattle.sw_lane.specs.declared.picks.Work.{Work}
@@ -9,6 +8,7 @@ use Rattle.sw_lane.specs.declared.picks.Work.TheVariants as work
 use Rattle.sw_turns.specs.Playing.{ComesNext}
 use Rattle.sw_turns.proofs.FlightLemmas.{free_due, none_flies}
 use Rattle.sw_turns.proofs.GroupLemmas.{taken_up}
+use Rattle.sw_work.specs.Hosted.{Hosted, state_of}
 use Rattle.sw_turns.proofs.filling.take_up.Goals as goal
 
 pub action_event-event-requires-clause-alone : goal.action_event-event-requires-clause-alone

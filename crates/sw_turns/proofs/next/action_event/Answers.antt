@@ -1,10 +1,10 @@
 -- The lane that was picked has an action left, and its event comes next.
 use Rattle.std.proofs.Common.{length}
-use Rattle.sw_core.specs.Hosted.{state_of}
 use Rattle.sw_data.specs.declared.events.Who.TheVariants as who
 use Rattle.sw_lane.specs.Picked.{in_flight}
 use Rattle.sw_turns.proofs.FlightLemmas.{action_spares}
 use Rattle.sw_turns.proofs.NextLemmas.{acted, picked_left}
+use Rattle.sw_work.specs.Hosted.{state_of}
 use Rattle.sw_turns.proofs.next.action_event.Goals as goal
 
 pub take-action-requires : goal.take-action-requires

@@ -1,12 +1,12 @@
 -- The event of what the pass has taken up comes next, and ends nothing that others have taken up.
 use Rattle.std.proofs.Common.{rules, length, refl, subst}
 use Rattle.std.proofs.lemmas.Option.{gets}
-use Rattle.sw_core.specs.Hosted.{state_of}
 use Rattle.sw_data.specs.declared.histories.Task.{Task}
 use Rattle.sw_turns.specs.Flights.{Flies}
 use Rattle.sw_turns.specs.Machines.{IsEventOf}
 use Rattle.sw_turns.proofs.FlightLemmas.{due_alone, flies_alike, flies_not_free, landed_stay, landing_spares}
 use Rattle.sw_turns.proofs.NextLemmas.{performed}
+use Rattle.sw_work.specs.Hosted.{state_of}
 use Rattle.sw_turns.proofs.next.landing.Goals as goal
 
 pub returns-in_ok-event-in-Some-clause-next : goal.returns-in_ok-event-in-Some-clause-next

@@ -1,10 +1,10 @@
 use Rattle.std.proofs.Common.{◌≡◌, sym, subst}
 use Rattle.std.specs.Prelude.{is_some}
-use Rattle.sw_core.specs.Hosted.{state_of}
 use Rattle.sw_data.specs.declared.events.Who.TheVariants as maker
 use Rattle.sw_data.specs.declared.recordings.Action.{Action}
 use Rattle.sw_data.specs.Events.{event_of_action}
 use Rattle.sw_rules.specs.Step.{step}
+use Rattle.sw_work.specs.Hosted.{state_of}
 use Rattle.sw_core.proofs.board.CoreBoardBoard.lane_ready.Goals as goal
 
 pub returns-in-Await : goal.returns-in-Await

@@ -1,7 +1,7 @@
 use Rattle.std.proofs.Common.{◌≡◌, subst}
-use Rattle.sw_core.specs.Hosted.{Hosted, rest_of, state_of}
 use Rattle.sw_core.specs.contracts.core_tables.Core.{the_view}
 use Rattle.sw_rules.specs.Clients.{add_client}
+use Rattle.sw_work.specs.Hosted.{Hosted, rest_of, state_of}
 use Rattle.sw_core.proofs.core_tables.Core.add_client.Goals as goal
 
 pub returns-clause-state : goal.returns-clause-state

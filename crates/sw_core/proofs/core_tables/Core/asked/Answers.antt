@@ -1,10 +1,10 @@
 use Rattle.std.proofs.Common.{◌∙◌, ap}
 use Rattle.sw_core.proofs.Asking.{is_asked}
-use Rattle.sw_core.specs.Plans.{told_then}
-use Rattle.sw_core.specs.declared.plan.Asked.{Asked}
 use Rattle.sw_data.specs.declared.events.Who.TheVariants as maker
 use Rattle.sw_pages.specs.Acts as pages
 use Rattle.sw_rules.specs.Told.{Told}
+use Rattle.sw_work.specs.Plans.{told_then}
+use Rattle.sw_work.specs.declared.plan.Asked.{Asked}
 use Rattle.sw_core.proofs.core_tables.Core.asked.Goals as goal
 
 pub returns-clause-agrees : goal.returns-clause-agrees

@@ -1,13 +1,13 @@
 use Rattle.std.proofs.Common.{◌≡◌, List, [], ◌∷◌, subst, sym}
 use Rattle.std.specs.Prelude.{IfOk}
-use Rattle.sw_core.specs.Hosted.{state_of}
-use Rattle.sw_core.specs.Plans.{TellSame, told_by_act}
-use Rattle.sw_core.specs.declared.plan.Act.{Act}
 use Rattle.sw_core.proofs.Changing.{asked_tells}
 use Rattle.sw_data.specs.declared.storage.Change.{Change}
 use Rattle.sw_data.specs.declared.storage.Change.TheVariants as change
 use Rattle.sw_pages.specs.Acts.{told_by}
 use Rattle.sw_rules.specs.Caching.{forget_key}
+use Rattle.sw_work.specs.Hosted.{state_of}
+use Rattle.sw_work.specs.Plans.{TellSame, told_by_act}
+use Rattle.sw_work.specs.declared.plan.Act.{Act}
 use Rattle.sw_core.proofs.core_tables.Core.asked_changes.Goals as goal
 
 pub returns-in-Page : goal.returns-in-Page

@@ -1,9 +1,9 @@
 use Rattle.std.proofs.Common.{◌≡◌, ℕ, IfSome, refl, subst}
-use Rattle.sw_core.specs.Hosted.{Hosted, rest_of, state_of}
 use Rattle.sw_core.proofs.Given.{host_of, none_given, some_given}
 use Rattle.sw_data.specs.declared.events.Who.TheVariants as maker
 use Rattle.sw_pages.specs.Acts.{outcome_of}
 use Rattle.sw_rules.specs.Clients as clients
+use Rattle.sw_work.specs.Hosted.{Hosted, rest_of, state_of}
 use Rattle.sw_core.proofs.core_tables.Core.await_value.Goals as goal
 
 pub returns-in-Some-clause-gives : goal.returns-in-Some-clause-gives

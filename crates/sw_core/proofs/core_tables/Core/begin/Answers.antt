@@ -1,12 +1,12 @@
 use Rattle.std.proofs.Common.{sym, subst}
 use Rattle.std.specs.Prelude.{IfOk}
-use Rattle.sw_core.specs.Hosted.{Hosted, rest_of, state_of}
 use Rattle.sw_core.specs.Paged.{MayGive}
 use Rattle.sw_core.proofs.Given.{found_given, host_of, nothing_given, workers_same}
 use Rattle.sw_core.proofs.Same.{same_joined}
 use Rattle.sw_rules.specs.Clients as clients
 use Rattle.sw_core.proofs.core_tables.Core.begin.Goals as goal
 use Rattle.sw_core.proofs.core_tables.Core.begin.Goals.{in-Ok-Some, in-Ok-None, in-Err}
+use Rattle.sw_work.specs.Hosted.{Hosted, rest_of, state_of}
 
 pub invariant_of-self : goal.invariant_of-self
 invariant_of-self c =

@@ -1,6 +1,6 @@
 use Rattle.sw_core.proofs.Asking.{begun_starts}
 use Rattle.sw_core.proofs.Begun.{starts}
-use Rattle.sw_core.specs.Hosted.{state_of}
+use Rattle.sw_work.specs.Hosted.{state_of}
 use Rattle.sw_core.proofs.core_tables.Core.begun.Goals as goal
 
 pub returns-in-Some-clause-fits : goal.returns-in-Some-clause-fits

@@ -1,8 +1,8 @@
 use Rattle.std.proofs.Common.{◌≡◌, true, sym, subst}
 use Rattle.sw_core.proofs.Doing.{left_in}
-use Rattle.sw_core.specs.Hosted.{Hosted, state_of}
-use Rattle.sw_core.specs.Plans.{has_calls_left}
 use Rattle.sw_core.specs.contracts.core_tables.Core.{the_view}
+use Rattle.sw_work.specs.Hosted.{Hosted, state_of}
+use Rattle.sw_work.specs.Plans.{has_calls_left}
 use Rattle.sw_core.proofs.core_tables.Core.call_made.Goals as goal
 
 pub note_call-requires-clause-calls : goal.note_call-requires-clause-calls

@@ -1,10 +1,10 @@
 use Rattle.std.proofs.Common.{Option, subst}
 use Rattle.sw_core.proofs.Going.{agree_goes}
-use Rattle.sw_core.specs.Hosted.{state_of}
-use Rattle.sw_core.specs.Plans.{Means, started_outcome}
-use Rattle.sw_core.specs.declared.plan.Work.{Work}
 use Rattle.sw_rules.specs.Told.{Outcome}
 use Rattle.sw_tables.specs.Happened.{Happened}
+use Rattle.sw_work.specs.Hosted.{state_of}
+use Rattle.sw_work.specs.Plans.{Means, started_outcome}
+use Rattle.sw_work.specs.declared.plan.Work.{Work}
 use Rattle.sw_core.proofs.core_tables.Core.carry_out.Goals as goal
 
 pub returns-in-Start : goal.returns-in-Start

@@ -1,9 +1,9 @@
 use Rattle.std.proofs.Common.{◌≡◌}
 use Rattle.std.specs.Prelude.{IfOk}
-use Rattle.sw_core.specs.Hosted.{state_of}
-use Rattle.sw_core.specs.Plans.{Means}
 use Rattle.sw_core.proofs.Changing.{told}
 use Rattle.sw_rules.specs.Step.{step}
+use Rattle.sw_work.specs.Hosted.{state_of}
+use Rattle.sw_work.specs.Plans.{Means}
 use Rattle.sw_core.proofs.core_tables.Core.changes.Goals as goal
 
 pub returns : goal.returns

@@ -1,10 +1,10 @@
 use Rattle.std.proofs.Common.{subst, sym}
 use Rattle.std.specs.Option.{IfSome}
 use Rattle.std.specs.Prelude.{IfOk}
-use Rattle.sw_core.specs.Hosted.{state_of}
 use Rattle.sw_data.specs.declared.events.Who.{Who}
 use Rattle.sw_durable.specs.Telling.{TellsBy}
 use Rattle.sw_rules.specs.Calls.{make_call}
+use Rattle.sw_work.specs.Hosted.{state_of}
 use Rattle.sw_core.proofs.core_tables.Core.changes_by.Goals as goal
 
 pub returns-in-Handler : goal.returns-in-Handler

@@ -1,9 +1,9 @@
 use Rattle.std.proofs.Common.{◌≡◌, ◌∙◌, List, Option, Some, ap, sym}
 use Rattle.std.proofs.lemmas.Result.{IfOk-weaker}
-use Rattle.sw_core.specs.Hosted.{Hosted, state_of}
 use Rattle.sw_core.proofs.Changing.{added_comes, tells_by}
 use Rattle.sw_data.specs.declared.recordings.FetchLine.{FetchLine}
 use Rattle.sw_rules.specs.Caching.{added}
+use Rattle.sw_work.specs.Hosted.{Hosted, state_of}
 use Rattle.sw_core.proofs.core_tables.Core.changes_of_added.Goals as goal
 
 pub returns-in-Added : goal.returns-in-Added

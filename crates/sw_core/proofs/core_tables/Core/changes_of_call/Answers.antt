@@ -2,8 +2,6 @@ use Rattle.std.proofs.Common.{◌≡◌, ◌∙◌, true, refl, subst, sym}
 use Rattle.std.proofs.lemmas.Result.{IfOk-weaker}
 use Rattle.std.specs.Option.{IfSome}
 use Rattle.std.specs.Prelude.{IfOk}
-use Rattle.sw_core.specs.Hosted.{Hosted, state_of}
-use Rattle.sw_core.proofs.Calling.{next_holds}
 use Rattle.sw_core.proofs.Changing.{noted_tells}
 use Rattle.sw_core.proofs.Given.{host_of}
 use Rattle.sw_data.specs.declared.events.Who.TheVariants as who
@@ -11,6 +9,8 @@ use Rattle.sw_durable.specs.OfCaches.{is_on_caches}
 use Rattle.sw_durable.specs.Telling.{TellsBy}
 use Rattle.sw_rules.specs.Calls.{called, make_call}
 use Rattle.sw_tables.specs.Lent.{shown_worker}
+use Rattle.sw_work.specs.Hosted.{Hosted, state_of}
+use Rattle.sw_work.proofs.Calling.{next_holds}
 use Rattle.sw_core.proofs.core_tables.Core.changes_of_call.Goals as goal
 
 pub returns : goal.returns

@@ -1,8 +1,8 @@
 use Rattle.std.proofs.Common.{◌≡◌, subst}
 use Rattle.std.specs.Prelude.{IfOk}
-use Rattle.sw_core.specs.Hosted.{state_of}
 use Rattle.sw_core.proofs.Changing.{switched, switched_off, value_set}
 use Rattle.sw_rules.specs.Told.{Outcome}
+use Rattle.sw_work.specs.Hosted.{state_of}
 use Rattle.sw_core.proofs.core_tables.Core.changes_of_preload.Goals as goal
 
 pub returns-in-PreloadEnable : goal.returns-in-PreloadEnable

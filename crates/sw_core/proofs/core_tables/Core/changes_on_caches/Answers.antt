@@ -1,9 +1,9 @@
 use Rattle.std.proofs.Common.{◌∙◌, sym}
 use Rattle.std.proofs.lemmas.Result.{IfOk-weaker}
-use Rattle.sw_core.specs.Hosted.{state_of}
 use Rattle.sw_core.proofs.Changing.{action_comes, action_tells, call_comes, tells_by}
 use Rattle.sw_cachestorage.specs.Actions.{cache_action}
 use Rattle.sw_rules.specs.Calls.{make_call}
+use Rattle.sw_work.specs.Hosted.{state_of}
 use Rattle.sw_core.proofs.core_tables.Core.changes_on_caches.Goals as goal
 
 pub returns-then-is_on_caches : goal.returns-then-is_on_caches

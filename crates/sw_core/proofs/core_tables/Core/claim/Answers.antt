@@ -10,8 +10,8 @@ use Rattle.sw_rules.specs.Told.{Outcome, refused}
 use Rattle.sw_tables.specs.Lent.{lent}
 use Rattle.sw_worker.specs.Table.{worker_at}
 use Rattle.sw_core.proofs.Doing.{if_some_map, of_claimant, with_same_jobs, with_tables}
-use Rattle.sw_core.specs.Hosted.{Hosted, rest_of, state_of}
 use Rattle.sw_core.specs.contracts.core_tables.Core.{the_view}
+use Rattle.sw_work.specs.Hosted.{Hosted, rest_of, state_of}
 use Rattle.sw_core.proofs.core_tables.Core.claim.Goals as goal
 
 -- a claim by a worker of a registration, where it is active

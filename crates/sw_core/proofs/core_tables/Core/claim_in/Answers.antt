@@ -1,10 +1,10 @@
 use Rattle.std.proofs.Common.{subst}
 use Rattle.std.specs.Prelude.{IfOk}
 use Rattle.std.proofs.lemmas.Result.{IfOk-weaker}
-use Rattle.sw_core.specs.Hosted.{Hosted, rest_of}
 use Rattle.sw_core.specs.Paged.{Gives}
 use Rattle.sw_core.proofs.Given.{host_of}
 use Rattle.sw_rules.specs.Clients as clients
+use Rattle.sw_work.specs.Hosted.{Hosted, rest_of}
 use Rattle.sw_core.proofs.core_tables.Core.claim_in.Goals as goal
 
 pub returns-clause-gives : goal.returns-clause-gives

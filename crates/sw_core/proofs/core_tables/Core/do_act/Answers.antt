@@ -1,10 +1,10 @@
 use Rattle.std.proofs.Common.{refl, sym, subst}
-use Rattle.sw_core.specs.Hosted.{state_of}
-use Rattle.sw_core.specs.Plans.{told_by_act}
-use Rattle.sw_core.specs.declared.plan.Act.{Act}
 use Rattle.sw_rules.specs.Noticing.{Did}
 use Rattle.sw_rules.specs.Preloading.{set_preload}
 use Rattle.sw_tables.proofs.Chain.{did_quietly}
+use Rattle.sw_work.specs.Hosted.{state_of}
+use Rattle.sw_work.specs.Plans.{told_by_act}
+use Rattle.sw_work.specs.declared.plan.Act.{Act}
 use Rattle.sw_core.proofs.core_tables.Core.do_act.Goals as goal
 
 pub returns-in-Preload-clause-did : goal.returns-in-Preload-clause-did

@@ -1,9 +1,9 @@
 use Rattle.std.proofs.Common.{refl, sym, subst}
 use Rattle.sw_cachestorage.specs.Added.{IsAdded}
 use Rattle.sw_core.proofs.Settling.{added_goes, unsettled_counted}
-use Rattle.sw_core.specs.Hosted.{Hosted, rest_of, state_of}
-use Rattle.sw_core.specs.Plans.{FitsAdded}
 use Rattle.sw_core.specs.contracts.core_tables.Core.{the_view}
+use Rattle.sw_work.specs.Hosted.{Hosted, rest_of, state_of}
+use Rattle.sw_work.specs.Plans.{FitsAdded}
 use Rattle.sw_core.proofs.core_tables.Core.do_added.Goals as goal
 
 pub finish_on_caches-requires : goal.finish_on_caches-requires

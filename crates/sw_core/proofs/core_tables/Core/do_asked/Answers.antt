@@ -1,7 +1,7 @@
 use Rattle.std.proofs.Common.{refl}
 use Rattle.sw_core.proofs.Doing.{then_later}
-use Rattle.sw_core.specs.Hosted.{state_of}
-use Rattle.sw_core.specs.Plans.{told_by_act}
+use Rattle.sw_work.specs.Hosted.{state_of}
+use Rattle.sw_work.specs.Plans.{told_by_act}
 use Rattle.sw_core.proofs.core_tables.Core.do_asked.Goals as goal
 
 pub follow-requires : goal.follow-requires

@@ -2,8 +2,8 @@ use Rattle.std.proofs.Common.{sym, subst}
 use Rattle.sw_cachestorage.specs.Forgetting.{AreQuiet}
 use Rattle.sw_rules.specs.Caching.{forget_key}
 use Rattle.sw_rules.specs.Noticing.{Did}
-use Rattle.sw_core.specs.Hosted.{Hosted, rest_of, state_of}
 use Rattle.sw_core.specs.contracts.core_tables.Core.{the_view}
+use Rattle.sw_work.specs.Hosted.{Hosted, rest_of, state_of}
 use Rattle.sw_core.proofs.core_tables.Core.do_forget.Goals as goal
 
 pub forget-requires-clause-quiet : goal.forget-requires-clause-quiet

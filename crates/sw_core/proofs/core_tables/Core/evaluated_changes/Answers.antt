@@ -1,9 +1,9 @@
 use Rattle.std.proofs.Common.{subst}
 use Rattle.std.specs.Prelude.{IfOk}
 use Rattle.sw_core.proofs.Given.{host_of}
-use Rattle.sw_core.specs.Hosted.{Hosted, rest_of, state_of}
 use Rattle.sw_durable.specs.Telling.{Tells}
 use Rattle.sw_rules.specs.Installing.{evaluated}
+use Rattle.sw_work.specs.Hosted.{Hosted, rest_of, state_of}
 use Rattle.sw_core.proofs.core_tables.Core.evaluated_changes.Goals as goal
 
 pub returns : goal.returns

@@ -1,8 +1,8 @@
 use Rattle.std.proofs.Common.{subst}
-use Rattle.sw_core.specs.Hosted.{Hosted}
 use Rattle.sw_core.proofs.TaskEvents.{happens, happens_some}
 use Rattle.sw_data.specs.declared.rows.JobRow.{JobRow}
 use Rattle.sw_tables.specs.Linked.{ArePlaces}
+use Rattle.sw_work.specs.Hosted.{Hosted}
 use Rattle.sw_core.proofs.core_tables.Core.event_of.Goals as goal
 
 pub returns-clause-none : goal.returns-clause-none

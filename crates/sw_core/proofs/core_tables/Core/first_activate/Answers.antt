@@ -2,9 +2,9 @@ use Rattle.std.proofs.Common.{◌∙◌, List, find, option_map, sym, ap, subst}
 use Rattle.sw_core.proofs.Handling.{activating_found}
 use Rattle.sw_core.proofs.Ready.{first_activate}
 use Rattle.sw_core.specs.Free.{activates}
-use Rattle.sw_core.specs.Hosted.{Hosted, IsJoined, state_of}
 use Rattle.sw_data.specs.declared.histories.Task.TheVariants as task
 use Rattle.sw_data.specs.declared.rows.WorkerRow.{WorkerRow}
+use Rattle.sw_work.specs.Hosted.{Hosted, IsJoined, state_of}
 use Rattle.sw_core.proofs.core_tables.Core.first_activate.Goals as goal
 
 pub returns : goal.returns

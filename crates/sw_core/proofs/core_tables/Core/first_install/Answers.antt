@@ -1,9 +1,9 @@
 use Rattle.std.proofs.Common.{◌∙◌, List, find, option_map, sym, ap}
 use Rattle.sw_core.proofs.Ready.{first_install}
-use Rattle.sw_core.specs.Hosted.{Hosted, state_of}
 use Rattle.sw_data.specs.declared.histories.Task.TheVariants as task
 use Rattle.sw_data.specs.declared.rows.JobRow.{JobRow}
 use Rattle.sw_rules.specs.Tasks.{may_install}
+use Rattle.sw_work.specs.Hosted.{Hosted, state_of}
 use Rattle.sw_core.proofs.core_tables.Core.first_install.Goals as goal
 
 pub returns : goal.returns

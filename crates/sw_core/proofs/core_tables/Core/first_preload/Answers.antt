@@ -1,7 +1,7 @@
 use Rattle.std.proofs.Common.{◌≡◌, ◌∙◌, length, sym, subst, ap}
 use Rattle.sw_core.proofs.FirstPreload.{at_others, same_but}
-use Rattle.sw_core.specs.Hosted.{Hosted, state_of}
 use Rattle.sw_core.specs.contracts.core_tables.Core.{the_view}
+use Rattle.sw_work.specs.Hosted.{Hosted, state_of}
 use Rattle.sw_core.proofs.core_tables.Core.first_preload.Goals as goal
 
 pub returns-clause-state : goal.returns-clause-state

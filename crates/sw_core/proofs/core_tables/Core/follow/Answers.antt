@@ -1,9 +1,9 @@
 use Rattle.std.proofs.Common.{sym, subst}
 use Rattle.sw_core.proofs.Doing.{call_follows, promise_follows}
-use Rattle.sw_core.specs.Hosted.{state_of}
-use Rattle.sw_core.specs.Plans.{told_then}
-use Rattle.sw_core.specs.declared.plan.Then.{Then}
 use Rattle.sw_rules.specs.Noticing.{Did}
+use Rattle.sw_work.specs.Hosted.{state_of}
+use Rattle.sw_work.specs.Plans.{told_then}
+use Rattle.sw_work.specs.declared.plan.Then.{Then}
 use Rattle.sw_core.proofs.core_tables.Core.follow.Goals as goal
 
 pub returns-in-Promise : goal.returns-in-Promise

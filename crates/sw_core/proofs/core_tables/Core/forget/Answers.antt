@@ -1,13 +1,13 @@
 use Rattle.std.proofs.Common.{◌∙◌, refl, sym, subst}
-use Rattle.sw_core.specs.Hosted.{Hosted, rest_of, state_of}
-use Rattle.sw_core.specs.Plans.{IsAsked}
-use Rattle.sw_core.specs.declared.plan.Act.TheVariants as act
-use Rattle.sw_core.specs.declared.plan.Asked.{Asked}
-use Rattle.sw_core.specs.declared.plan.Then.TheVariants as then
 use Rattle.sw_core.proofs.Busy.{busy_agrees, quiet_agrees}
 use Rattle.sw_core.proofs.Given.{host_of}
 use Rattle.sw_data.specs.declared.answers.Answer.TheVariants as answer
 use Rattle.sw_rules.specs.Caching.{forget, with_key}
+use Rattle.sw_work.specs.Hosted.{Hosted, rest_of, state_of}
+use Rattle.sw_work.specs.Plans.{IsAsked}
+use Rattle.sw_work.specs.declared.plan.Act.TheVariants as act
+use Rattle.sw_work.specs.declared.plan.Asked.{Asked}
+use Rattle.sw_work.specs.declared.plan.Then.TheVariants as then
 use Rattle.sw_core.proofs.core_tables.Core.forget.Goals as goal
 
 pub returns-then-is_busy-clause-agrees : goal.returns-then-is_busy-clause-agrees

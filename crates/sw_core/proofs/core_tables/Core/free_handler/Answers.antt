@@ -1,8 +1,8 @@
 use Rattle.std.proofs.Common.{arith, subst}
 use Rattle.std.proofs.lemmas.Grind.{common_steps}
 use Rattle.std.specs.Option.{option_copied}
-use Rattle.sw_core.specs.Hosted.{IsJoined}
 use Rattle.sw_core.proofs.Handling.{free_found}
+use Rattle.sw_work.specs.Hosted.{IsJoined}
 use Rattle.sw_core.proofs.core_tables.Core.free_handler.Goals as goal
 
 pub returns-in_err-row : goal.returns-in_err-row

@@ -1,11 +1,11 @@
 use Rattle.std.proofs.Common.{subst, sym}
 use Rattle.std.specs.Prelude.{IfOk}
-use Rattle.sw_core.proofs.Coherence.{under_way}
 use Rattle.sw_core.proofs.Given.{host_of}
-use Rattle.sw_core.specs.Hosted.{Hosted, rest_of, state_of}
 use Rattle.sw_durable.specs.Telling.{Tells}
 use Rattle.sw_laws.specs.Coherent.{Coherent}
 use Rattle.sw_rules.specs.Installing.{installed}
+use Rattle.sw_work.proofs.Coherence.{under_way}
+use Rattle.sw_work.specs.Hosted.{Hosted, rest_of, state_of}
 use Rattle.sw_core.proofs.core_tables.Core.installed_changes.Goals as goal
 
 pub installed_changes-requires-clause-goes : goal.installed_changes-requires-clause-goes

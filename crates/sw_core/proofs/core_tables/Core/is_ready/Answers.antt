@@ -1,9 +1,9 @@
 use Rattle.std.proofs.Common.{◌≡◌, ◌∙◌, subst}
 use Rattle.std.specs.Prelude.{is_some}
-use Rattle.sw_core.specs.Hosted.{Hosted, state_of}
 use Rattle.sw_core.proofs.Boards.{known}
 use Rattle.sw_core.proofs.Given.{host_of}
 use Rattle.sw_rules.specs.Clients as rules
+use Rattle.sw_work.specs.Hosted.{Hosted, state_of}
 use Rattle.sw_core.proofs.core_tables.Core.is_ready.Goals as goal
 
 pub returns : goal.returns

@@ -1,8 +1,8 @@
 use Rattle.std.proofs.Common.{◌≡◌, ◌∙◌, Some, arith, subst}
-use Rattle.sw_core.specs.Hosted.{Hosted, state_of}
 use Rattle.sw_core.proofs.Boards.{begins}
 use Rattle.sw_core.proofs.Given.{host_of}
 use Rattle.sw_rules.specs.Rows.{client_row}
+use Rattle.sw_work.specs.Hosted.{Hosted, state_of}
 use Rattle.sw_core.proofs.core_tables.Core.may_begin.Goals as goal
 
 pub returns-in-Some-controller : goal.returns-in-Some-controller

@@ -1,10 +1,10 @@
 use Rattle.std.proofs.Common.{◌≡◌, ◌∙◌, not, true, Some, None, ap, arith, subst}
 use Rattle.std.specs.Prelude.{is_some}
-use Rattle.sw_core.specs.Hosted.{Hosted, state_of}
 use Rattle.sw_core.proofs.Boards.{begins_on}
 use Rattle.sw_core.proofs.Given.{host_of}
 use Rattle.sw_rules.specs.Clients as rules
 use Rattle.sw_rules.specs.Rows.{worker_row}
+use Rattle.sw_work.specs.Hosted.{Hosted, state_of}
 use Rattle.sw_worker.specs.Table.{worker_at}
 use Rattle.sw_core.proofs.core_tables.Core.may_begin_on.Goals as goal
 

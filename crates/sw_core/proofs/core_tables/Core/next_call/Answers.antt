@@ -1,11 +1,11 @@
 use Rattle.std.proofs.Common.{◌≡◌, ◌∙◌, Some, option_and_then, slice_get, sym, ap, arith, subst}
 use Rattle.std.specs.Option.{option_copied}
-use Rattle.sw_core.specs.Hosted.{Hosted, state_of}
 use Rattle.sw_core.proofs.Given.{host_of}
 use Rattle.sw_core.proofs.TaskEvents.{next_shown}
 use Rattle.sw_rules.specs.Installing.{calls_of}
 use Rattle.sw_rules.specs.Tasks.{next_call}
 use Rattle.sw_tables.specs.Lent.{shown_handler, shown_worker}
+use Rattle.sw_work.specs.Hosted.{Hosted, state_of}
 use Rattle.sw_worker.specs.Table.{worker_at}
 use Rattle.sw_core.proofs.core_tables.Core.next_call.Goals as goal
 

@@ -1,6 +1,6 @@
-use Rattle.sw_core.specs.Hosted.{state_of}
 use Rattle.sw_core.proofs.Changing.{tells_none}
 use Rattle.sw_rules.specs.Registering.{run}
+use Rattle.sw_work.specs.Hosted.{state_of}
 use Rattle.sw_core.proofs.core_tables.Core.no_changes.Goals as goal
 
 pub returns : goal.returns

@@ -1,10 +1,10 @@
 use Rattle.std.proofs.Common.{IfSome, subst}
 use Rattle.sw_cachestorage.specs.Actions.{cache_action}
-use Rattle.sw_core.specs.Hosted.{Hosted, state_of}
-use Rattle.sw_core.specs.Plans.{IsAsked}
 use Rattle.sw_core.proofs.Given.{host_of}
 use Rattle.sw_core.proofs.OnCaches.{agrees, asked_of}
 use Rattle.sw_rules.specs.Caching.{with_key}
+use Rattle.sw_work.specs.Hosted.{Hosted, state_of}
+use Rattle.sw_work.specs.Plans.{IsAsked}
 use Rattle.sw_core.proofs.core_tables.Core.on_caches.Goals as goal
 
 pub returns-clause-agrees : goal.returns-clause-agrees

@@ -1,8 +1,8 @@
 use Rattle.std.proofs.lemmas.Result.{IfOk-weaker}
-use Rattle.sw_core.specs.Hosted.{state_of}
 use Rattle.sw_core.proofs.Given.{await_given, begin_given, ready_given}
 use Rattle.sw_data.specs.declared.events.Who.TheVariants as maker
 use Rattle.sw_pages.specs.Acts.{outcome_of}
+use Rattle.sw_work.specs.Hosted.{state_of}
 use Rattle.sw_core.proofs.core_tables.Core.page.Goals as goal
 
 pub returns-in-Await-clause-gives : goal.returns-in-Await-clause-gives
@@ -14,8 +14,8 @@ returns-in-Await-clause-gives c =
 pub returns-in-Ready-clause-gives : goal.returns-in-Ready-clause-gives
 returns-in-Ready-clause-gives c =
     let state = state_of c.args.self.now in
-    ready_given state c.args.event.now c.in-Ready.who c.args.lane c.args.at (outcome_of (maker.Lane c.args.lane c.args.at) c.ready.result state) c.in-Ready.client c.in-Ready.is c.requires.who
-    (c.ready.ensures.gives (maker.Lane c.args.lane c.args.at))
+    ready_given state c.args.event.now c.in-Ready.who c.args.lane c.args.at (outcome_of (maker.Lane c.args.lane c.args.at) c.ready_value.result state) c.in-Ready.client c.in-Ready.is c.requires.who
+    (c.ready_value.ensures.gives (maker.Lane c.args.lane c.args.at))
 
 pub returns-in-Begin-clause-gives : goal.returns-in-Begin-clause-gives
 returns-in-Begin-clause-gives c =

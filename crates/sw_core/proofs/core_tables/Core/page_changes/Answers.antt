@@ -1,10 +1,10 @@
 use Rattle.std.proofs.Common.{◌≡◌, subst, sym}
 use Rattle.std.specs.Prelude.{IfOk}
 use Rattle.sw_core.proofs.Changing.{claimant_owned}
-use Rattle.sw_core.specs.Hosted.{state_of}
 use Rattle.sw_pages.specs.Acts.{told_by}
 use Rattle.sw_pages.specs.Fits.{FitsPage}
 use Rattle.sw_pages.specs.declared.worked.PageAct.{PageAct}
+use Rattle.sw_work.specs.Hosted.{state_of}
 use Rattle.sw_core.proofs.core_tables.Core.page_changes.Goals as goal
 
 pub claim_changes-requires : goal.claim_changes-requires

@@ -1,7 +1,5 @@
 use Rattle.std.proofs.Common.{◌≡◌, ◌∙◌, Option, false, codes, length, refl, sym, subst, ap}
 use Rattle.sw_core.proofs.Fetching.{fetch_later}
-use Rattle.sw_core.specs.Hosted.{Hosted, rest_of, state_of}
-use Rattle.sw_core.specs.Plans.{FitsFetch}
 use Rattle.sw_core.specs.contracts.core_tables.Core.{the_view}
 use Rattle.sw_data.specs.declared.answers.Answer.{Answer}
 use Rattle.sw_install.specs.Runs.{drawn_by, ran_answer, script_of}
@@ -10,6 +8,8 @@ use Rattle.sw_rules.specs.Registering as rules
 use Rattle.sw_rules.specs.State.{State}
 use Rattle.sw_tables.specs.Happened.{Happened, with_jobs}
 use Rattle.sw_tables.specs.Lent.{Rest, lent}
+use Rattle.sw_work.specs.Hosted.{Hosted, rest_of, state_of}
+use Rattle.sw_work.specs.Plans.{FitsFetch}
 use Rattle.sw_core.proofs.core_tables.Core.run_register.Goals as goal
 
 pub returns : goal.returns

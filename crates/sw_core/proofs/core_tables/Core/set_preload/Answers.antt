@@ -1,8 +1,8 @@
 use Rattle.std.proofs.Common.{◌≡◌, subst}
 use Rattle.sw_core.proofs.Preload.{preload_set}
-use Rattle.sw_core.specs.Hosted.{Hosted, state_of}
 use Rattle.sw_core.specs.contracts.core_tables.Core.{the_view}
 use Rattle.sw_rules.specs.Preloading.{set_preload}
+use Rattle.sw_work.specs.Hosted.{Hosted, state_of}
 use Rattle.sw_core.proofs.core_tables.Core.set_preload.Goals as goal
 
 pub returns-clause-state : goal.returns-clause-state

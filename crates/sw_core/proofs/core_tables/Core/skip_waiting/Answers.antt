@@ -5,8 +5,8 @@ use Rattle.sw_rules.specs.Rows.{worker_row}
 use Rattle.sw_tables.specs.Lent.{lent}
 use Rattle.sw_tables.specs.Linked.{registration_of}
 use Rattle.sw_core.proofs.Doing.{if_some_map, of_owned, with_same_jobs, with_tables}
-use Rattle.sw_core.specs.Hosted.{Hosted, rest_of, state_of}
 use Rattle.sw_core.specs.contracts.core_tables.Core.{the_view}
+use Rattle.sw_work.specs.Hosted.{Hosted, rest_of, state_of}
 use Rattle.sw_core.proofs.core_tables.Core.skip_waiting.Goals as goal
 
 pub returns-clause-did : goal.returns-clause-did

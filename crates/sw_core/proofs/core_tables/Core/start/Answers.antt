@@ -1,8 +1,8 @@
 use Rattle.std.proofs.Common.{◌≡◌, subst}
 use Rattle.sw_core.proofs.Starting.{counts_of_lane, started, started_tasks}
-use Rattle.sw_core.specs.Hosted.{Hosted, state_of}
-use Rattle.sw_core.specs.Plans.{told_by_start}
 use Rattle.sw_core.specs.contracts.core_tables.Core.{the_view}
+use Rattle.sw_work.specs.Hosted.{Hosted, state_of}
+use Rattle.sw_work.specs.Plans.{told_by_start}
 use Rattle.sw_core.proofs.core_tables.Core.start.Goals as goal
 
 pub invariant_of-self : goal.invariant_of-self

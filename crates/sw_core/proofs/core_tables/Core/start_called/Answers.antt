@@ -1,11 +1,11 @@
 use Rattle.std.proofs.Common.{◌≡◌, ◌∙◌, true, refl, sym, subst, ap}
 use Rattle.sw_core.proofs.Doing.{left_in}
 use Rattle.sw_core.proofs.Starting.{counts_of_call, started, started_tasks}
-use Rattle.sw_core.specs.Hosted.{Hosted, rest_of, state_of}
-use Rattle.sw_core.specs.Plans.{has_calls_left, told_by_start}
 use Rattle.sw_core.specs.contracts.core_tables.Core.{the_view}
 use Rattle.sw_rules.specs.Calls as calls
 use Rattle.sw_rules.specs.State.{State}
+use Rattle.sw_work.specs.Hosted.{Hosted, rest_of, state_of}
+use Rattle.sw_work.specs.Plans.{has_calls_left, told_by_start}
 use Rattle.sw_core.proofs.core_tables.Core.start_called.Goals as goal
 
 pub note_call-requires-clause-calls : goal.note_call-requires-clause-calls

@@ -1,11 +1,11 @@
 use Rattle.std.proofs.Common.{refl, sym, subst}
 use Rattle.sw_core.proofs.Doing.{call_follows, promise_follows}
-use Rattle.sw_core.specs.Hosted.{state_of}
-use Rattle.sw_core.specs.Plans.{told_by_start, told_then}
-use Rattle.sw_core.specs.declared.plan.Then.{Then}
 use Rattle.sw_rules.specs.Caching.{add_task}
 use Rattle.sw_rules.specs.Noticing.{Did}
 use Rattle.sw_tables.proofs.Chain.{did_quietly}
+use Rattle.sw_work.specs.Hosted.{state_of}
+use Rattle.sw_work.specs.Plans.{told_by_start, told_then}
+use Rattle.sw_work.specs.declared.plan.Then.{Then}
 use Rattle.sw_core.proofs.core_tables.Core.start_then.Goals as goal
 
 pub returns-in-Nothing : goal.returns-in-Nothing

@@ -1,11 +1,11 @@
 use Rattle.std.proofs.Common.{◌∙◌, Option, refl, subst, sym}
 use Rattle.std.specs.Prelude.{IfOk}
-use Rattle.sw_core.specs.Plans.{FitsWork, Means}
-use Rattle.sw_core.specs.declared.plan.Work.{Work}
 use Rattle.sw_core.proofs.Changing.{registers}
 use Rattle.sw_data.specs.declared.rows.JobKind.TheVariants as job_kind
 use Rattle.sw_durable.specs.Telling.{Tells}
 use Rattle.sw_rules.specs.Told.{Outcome}
+use Rattle.sw_work.specs.Plans.{FitsWork, Means}
+use Rattle.sw_work.specs.declared.plan.Work.{Work}
 use Rattle.sw_core.proofs.core_tables.Core.work_changes.Goals as goal
 
 pub no_changes-requires : goal.no_changes-requires

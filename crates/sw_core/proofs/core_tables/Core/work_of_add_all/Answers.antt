@@ -1,13 +1,13 @@
 use Rattle.std.proofs.Common.{sym, subst}
 use Rattle.std.specs.Prelude.{IfOk}
 use Rattle.std.proofs.lemmas.Result.{IfOk-weaker}
-use Rattle.sw_core.specs.Hosted.{Hosted, state_of}
-use Rattle.sw_core.specs.Plans.{Means}
 use Rattle.sw_core.proofs.Begun.{maker_kept}
 use Rattle.sw_core.proofs.Given.{host_of}
 use Rattle.sw_data.specs.declared.events.Who.TheVariants as maker
 use Rattle.sw_rules.specs.Caching.{add_all_at}
 use Rattle.sw_rules.specs.Told.{Outcome}
+use Rattle.sw_work.specs.Hosted.{Hosted, state_of}
+use Rattle.sw_work.specs.Plans.{Means}
 use Rattle.sw_core.proofs.core_tables.Core.work_of_add_all.Goals as goal
 
 pub begun-requires-clause-maker : goal.begun-requires-clause-maker

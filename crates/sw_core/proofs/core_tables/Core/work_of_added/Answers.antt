@@ -1,11 +1,11 @@
 use Rattle.std.proofs.Common.{◌≡◌, ◌∙◌, true, Option, is_none, sym, subst}
 use Rattle.std.specs.Option.{IfSome}
 use Rattle.sw_cachestorage.specs.Added.{IsAdded}
-use Rattle.sw_core.specs.Hosted.{Hosted, state_of}
 use Rattle.sw_core.specs.contracts.core_tables.Core.{the_view}
 use Rattle.sw_ledgers.specs.Tasks.{has_task}
 use Rattle.sw_rules.specs.Caching.{added}
 use Rattle.sw_rules.specs.Told.{Outcome}
+use Rattle.sw_work.specs.Hosted.{Hosted, state_of}
 use Rattle.sw_core.proofs.core_tables.Core.work_of_added.Goals as goal
 
 pub returns-clause-works : goal.returns-clause-works

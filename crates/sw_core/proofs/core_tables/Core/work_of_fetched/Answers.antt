@@ -1,16 +1,16 @@
 use Rattle.std.proofs.Common.{Option, None, option_copied, subst, sym}
 use Rattle.std.specs.Option.{IfSome}
-use Rattle.sw_core.specs.Hosted.{Hosted, rest_of, state_of}
-use Rattle.sw_core.specs.Plans.{Means}
-use Rattle.sw_core.specs.declared.plan.Work.{Work}
-use Rattle.sw_core.specs.declared.plan.Work.TheVariants as work
 use Rattle.sw_core.proofs.Same.{same_joined}
-use Rattle.sw_core.proofs.Working.{fetch_means, made_room, owner_there}
 use Rattle.sw_data.specs.declared.recordings.Fetched.{Fetched}
 use Rattle.sw_install.specs.Fetches.{IsOutcome}
 use Rattle.sw_install.specs.declared.calls.Rows.{Rows}
 use Rattle.sw_laws.specs.Coherent.{Coherent}
 use Rattle.sw_rules.specs.Installing.{fetched}
+use Rattle.sw_work.specs.Hosted.{Hosted, rest_of, state_of}
+use Rattle.sw_work.specs.Plans.{Means}
+use Rattle.sw_work.specs.declared.plan.Work.{Work}
+use Rattle.sw_work.specs.declared.plan.Work.TheVariants as work
+use Rattle.sw_work.proofs.Working.{fetch_means, made_room, owner_there}
 use Rattle.sw_core.proofs.core_tables.Core.work_of_fetched.Goals as goal
 
 pub invariant_of-self : goal.invariant_of-self

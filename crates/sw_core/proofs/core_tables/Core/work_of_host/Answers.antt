@@ -1,14 +1,14 @@
 use Rattle.std.proofs.Common.{◌∙◌, List, Option, ap, subst, sym}
 use Rattle.std.specs.Prelude.{IfOk}
-use Rattle.sw_core.specs.Hosted.{state_of}
-use Rattle.sw_core.specs.Plans.{Works}
 use Rattle.sw_core.proofs.Others.{activated_comes, added_comes, evaluated_comes, fetched_comes, host_rests, installed_comes, run_comes, tries_comes}
 use Rattle.sw_core.proofs.Same.{same_refl}
-use Rattle.sw_core.proofs.Working.{comes_so, none_if}
 use Rattle.sw_data.specs.declared.recordings.FetchLine.{FetchLine}
 use Rattle.sw_rules.specs.Caching.{added}
 use Rattle.sw_rules.specs.Installing.{fetched}
 use Rattle.sw_rules.specs.Told.{Outcome}
+use Rattle.sw_work.specs.Hosted.{state_of}
+use Rattle.sw_work.specs.Plans.{Works}
+use Rattle.sw_work.proofs.Working.{comes_so, none_if}
 use Rattle.sw_core.proofs.core_tables.Core.work_of_host.Goals as goal
 
 pub returns-in-Run-clause-works : goal.returns-in-Run-clause-works

@@ -1,9 +1,5 @@
 -- The next call of a handler.
 use Rattle.std.proofs.Common.{Some, refl, sym, ap, subst}
-use Rattle.sw_core.specs.Hosted.{Hosted, SameRows, state_of}
-use Rattle.sw_core.specs.Plans.{Works}
-use Rattle.sw_core.specs.declared.plan.Work.{Work}
-use Rattle.sw_core.proofs.Calling.{both_ok, no_calls, no_registration, no_worker, own_row, works_next}
 use Rattle.sw_core.proofs.Same.{same_refl}
 use Rattle.sw_data.specs.declared.events.Who.TheVariants as maker
 use Rattle.sw_data.specs.declared.recordings.Call.TheVariants as call
@@ -11,6 +7,10 @@ use Rattle.sw_data.specs.declared.rows.WorkerRow.{WorkerRow}
 use Rattle.sw_laws.specs.Coherent.{Coherent}
 use Rattle.sw_rules.specs.Calls.{make_call}
 use Rattle.sw_tables.proofs.Rows.{found_number}
+use Rattle.sw_work.specs.Hosted.{Hosted, SameRows, state_of}
+use Rattle.sw_work.specs.Plans.{Works}
+use Rattle.sw_work.specs.declared.plan.Work.{Work}
+use Rattle.sw_work.proofs.Calling.{both_ok, no_calls, no_registration, no_worker, own_row, works_next}
 use Rattle.sw_core.proofs.core_tables.Core.work_of_next.Goals as goal
 
 pub returns-in_default-clause-works : goal.returns-in_default-clause-works

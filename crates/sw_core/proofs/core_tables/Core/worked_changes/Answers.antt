@@ -1,8 +1,8 @@
 use Rattle.std.proofs.Common.{◌∙◌, sym}
 use Rattle.std.proofs.lemmas.Result.{IfOk-weaker}
-use Rattle.sw_core.proofs.Calling.{promised_changes}
-use Rattle.sw_core.specs.Hosted.{state_of}
 use Rattle.sw_pages.specs.Acts.{told_by}
+use Rattle.sw_work.proofs.Calling.{promised_changes}
+use Rattle.sw_work.specs.Hosted.{state_of}
 use Rattle.sw_core.proofs.core_tables.Core.worked_changes.Goals as goal
 
 pub returns : goal.returns

@@ -1,6 +1,5 @@
 -- An event for which there was no room is a group of its own, or is refused.
 use Rattle.std.proofs.Common.{◌∙◌, List, Result, true, length, refl, sym, subst}
-use Rattle.sw_core.specs.Hosted.{Hosted, state_of}
 use Rattle.sw_data.specs.declared.histories.Entry.{Entry}
 use Rattle.sw_lock.specs.Entries.{ThenOwn}
 use Rattle.sw_turns.proofs.TurnLemmas.{alone_halted, cut_kept, cut_rests, free_due, going, own_either, own_written, sound, tended_roomy, turned_barren, works_roomy, written_last}
@@ -11,6 +10,7 @@ use Rattle.sw_turns.specs.Turns.{HasTurned, standing_of}
 use Rattle.sw_turns.specs.declared.ends.DriveEnd.{DriveEnd}
 use Rattle.sw_turns.specs.declared.ends.Stop.TheVariants as stop
 use Rattle.sw_turns.specs.declared.ends.Turn.{Turn}
+use Rattle.sw_work.specs.Hosted.{Hosted, state_of}
 
 pub enter-requires-clause-coherent : goal.enter-requires-clause-coherent
 enter-requires-clause-coherent g c =

@@ -1,6 +1,5 @@
 -- A group of events happens and is written, and the run goes on or has ended.
 use Rattle.std.proofs.Common.{◌≡◌, ◌∙◌, ◌⊎◌, List, Option, Result, Vec, Global, IfErr, IfOk, [], length, slice_get, append-nil, refl, sym, ap, subst}
-use Rattle.sw_core.specs.Hosted.{Hosted, state_of}
 use Rattle.sw_data.specs.declared.histories.Entry.{Entry}
 use Rattle.sw_data.specs.declared.histories.Task.{Task}
 use Rattle.sw_turns.proofs.EndLemmas.{ends_short}
@@ -16,6 +15,7 @@ use Rattle.sw_turns.specs.declared.ends.DriveEnd.{DriveEnd}
 use Rattle.sw_turns.specs.declared.ends.DriveEnd.TheVariants as drive_end
 use Rattle.sw_turns.specs.declared.ends.Stop.TheVariants as stop
 use Rattle.sw_turns.specs.declared.ends.Turn.{Turn}
+use Rattle.sw_work.specs.Hosted.{Hosted, state_of}
 
 pub returns-then-is_err-clause-turned : goal.returns-then-is_err-clause-turned
 returns-then-is_err-clause-turned g c recording base start going = (

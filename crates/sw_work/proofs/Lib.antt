@@ -1,0 +1,4 @@
+pub mod Calling
+pub mod Coherence
+pub mod Keeping
+pub mod Working

@@ -1,0 +1,5 @@
+pub mod Called
+pub mod Hosted
+pub mod Keeping
+pub mod Plans
+pub mod Running
