@@ -3,7 +3,6 @@ use Rattle.std.proofs.Common.{◌≡◌, ◌≢◌, ◌+◌, ◌<◌, List, [], 
 use Rattle.std.proofs.lemmas.List.{append-nil}
 use Rattle.std.specs.Option.{option_map_or}
 use Rattle.sw_codec.specs.Spelling.{spelled_all}
-use Rattle.sw_core.specs.Hosted.{Hosted, state_of}
 use Rattle.sw_data.specs.declared.events.Event.{Event}
 use Rattle.sw_data.specs.declared.histories.Entry.{Entry}
 use Rattle.sw_data.specs.declared.storage.Change.{Change}
@@ -23,6 +22,7 @@ use Rattle.sw_store.specs.declared.errors.StageError.{StageError}
 use Rattle.sw_store.specs.declared.errors.StageError.TheVariants as error
 use Rattle.sw_store.specs.Groups.{IsEntry, IsGroup, IsPlaced, IsStaged, IsTooLong}
 use Rattle.sw_store.specs.Stores.{GroupState, IsSameTwin, StoreState, store_of}
+use Rattle.sw_work.specs.Hosted.{Hosted, state_of}
 
 -- ---- refusals
 

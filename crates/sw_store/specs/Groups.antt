@@ -1,8 +1,7 @@
 -- Groups of events: their changes are written as one record.
 use Rattle.std.specs.Prelude.{◌≡◌, ◌≢◌, ◌<◌, ◌+◌, ℕ, true, List, [], ◌∷◌, ◌++◌, length, Some, IfSome}
 use Rattle.sw_codec.specs.Spelling.{spelled_all}
-use Rattle.sw_core.specs.Hosted.{Hosted, state_of}
-use Rattle.sw_core.specs.Plans.{Fits, Means}
+use Rattle.sw_core.specs.Planned.{Fits}
 use Rattle.sw_core.specs.declared.plan.Plan.{Plan}
 use Rattle.sw_data.specs.declared.events.Event.{Event}
 use Rattle.sw_data.specs.declared.histories.Entry.{Entry}
@@ -17,6 +16,8 @@ use Rattle.sw_rules.specs.State.{State}
 use Rattle.sw_rules.specs.Step.{Step, changes_of, enabled, step}
 use Rattle.sw_store.specs.Stores.{GroupState, StoreState, same_but_room}
 use Rattle.sw_twin.specs.Twin.{TwinState}
+use Rattle.sw_work.specs.Hosted.{Hosted, state_of}
+use Rattle.sw_work.specs.Plans.{Means}
 
 -- own: an event is enabled, and this plan was made for it
 pub record IsWorkedOut (happened : Event) (plan : Plan) (host : Hosted) : Type 0 where

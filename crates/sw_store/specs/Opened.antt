@@ -1,6 +1,5 @@
 -- A store that was just opened, and what a crash leaves while it is.
 use Rattle.std.specs.Prelude.{◌≡◌, ◌≢◌, ◌⊎◌, ◌<◌, ◌≤◌, ◌+◌, ◌-◌, ◌^◌, ℕ, List, [], ◌∷◌, length, Result, Ok, Err}
-use Rattle.sw_core.specs.Hosted.{state_of}
 use Rattle.sw_data.specs.declared.storage.Change.TheVariants as change
 use Rattle.sw_data.specs.declared.storage.Kept.{Kept}
 use Rattle.sw_disk.specs.declared.disk.Disk.{Ghosts}
@@ -18,6 +17,7 @@ use Rattle.sw_store.specs.declared.errors.OpenError.{OpenError}
 use Rattle.sw_store.specs.declared.errors.OpenError.TheVariants as error
 use Rattle.sw_store.specs.Stores.{IsQuiet, StoreState}
 use Rattle.sw_twin.specs.Twin.{IsPastFirst, TwinState}
+use Rattle.sw_work.specs.Hosted.{state_of}
 
 -- the content that a restart makes of a content
 abbrev pub kept_restarted : Kept → Kept

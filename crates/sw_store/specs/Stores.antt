@@ -1,11 +1,12 @@
 -- What a store is: a host, what its disk keeps, and the events that wait for their changes to be written.
 use Rattle.std.specs.Prelude.{◌≡◌, ◌≢◌, ◌⊎◌, ◌≤◌, ◌<◌, ◌+◌, ℕ, List, [], length, map, Option, None}
-use Rattle.sw_core.specs.Hosted.{Hosted, state_of}
 use Rattle.sw_data.specs.declared.histories.Entry.{Entry}
 use Rattle.sw_data.specs.declared.storage.Kept.{Kept}
 use Rattle.sw_kept.specs.Spelling.{IsContents}
 use Rattle.sw_journal.specs.Format.{format_2, needed_length}
+use Rattle.sw_store.specs.declared.limits.TheConstants.{GROWTH}
 use Rattle.sw_twin.specs.Twin.{TwinState}
+use Rattle.sw_work.specs.Hosted.{Hosted, state_of}
 
 -- own: the entries of the events that wait, the spellings of their changes, and the room for more of each
 pub record GroupState : Type 0 where
@@ -77,13 +78,9 @@ stamped clock entry = record entry { stamp = clock }
 abbrev pub all_stamped : ℕ → List Entry → List Entry
 all_stamped clock entries = map (stamped clock) entries
 
--- own: the growth of the current part, in bytes, from which on what is kept is written anew
-abbrev pub growth : ℕ
-growth = 1048576
-
 -- own: the next free offset has grown so much since the opening or the last checkpoint
 abbrev pub HasGrown : StoreState → Type 0
-HasGrown store = store.mark + growth ≤ store.twin.journal.gate + 1
+HasGrown store = store.mark + GROWTH ≤ store.twin.journal.gate + 1
 
 -- own: a whole part that keeps this content is longer than the limit
 pub record IsLarge (kept : Kept) (twin : TwinState) : Type 0 where

@@ -4,6 +4,7 @@
 
 mod errors;
 mod group;
+mod limits;
 mod opening;
 mod staging;
 mod store;

@@ -1,7 +1,6 @@
 //! A disk is opened, and its host restarted.
 
 ghost use Rattle.std.specs.Prelude.{◌≡◌, ◌≤◌, ◌<◌, ◌^◌, ◌+◌, ◌↔◌, ℕ, IfOk, IsErrOf, OnOk};
-ghost use Rattle.sw_core.specs.Hosted.{state_of};
 ghost use Rattle.sw_data.specs.declared.storage.Kept as contents;
 ghost use Rattle.sw_data.specs.Faults.{Rose};
 ghost use Rattle.sw_disk.specs.DiskRule.{ForTold, capped};
@@ -16,6 +15,7 @@ ghost use Rattle.sw_rules.specs.Restart.{restart};
 ghost use Rattle.sw_rules.specs.Storage.{IsMade};
 ghost use Rattle.sw_store.specs.Opened.{HasNoRoom, HasOpened, IsContentTooLong, IsFresh, IsOpened, IsRestartTooLong, IsUnopened, kept_restarted};
 ghost use Rattle.sw_twin.specs.Twin.{StandsFor};
+ghost use Rattle.sw_work.specs.Hosted.{state_of};
 
 use crate::errors::OpenError;
 use crate::group::Group;

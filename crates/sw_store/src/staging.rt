@@ -2,7 +2,6 @@
 
 ghost use Rattle.std.specs.Prelude.{◌≡◌, ◌≢◌, ◌≤◌, ◌<◌, ◌+◌, ◌++◌, ◌↔◌, [], ℕ, List, true, false, length, IfOk, IsErrOf, OnErr, OnOk, Some};
 ghost use Rattle.sw_codec.specs.Spelling.{spelled_all};
-ghost use Rattle.sw_core.specs.Hosted.{state_of};
 ghost use Rattle.sw_data.specs.declared.events.Event as events;
 ghost use Rattle.sw_disk.specs.DiskRule.{capped};
 ghost use Rattle.sw_journal.specs.Format.{format_2, needed_length};
@@ -11,6 +10,7 @@ ghost use Rattle.sw_rules.specs.State.{State};
 ghost use Rattle.sw_rules.specs.Step.{changes_of, enabled};
 ghost use Rattle.sw_store.specs.Groups.{IsEntry, IsGroup, IsPlaced, IsStaged, IsTooLong, IsWorkedOut};
 ghost use Rattle.sw_store.specs.Stores.{FitsBehind, IsSame, IsSameTwin};
+ghost use Rattle.sw_work.specs.Hosted.{state_of};
 
 use crate::errors::StageError;
 use crate::group::Group;

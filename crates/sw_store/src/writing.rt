@@ -2,7 +2,6 @@
 
 ghost use Rattle.std.specs.Prelude.{◌≡◌, ◌≢◌, ◌⊎◌, ◌≤◌, ◌+◌, ◌↔◌, [], ℕ, List, Vec, length, true, false, IfOk, IsErrOf, OnErr, OnOk, None, Some};
 ghost use Rattle.sw_codec.specs.Spelling.{spelled_all};
-ghost use Rattle.sw_core.specs.Hosted.{state_of};
 ghost use Rattle.sw_data.specs.declared.histories.Entry as entries_of;
 ghost use Rattle.sw_data.specs.declared.storage.Change as changes;
 ghost use Rattle.sw_data.specs.declared.storage.Kept.{Kept};
@@ -18,17 +17,16 @@ ghost use Rattle.sw_rules.specs.Durable.{durable};
 ghost use Rattle.sw_rules.specs.Storage.{IsMade, kept_after};
 ghost use Rattle.sw_store.specs.Stores.{FitsBehind, HasGrown, IsQuiet, IsTended, IsWrittenAnew, all_stamped};
 ghost use Rattle.sw_twin.specs.Twin.{StandsFor};
+ghost use Rattle.sw_work.specs.Hosted.{state_of};
 
 use crate::errors::{CommitError, TendError};
+use crate::limits::GROWTH;
 use crate::store::Store;
 use std::alloc::Global;
 use sw_core::Core;
 use sw_data::{Bytes, Entry, Failed, NoMemory};
 use sw_disk::Disk;
 use sw_kept::{AppendError, CheckpointError, Twin, append, contents_of, go_over};
-
-/// The growth of the current part, in bytes, from which on what is kept is written anew.
-pub const GROWTH: u64 = 1_048_576;
 
 // Writes the changes that a payload spells as one record, if there are any. It takes no memory.
 fn write<D: Disk>(twin: &mut Twin, disk: &mut D, payload: &[u8]) -> Result<(), Failed>
@@ -171,7 +169,8 @@ impl Store {
         ensures keeps { KeepsNow self.old.twin (durable (state_of self.old.core)) D.Disk disk.old
             → OnOk result (KeepsNow self.new.twin (durable (state_of self.old.core))
             D.Disk disk.new) }
-        ensures any_moment { KeepsNow self.old.twin (durable (state_of self.old.core)) D.Disk disk.old
+        ensures any_moment { KeepsNow self.old.twin (durable (state_of self.old.core))
+            D.Disk disk.old
             → ForTold (D.seen disk.old) (λ image. LeavesOnly D.Disk disk.old disk.new
             (HasKept (durable (state_of self.old.core)))) }
 

@@ -1,6 +1,5 @@
 use Rattle.std.proofs.Common.{◌≡◌, ◌≢◌, ◌+◌, ◌++◌, [], ℕ, List, Some, sym, subst}
 use Rattle.sw_codec.specs.Spelling.{spelled_all}
-use Rattle.sw_core.specs.Hosted.{state_of}
 use Rattle.sw_disk.proofs.Images.{ok_so}
 use Rattle.sw_rules.specs.State.{State}
 use Rattle.sw_rules.specs.Step.{changes_of}
@@ -8,6 +7,7 @@ use Rattle.sw_store.proofs.Happened.{goes_on, staged_store}
 use Rattle.sw_store.proofs.store.Store.stage.Goals as goal
 use Rattle.sw_store.specs.Groups.{IsGroup, IsPlaced, IsTooLong}
 use Rattle.sw_store.specs.Stores.{FitsBehind, StoreState, store_of}
+use Rattle.sw_work.specs.Hosted.{state_of}
 
 pub returns-in-Ok-clause-goes_on : goal.returns-in-Ok-clause-goes_on
 returns-in-Ok-clause-goes_on c begun group =
