@@ -10,7 +10,7 @@ use crate::plan::NO_OPTIONS;
 use sw_data::{Options, Request};
 use sw_index::Slots;
 
-/// Takes out what the queries match; it takes no memory.
+// Takes out what the queries match; it takes no memory.
 pub(crate) fn drop_deleted(
     entries: &mut Vec<Entry>,
     slots: &mut Slots,
@@ -29,7 +29,7 @@ pub(crate) fn drop_deleted(
     }
 }
 
-/// Takes out the pairs in whose place others are put; it takes no memory.
+// Takes out the pairs in whose place others are put; it takes no memory.
 pub(crate) fn drop_replaced(entries: &mut Vec<Entry>, slots: &mut Slots, added: &[Entry])
     requires { AreIndexed entries.old.items slots.old }
     ensures indexed { AreIndexed entries.new.items slots.new }

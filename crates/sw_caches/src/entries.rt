@@ -1,6 +1,6 @@
 //! The numbered entries of a cache.
 
-ghost use Rattle.std.specs.Prelude.{◌≡◌, ◌<◌, ◌≤◌, true, MatchOption, slice_index_or, vec_capacity, vec_len, IfOk, option_map, map};
+ghost use Rattle.std.specs.Prelude.{◌≡◌, ◌<◌, ◌≤◌, true, MatchOption, slice_index_or, vec_capacity, vec_len, IfOk, option_map};
 ghost use Rattle.std.specs.List.{All, AllPairs};
 ghost use Rattle.sw_rules.specs.Matching.{first_match, matches_pair, query_of};
 ghost use Rattle.sw_rules.specs.Batch.{matches_added, without_matching};
@@ -14,10 +14,10 @@ use sw_data::{Items, NoMemory, Options, Request, Response};
 use sw_index::{Slots, next_number};
 use sw_match::{finds_nothing, matches_pair, number_of};
 
-/// A request and the response that is kept under it.
+// A request and the response that is kept under it.
 pub(crate) type Pair = (Request, Response);
 
-/// A pair behind its number.
+// A pair behind its number.
 #[derive(Drop)]
 pub(crate) struct Entry {
     pub(crate) number: u64,
@@ -87,7 +87,7 @@ fn first_matching<'a>(
     None
 }
 
-/// A query matches one of the pairs.
+// A query matches one of the pairs.
 #[tactic(auto, using(sw_index::proofs::FindLemmas::found_any))]
 pub(crate) fn has_matching(
     entries: &[Entry],
@@ -101,7 +101,7 @@ pub(crate) fn has_matching(
     first_matching(entries, slots, query, options).is_some()
 }
 
-/// The first pair that a query finds, behind its place.
+// The first pair that a query finds, behind its place.
 pub(crate) fn first_of<'a>(
     entries: &'a [Entry],
     slots: &Slots,
@@ -118,7 +118,7 @@ pub(crate) fn first_of<'a>(
     first_matching(entries, slots, query, options)
 }
 
-/// The places of the pairs that a query finds, rising.
+// The places of the pairs that a query finds, rising.
 pub(crate) fn places_of(
     alloc: Global,
     entries: &[Entry],
@@ -159,7 +159,7 @@ fn matching_places(
     Ok(places)
 }
 
-/// Takes out the pairs that a query matches, whatever its method; it takes no memory.
+// Takes out the pairs that a query matches, whatever its method; it takes no memory.
 pub(crate) fn drop_matching(
     entries: &mut Vec<Entry>,
     slots: &mut Slots,
@@ -180,7 +180,7 @@ pub(crate) fn drop_matching(
     }
 }
 
-/// The pairs of entries, as a list of its own.
+// The pairs of entries, as a list of its own.
 pub(crate) fn copy_pairs(alloc: Global, entries: &[Entry]) -> Result<Items<Pair>, NoMemory>
     ensures { IfOk result (λ items. items ≡ pairs entries.now) }
 {
@@ -191,7 +191,7 @@ pub(crate) fn copy_pairs(alloc: Global, entries: &[Entry]) -> Result<Items<Pair>
     Ok(items)
 }
 
-/// The pairs of entries, which are taken apart.
+// The pairs of entries, which are taken apart.
 pub(crate) fn into_pairs(alloc: Global, entries: Vec<Entry>) -> Result<Items<Pair>, NoMemory>
     ensures { IfOk result (λ items. items ≡ pairs entries.items) }
 {
@@ -202,7 +202,7 @@ pub(crate) fn into_pairs(alloc: Global, entries: Vec<Entry>) -> Result<Items<Pai
     Ok(items)
 }
 
-/// A pair of its own that equals this one.
+// A pair of its own that equals this one.
 pub(crate) fn copy_pair(alloc: Global, pair: &Pair) -> Result<Pair, NoMemory>
     ensures { IfOk result (λ copy. copy ≡ pair.now) }
 {

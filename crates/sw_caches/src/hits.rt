@@ -1,7 +1,7 @@
 //! Matches in the caches of a key.
 
-ghost use Rattle.std.specs.Prelude.{◌≡◌, ◌<◌, ◌^◌, true, length, map, option_copied, option_map, bytes_eq};
-ghost use Rattle.std.specs.Option.{IfSome, option_map_or};
+ghost use Rattle.std.specs.Prelude.{◌≡◌, ◌<◌, true, map, option_copied, option_map, bytes_eq};
+ghost use Rattle.std.specs.Option.{option_map_or};
 ghost use Rattle.sw_data.specs.declared.answers.Answer.TheVariants as answer;
 ghost use Rattle.sw_rules.specs.Caching as rules;
 ghost use Rattle.sw_rules.specs.Caching.{asked_caches};
@@ -39,7 +39,7 @@ fn hit_in(row: &Row<Pairs>, name: Option<&Text>, query: &Request, options: Optio
     }
 }
 
-/// The first match in the caches of a key.
+// The first match in the caches of a key.
 pub(crate) fn first_hit(
     rows: &Named<Pairs>,
     key: &Text,
@@ -71,7 +71,7 @@ pub struct Found<'a> {
     pub response: &'a Response,
 }
 
-/// The first match in the caches of a key, with its response.
+// The first match in the caches of a key, with its response.
 pub(crate) fn first_found<'a>(
     rows: &'a Named<Pairs>,
     key: &Text,

@@ -1,6 +1,6 @@
 //! The pairs of a cache, seen as a list beside the room for a plan.
 
-ghost use Rattle.std.specs.Prelude.{◌≡◌, ◌<◌, ◌≤◌, ◌+◌, ◌^◌, [], length, sum_by, Ok, IfOk, IfErr, OnOk, OnErr, option_map, option_copied, slice_get, map};
+ghost use Rattle.std.specs.Prelude.{◌≡◌, ◌<◌, ◌≤◌, ◌+◌, ◌^◌, [], length, sum_by, Ok, IfOk, IfErr, OnOk, option_map, option_copied, slice_get};
 ghost use Rattle.std.specs.List.{range_with_len};
 ghost use Rattle.std.specs.Option.{IfSome};
 ghost use Rattle.sw_rules.specs.Matching.{Pair, first_match, query_of};
@@ -25,8 +25,8 @@ use sw_match::number_of;
 // The most pairs that a cache may have.
 const PAIRS_LIMIT: usize = 4_294_967_295;
 
-/// The pairs of a cache in the order of their puts. An index finds those of an address in the time
-/// that they take themselves.
+// The pairs of a cache in the order of their puts. An index finds those of an address in the time
+// that they take themselves.
 #[derive(Drop)]
 pub(crate) struct Pairs {
     entries: Vec<Entry>,
@@ -56,7 +56,7 @@ impl Model for Pairs {
 }
 
 impl Pairs {
-    /// No pairs; it takes no memory.
+    // No pairs; it takes no memory.
     pub(crate) fn new(alloc: Global) -> Pairs
         ensures { result.pairs ≡ [] }
     {
@@ -67,7 +67,7 @@ impl Pairs {
         }
     }
 
-    /// The pairs of a list, with their index.
+    // The pairs of a list, with their index.
     pub(crate) fn from_items(alloc: Global, items: Vec<Pair>) -> Result<Pairs, NoMemory>
         ensures { IfOk result (λ kept. kept.pairs ≡ items.items) }
     {
@@ -83,28 +83,28 @@ impl Pairs {
         })
     }
 
-    /// A list of its own that equals the pairs.
+    // A list of its own that equals the pairs.
     pub(crate) fn to_items(&self, alloc: Global) -> Result<Items<Pair>, NoMemory>
         ensures { IfOk result (λ items. items ≡ self.now.pairs) }
     {
         copy_pairs(alloc, &self.entries)
     }
 
-    /// The pairs as a list, none of them copied.
+    // The pairs as a list, none of them copied.
     pub(crate) fn into_items(self, alloc: Global) -> Result<Items<Pair>, NoMemory>
         ensures { IfOk result (λ items. items ≡ self.pairs) }
     {
         into_pairs(alloc, self.entries)
     }
 
-    /// How many pairs.
+    // How many pairs.
     pub(crate) fn len(&self) -> usize
         ensures { result ≡ length self.now.pairs }
     {
         self.entries.len()
     }
 
-    /// The pair at a place.
+    // The pair at a place.
     pub(crate) fn get(&self, place: usize) -> Option<&Pair>
         ensures { option_copied result ≡ slice_get self.now.pairs place }
     {
@@ -116,7 +116,7 @@ impl Pairs {
         }
     }
 
-    /// The first pair that a query finds, behind its place; it takes no memory.
+    // The first pair that a query finds, behind its place; it takes no memory.
     pub(crate) fn first(&self, query: &Request, options: Options) -> Option<(usize, &Pair)>
         ensures found { option_map (λ found. (found.0, found.1.now)) result
             ≡ first_match self.now.pairs query.now options }
@@ -125,7 +125,7 @@ impl Pairs {
         first_of(&self.entries, &self.slots, query, options)
     }
 
-    /// The places of the pairs that a query finds, rising.
+    // The places of the pairs that a query finds, rising.
     pub(crate) fn places(
         &self,
         alloc: Global,
@@ -137,7 +137,7 @@ impl Pairs {
         places_of(alloc, &self.entries, &self.slots, query, options)
     }
 
-    /// All places.
+    // All places.
     pub(crate) fn all(&self, alloc: Global) -> Result<Vec<u32>, NoMemory>
         ensures { IfOk result (λ places. places.items ≡ range_with_len 0 (length self.now.pairs)) }
     {
@@ -148,8 +148,8 @@ impl Pairs {
         Ok(places)
     }
 
-    /// A batch, worked out with all its room. Any refusal leaves the pairs and the index as they
-    /// were.
+    // A batch, worked out with all its room. Any refusal leaves the pairs and the index as they
+    // were.
     pub(crate) fn plan(&mut self, alloc: Global, ops: Vec<Op>) -> Result<PairsPlan, BatchFault>
         ensures same { self.new.pairs ≡ self.old.pairs }
         ensures fits { IfOk result (λ plan. Fits plan self.new) }
@@ -210,7 +210,7 @@ impl Pairs {
         Ok(())
     }
 
-    /// Carries a plan out; it takes no memory.
+    // Carries a plan out; it takes no memory.
     pub(crate) fn carry_out(&mut self, plan: PairsPlan)
         requires { Fits plan self.old }
         ensures { self.new.pairs ≡ carried plan self.old.pairs }

@@ -1,13 +1,13 @@
 //! A batch on one cache, worked out before it is done.
 
-ghost use Rattle.std.specs.Prelude.{◌≡◌, ◌<◌, ◌≤◌, ◌+◌, ◌^◌, ◌++◌, ◌∷◌, [], ℕ, List, None, Result, Ok, Err, OnOk, IfOk, IfErr, length};
+ghost use Rattle.std.specs.Prelude.{◌≡◌, ◌<◌, ◌+◌, ◌^◌, ◌++◌, ◌∷◌, [], ℕ, List, None, Result, Ok, Err, OnOk, IfOk, IfErr, length};
 ghost use Rattle.sw_data.specs.declared.exchange.Op.{Op};
 ghost use Rattle.sw_data.specs.declared.exchange.Op.TheVariants as op;
 ghost use Rattle.sw_rules.specs.Matching.{Pair};
 ghost use Rattle.sw_rules.specs.Batch.{go, put_fault};
 ghost use Rattle.sw_index.specs.Slots.{KeepsBelow, KeepsSlots};
-ghost use Rattle.sw_index.specs.Numbered.{AllBelow, AllFrom};
-ghost use Rattle.sw_caches.specs.Entries.{AreIndexed, number, pairs};
+ghost use Rattle.sw_index.specs.Numbered.{AllFrom};
+ghost use Rattle.sw_caches.specs.Entries.{number, pairs};
 ghost use Rattle.sw_caches.specs.Plans.{IsDraft, IsThrown, carried, left_by};
 
 use crate::entries::{Entry, has_matching};
@@ -19,7 +19,7 @@ use sw_data::{NoMemory, Op, Options, Request, Response};
 use sw_index::Slots;
 use sw_match::finds_nothing;
 
-/// No option is set.
+// No option is set.
 pub(crate) const NO_OPTIONS: Options = Options {
     ignore_search: false,
     ignore_method: false,
@@ -36,7 +36,7 @@ pub struct PairsPlan {
 }
 
 impl PairsPlan {
-    /// A plan of no operation.
+    // A plan of no operation.
     pub(crate) fn new(alloc: Global, first: u64) -> PairsPlan
         ensures deletes { result.deletes.items ≡ [] }
         ensures added { result.added.items ≡ [] }
@@ -194,7 +194,7 @@ impl PairsPlan {
     }
 }
 
-/// Works out a batch, operation by operation.
+// Works out a batch, operation by operation.
 pub(crate) fn work_out(
     plan: &mut PairsPlan,
     alloc: Global,
@@ -220,7 +220,7 @@ pub(crate) fn work_out(
     Ok(())
 }
 
-/// Takes the numbers of a plan from the index; it takes no memory.
+// Takes the numbers of a plan from the index; it takes no memory.
 pub(crate) fn unmark_all(slots: &mut Slots, added: &[Entry])
     ensures { (n : ℕ) → AllFrom number n added.now → KeepsBelow n slots.old slots.new }
 {
@@ -229,7 +229,7 @@ pub(crate) fn unmark_all(slots: &mut Slots, added: &[Entry])
     }
 }
 
-/// Adds the pairs of a list, one after another, to no pairs.
+// Adds the pairs of a list, one after another, to no pairs.
 pub(crate) fn add_all(
     alloc: Global,
     slots: &mut Slots,

@@ -9,7 +9,7 @@ use std::alloc::Global;
 use sw_data::{KeptCache, NoMemory, Text};
 use sw_index::{Named, Row};
 
-/// The first cache of a key at a place or behind it, and the place behind that; it takes no memory.
+// The first cache of a key at a place or behind it, and the place behind that; it takes no memory.
 pub(crate) fn next_cache<'a>(
     rows: &'a Named<Pairs>,
     key: &Text,
@@ -24,7 +24,7 @@ pub(crate) fn next_cache<'a>(
     }
 }
 
-/// The names of the caches of a key, in order.
+// The names of the caches of a key, in order.
 pub(crate) fn names_of(
     alloc: Global,
     rows: &Named<Pairs>,
@@ -42,7 +42,7 @@ pub(crate) fn names_of(
     Ok(names)
 }
 
-/// Kept caches with their index.
+// Kept caches with their index.
 pub(crate) fn rows_of(alloc: Global, kept: Vec<KeptCache>) -> Result<Named<Pairs>, NoMemory>
     ensures { IfOk result (λ rows. map kept_row rows.rows ≡ kept.items) }
 {
@@ -64,7 +64,7 @@ fn add_cache(rows: &mut Named<Pairs>, alloc: Global, cache: KeptCache) -> Result
     Ok(())
 }
 
-/// Caches as they are kept, as a list of its own.
+// Caches as they are kept, as a list of its own.
 pub(crate) fn kept_of(alloc: Global, rows: &[Row<Pairs>]) -> Result<Vec<KeptCache>, NoMemory>
     ensures { IfOk result (λ kept. kept.items ≡ map kept_row (named_rows rows.now)) }
 {
@@ -79,7 +79,7 @@ pub(crate) fn kept_of(alloc: Global, rows: &[Row<Pairs>]) -> Result<Vec<KeptCach
     Ok(kept)
 }
 
-/// Caches as they are kept, none of their pairs copied.
+// Caches as they are kept, none of their pairs copied.
 pub(crate) fn into_kept(alloc: Global, rows: Vec<Row<Pairs>>) -> Result<Vec<KeptCache>, NoMemory>
     ensures { IfOk result (λ kept. kept.items ≡ map kept_row (named_rows rows.items)) }
 {

@@ -10,11 +10,11 @@ use sw_data::cut::before;
 use sw_data::{Cause, Header, NoMemory, Op, Request, Response};
 use sw_match::{is_get, varies_on_all};
 
-/// The most bytes that the operations of one batch may have together.
+// The most bytes that the operations of one batch may have together.
 pub(crate) const QUOTA: u64 = 33_554_432;
 
-/// Why a put is refused (Service Workers, Cache, "put()"): its scheme, then its method, then its
-/// status, then a `*` in Vary.
+// Why a put is refused (Service Workers, Cache, "put()"): its scheme, then its method, then its
+// status, then a `*` in Vary.
 pub(crate) fn put_fault(request: &Request, response: &Response) -> Option<Cause>
     ensures { result ≡ put_fault request.now response.now }
 {
@@ -114,7 +114,7 @@ fn op_size(op: &Op) -> Result<u64, NoMemory>
     }
 }
 
-/// The bytes that operations have together.
+// The bytes that operations have together.
 pub(crate) fn size_of(ops: &[Op]) -> Result<u64, NoMemory>
     ensures { IfOk result (λ size. size ≡ sum_by op_size ops.now) }
 {

@@ -8,7 +8,7 @@ use sw_data::address::{without_fragment, without_query};
 use sw_data::{NoMemory, Text};
 use sw_index::{Slots, digest, mixed, put_number, take_number};
 
-/// The digest of an address without its fragment, or also without its query.
+// The digest of an address without its fragment, or also without its query.
 #[tactic(auto, unfolding(crate::specs::Slots::address_digest))]
 pub(crate) fn address_digest(without_queries: bool, address: &Text) -> u64
     ensures { result ≡ address_digest without_queries address.now }
@@ -20,7 +20,7 @@ pub(crate) fn address_digest(without_queries: bool, address: &Text) -> u64
     }
 }
 
-/// Puts a number under the digests of its address.
+// Puts a number under the digests of its address.
 pub(crate) fn mark(slots: &mut Slots, address: &Text, number: u64) -> Result<(), NoMemory>
     ensures keeps { KeepsSlots slots.old slots.new }
     ensures marked { OnOk result ((kind : Bool)
@@ -30,7 +30,7 @@ pub(crate) fn mark(slots: &mut Slots, address: &Text, number: u64) -> Result<(),
     put_number(slots, address_digest(true, address), number)
 }
 
-/// Takes a number from the digests of its address; it takes no memory.
+// Takes a number from the digests of its address; it takes no memory.
 pub(crate) fn unmark(slots: &mut Slots, address: &Text, number: u64)
     ensures { KeepsOthers number slots.old slots.new }
 {

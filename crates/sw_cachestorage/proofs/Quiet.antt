@@ -6,7 +6,7 @@ use Rattle.sw_client.specs.Table as clients
 use Rattle.sw_cachestorage.specs.Forgetting.{AreQuiet}
 use Rattle.sw_data.specs.declared.rows.RegistrationRow.{RegistrationRow}
 use Rattle.sw_reg.specs.Table as registrations
-use Rattle.sw_reg.specs.Table.{has_registration, registration_at}
+use Rattle.sw_reg.specs.Table.{registration_at}
 use Rattle.sw_rules.specs.Rows.{has_pending_worker}
 use Rattle.sw_scope.specs.Scopes.{Scopes}
 use Rattle.sw_tables.proofs.Pending.{any_here, none_pending, pending_worker}

@@ -21,7 +21,7 @@ use Rattle.sw_data.specs.declared.storage.KeptCache.{KeptCache}
 use Rattle.sw_data.specs.Exchange.{no_options}
 use Rattle.sw_rules.specs.Batch as rules
 use Rattle.sw_data.specs.Sizes.{op_size}
-use Rattle.sw_rules.specs.Batch.{batch, go, matches_added, put_fault, quota, within_quota, without_matching}
+use Rattle.sw_rules.specs.Batch.{go, matches_added, put_fault, within_quota, without_matching}
 use Rattle.sw_rules.specs.Caching.{batch_fault, pairs_of, unparsed_fault}
 use Rattle.sw_rules.specs.Matching.{Pair, finds_nothing}
 use Rattle.sw_rules.specs.State.{State}

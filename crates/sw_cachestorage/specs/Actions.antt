@@ -1,7 +1,9 @@
--- The actions on caches that are worked out so far: where they are made, and what they do (own).
-use Rattle.std.specs.Prelude.{ℕ, List, Option, Some, None}
+-- The actions and calls on caches: where they are made, and what they do (own).
+use Rattle.std.specs.Prelude.{ℕ, Bool, true, false, List, Option, Some, None}
 use Rattle.sw_data.specs.declared.events.Event.{Event}
 use Rattle.sw_data.specs.declared.events.Event.TheVariants as event
+use Rattle.sw_data.specs.declared.recordings.Call.{Call}
+use Rattle.sw_data.specs.declared.recordings.Call.TheVariants as call
 use Rattle.sw_data.specs.declared.recordings.Place.{Place}
 use Rattle.sw_rules.specs.Caching.{batch_ops, cache_names, delete_cache, delete_request, has_cache, match_request, open_cache, put_response, query_cache}
 use Rattle.sw_rules.specs.State.{State}
@@ -25,3 +27,12 @@ cache_action (event.Put who place put) = Some (record { place = place; act = λ 
 cache_action (event.Delete who place asked) = Some (record { place = place; act = λ state. delete_request state place.at asked })
 cache_action (event.Batch who place asked) = Some (record { place = place; act = λ state. batch_ops state place.at asked })
 cache_action _ = None
+
+-- a call acts on caches, and has no fetches
+abbrev pub acts_on_caches : Call → Bool
+acts_on_caches (call.CacheOpen name) = true
+acts_on_caches (call.CacheDelete name) = true
+acts_on_caches (call.Put put) = true
+acts_on_caches (call.Delete asked) = true
+acts_on_caches (call.Batch asked) = true
+acts_on_caches _ = false

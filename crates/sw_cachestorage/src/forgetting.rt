@@ -1,6 +1,6 @@
 //! Forgetting a key: whether it is busy, and what goes where it isn't (own).
 
-ghost use Rattle.std.specs.Prelude.{◌≡◌, ◌≤◌, ◌<◌, ◌+◌, ◌*◌, ◌&&◌, true, false, length, bytes_eq, is_none, slice_get, IfSome};
+ghost use Rattle.std.specs.Prelude.{◌≡◌, ◌≤◌, ◌<◌, ◌+◌, ◌*◌, ◌&&◌, true, false, length, bytes_eq, is_none, slice_get};
 ghost use Rattle.std.specs.List.{list_any};
 ghost use Rattle.std.specs.Option.{option_map_or};
 ghost use Rattle.sw_client.specs.Table as clients_table;
@@ -10,7 +10,6 @@ ghost use Rattle.sw_rules.specs.Caching as rules;
 ghost use Rattle.sw_rules.specs.Noticing.{Did};
 ghost use Rattle.sw_rules.specs.Rows as rows;
 ghost use Rattle.sw_rules.specs.Rows.{has_pending_worker};
-ghost use Rattle.sw_rules.specs.State.{Registration};
 ghost use Rattle.sw_scope.specs.Scopes.{Scopes};
 ghost use Rattle.sw_tables.specs.Happened.{KeepCounts};
 ghost use Rattle.sw_tables.specs.Lent.{Rest, lent};

@@ -1,6 +1,6 @@
 //! Writes to a cache (Service Workers, Cache, "put()", "delete()"; Appendix A, "Batch Cache Operations").
 
-ghost use Rattle.std.specs.Prelude.{◌≡◌, ◌≢◌, ◌∷◌, [], IfOk, length};
+ghost use Rattle.std.specs.Prelude.{◌≡◌, ◌≢◌, ◌∷◌, [], IfOk};
 ghost use Rattle.sw_data.specs.declared.answers.Answer.TheVariants as answer;
 ghost use Rattle.sw_rules.specs.Caching as rules;
 ghost use Rattle.sw_rules.specs.Caching.{run_batch, unparsed_fault, with_cache_pairs};
@@ -56,7 +56,7 @@ fn done(truth: Option<bool>) -> Answer
     }
 }
 
-/// A batch, worked out: its answer, or the fault that it throws.
+// A batch, worked out: its answer, or the fault that it throws.
 pub(crate) fn batch(
     alloc: Global,
     caches: &mut Caches,

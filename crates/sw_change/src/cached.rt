@@ -10,7 +10,7 @@ use std::alloc::Global;
 use sw_caches::{BatchFault, Caches};
 use sw_data::{NoMemory, Op, Text};
 
-/// Makes an empty cache where the key has none of this name.
+// Makes an empty cache where the key has none of this name.
 pub(crate) fn make_cache(
     caches: &mut Caches,
     alloc: Global,
@@ -36,8 +36,8 @@ fn want_of_memory(why: BatchFault) -> Result<(), NoMemory>
     }
 }
 
-/// Carries a batch out on the cache of this name. One that throws changes nothing, and so does one
-/// for a cache that isn't there.
+// Carries a batch out on the cache of this name. One that throws changes nothing, and so does one
+// for a cache that isn't there.
 pub(crate) fn change_pairs(
     caches: &mut Caches,
     alloc: Global,

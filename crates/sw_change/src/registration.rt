@@ -1,14 +1,14 @@
 //! A kept registration without its place, and what changes do to it.
 
-ghost use Rattle.std.specs.Prelude.{◌≡◌, IfOk, None, Some, Ok, false, codes};
+ghost use Rattle.std.specs.Prelude.{◌≡◌, IfOk, None, Some, Ok, false};
 ghost use Rattle.sw_data.specs.declared.storage.KeptWorker.{KeptWorker};
-ghost use Rattle.sw_rules.specs.Storage.{first_waiting, promoted, marked_activated};
+ghost use Rattle.sw_rules.specs.Storage.{first_waiting};
 ghost use Rattle.sw_change.specs.Table.{Place, edited, kept_row, promoted_registration};
 
 use std::alloc::Global;
 use sw_data::{KeptRegistration, KeptWorker, Mode, NoMemory, Text};
 
-/// What is kept of a registration beside its key and its scope.
+// What is kept of a registration beside its key and its scope.
 #[derive(Drop)]
 pub(crate) struct Registration {
     pub(crate) mode: Mode,
@@ -19,7 +19,7 @@ pub(crate) struct Registration {
     pub(crate) preload_value: Text,
 }
 
-/// What a change does to a registration.
+// What a change does to a registration.
 #[derive(Drop)]
 pub(crate) enum Edit {
     /// It gets this mode and this waiting worker.
@@ -32,7 +32,7 @@ pub(crate) enum Edit {
     Preload { on: bool, value: Text },
 }
 
-/// A worker of its own that equals this one.
+// A worker of its own that equals this one.
 pub(crate) fn copy_worker(alloc: Global, worker: &KeptWorker) -> Result<KeptWorker, NoMemory>
     ensures { IfOk result (λ copy. copy ≡ worker.now) }
 {
@@ -54,7 +54,7 @@ fn copy_option(alloc: Global, worker: &Option<KeptWorker>) -> Result<Option<Kept
 }
 
 impl Registration {
-    /// A registration with its first waiting worker.
+    // A registration with its first waiting worker.
     pub(crate) fn first(
         alloc: Global,
         mode: Mode,
@@ -73,7 +73,7 @@ impl Registration {
         })
     }
 
-    /// What is kept of the registration at this place; it takes no memory.
+    // What is kept of the registration at this place; it takes no memory.
     pub(crate) fn into_row(self, key: Text, scope: Text) -> KeptRegistration
         ensures { result ≡ kept_row ((key, scope), self) }
     {
@@ -89,7 +89,7 @@ impl Registration {
         }
     }
 
-    /// What is kept of the registration at this place, as data of its own.
+    // What is kept of the registration at this place, as data of its own.
     pub(crate) fn to_row(
         &self,
         alloc: Global,
@@ -110,7 +110,7 @@ impl Registration {
         })
     }
 
-    /// The waiting worker, where there is one, becomes the active one, not activated. It takes no memory.
+    // The waiting worker, where there is one, becomes the active one, not activated. It takes no memory.
     pub(crate) fn promote(&mut self)
         ensures { self.new ≡ promoted_registration self.old }
     {
@@ -120,7 +120,7 @@ impl Registration {
         }
     }
 
-    /// Carries an edit out. It takes no memory.
+    // Carries an edit out. It takes no memory.
     pub(crate) fn edit(&mut self, edit: Edit)
         ensures { (place : Place)
             → kept_row (place, self.new) ≡ edited edit (kept_row (place, self.old)) }

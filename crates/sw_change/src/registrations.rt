@@ -11,7 +11,7 @@ use std::marker::Model;
 use sw_data::{KeptRegistration, KeptWorker, Mode, NoMemory, Text};
 use sw_index::Named;
 
-/// The kept registrations, found by key and scope.
+// The kept registrations, found by key and scope.
 #[derive(Drop)]
 pub(crate) struct Registrations {
     rows: Named<Registration>,
@@ -32,7 +32,7 @@ impl Model for Registrations {
 }
 
 impl Registrations {
-    /// No registration; it takes no memory.
+    // No registration; it takes no memory.
     pub(crate) fn new(alloc: Global) -> Registrations
         ensures { result ≡ [] }
     {
@@ -41,7 +41,7 @@ impl Registrations {
         }
     }
 
-    /// The registrations as they are kept, in order of making.
+    // The registrations as they are kept, in order of making.
     pub(crate) fn into_rows(self, alloc: Global) -> Result<Vec<KeptRegistration>, NoMemory>
         ensures { IfOk result (λ rows. rows.items ≡ self) }
     {
@@ -52,7 +52,7 @@ impl Registrations {
         Ok(rows)
     }
 
-    /// The registrations as they are kept, as a list of its own.
+    // The registrations as they are kept, as a list of its own.
     pub(crate) fn to_rows(&self, alloc: Global) -> Result<Vec<KeptRegistration>, NoMemory>
         ensures { IfOk result (λ rows. rows.items ≡ self.now) }
     {
@@ -70,7 +70,7 @@ impl Registrations {
         self.rows.place(&place.0, &place.1).is_some()
     }
 
-    /// Carries an edit out where the registration is there; it takes no memory.
+    // Carries an edit out where the registration is there; it takes no memory.
     pub(crate) fn edit(&mut self, place: &(Text, Text), edit: Edit)
         ensures { self.new ≡ with_registration place.now.0 place.now.1 (edited edit) self.old }
     {
@@ -91,7 +91,7 @@ impl Registrations {
         Ok(())
     }
 
-    /// Gives a registration this mode and this waiting worker, and adds it where it isn't there.
+    // Gives a registration this mode and this waiting worker, and adds it where it isn't there.
     pub(crate) fn set_waiting(
         &mut self,
         alloc: Global,
@@ -110,7 +110,7 @@ impl Registrations {
         self.add(place, row)
     }
 
-    /// Removes a registration; it takes no memory.
+    // Removes a registration; it takes no memory.
     pub(crate) fn remove(&mut self, place: &(Text, Text))
         ensures { self.new
             ≡ filter (λ row. not (is_registration place.now.0 place.now.1 row)) self.old }
@@ -118,14 +118,14 @@ impl Registrations {
         self.rows.remove_named(&place.0, &place.1);
     }
 
-    /// Removes the registrations of a key; it takes no memory.
+    // Removes the registrations of a key; it takes no memory.
     pub(crate) fn remove_key(&mut self, key: &Text)
         ensures { self.new ≡ filter (λ row. not (bytes_eq row.key key.now)) self.old }
     {
         self.rows.remove_key(key);
     }
 
-    /// Each waiting worker becomes the active one; it takes no memory.
+    // Each waiting worker becomes the active one; it takes no memory.
     pub(crate) fn restarted(&mut self)
         ensures { self.new ≡ map promoted self.old }
     {

@@ -15,7 +15,7 @@ pub enum ReadError {
     BadAt(u64),
 }
 
-/// Why a front of the bytes gave no value.
+// Why a front of the bytes gave no value.
 #[derive(Debug, Clone, Copy, PartialEq, Eq)]
 pub(crate) enum Fault {
     NoMemory,

@@ -21,7 +21,7 @@ pub fn copy_op(alloc: Global, op: &Op) -> Result<Op, NoMemory>
     }
 }
 
-/// A list of requests of its own that equals this one.
+// A list of requests of its own that equals this one.
 pub(crate) fn copy_requests(
     alloc: Global,
     requests: &Items<Request>,
@@ -35,7 +35,7 @@ pub(crate) fn copy_requests(
     Ok(copy)
 }
 
-/// A list of operations of its own that equals this one.
+// A list of operations of its own that equals this one.
 pub(crate) fn copy_ops(alloc: Global, ops: &Items<Op>) -> Result<Items<Op>, NoMemory>
     ensures { IfOk result (λ copy. copy ≡ ops.now) }
 {

@@ -1,5 +1,5 @@
 -- Whether a task is one of the ready tasks: by the row of its number.
-use Rattle.std.proofs.Common.{◌≡◌, ◌∙◌, ◌==◌, ℕ, Bool, true, false, ◌&&◌, ◌||◌, List, ◌++◌, map, filter, Option, Some, None, option_map, is_some, refl, sym, ap, arith}
+use Rattle.std.proofs.Common.{◌≡◌, ◌∙◌, ◌==◌, ℕ, Bool, false, ◌&&◌, ◌||◌, List, filter, Option, Some, None, option_map, is_some, refl, sym, ap, arith}
 use Rattle.std.specs.Prelude.{find, is_none}
 use Rattle.std.specs.List.{list_any}
 use Rattle.std.specs.Option.{option_map_or}

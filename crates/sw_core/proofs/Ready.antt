@@ -1,6 +1,6 @@
 -- The ready tasks of a host: the first of each kind is the first row that passes.
 use Rattle.std.proofs.Common.{◌≡◌, ◌∙◌, ℕ, Bool, List, map, filter, Option, Some, None, option_map, slice_get, refl, ap}
-use Rattle.std.specs.Prelude.{find, is_none}
+use Rattle.std.specs.Prelude.{find}
 use Rattle.std.proofs.lemmas.Option.{slice_get-map}
 use Rattle.sw_data.specs.declared.histories.Task.{Task}
 use Rattle.sw_data.specs.declared.histories.Task.TheVariants as task

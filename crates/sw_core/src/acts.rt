@@ -262,7 +262,7 @@ impl Core {
         }
     }
 
-    /// An action or a call is done.
+    // An action or a call is done.
     pub(crate) fn do_asked(&mut self, asked: Asked, notices: &mut Notices) -> Option<Answer>
         requires fits { FitsAsked asked self.old }
         requires room { act_room asked.act self.old ≤ notices.old.spare }
@@ -324,7 +324,7 @@ impl Core {
         }
     }
 
-    /// An addAll goes on to its fetches.
+    // An addAll goes on to its fetches.
     pub(crate) fn do_start(&mut self, answer: Answer, new: NewAddAll, then: Then) -> Option<Answer>
         requires { FitsStart new then self.old }
         ensures { (notices : NoticeList)
@@ -335,7 +335,7 @@ impl Core {
         Some(answer)
     }
 
-    /// The fetches of an addAll have ended: its cache is changed, and it settles.
+    // The fetches of an addAll have ended: its cache is changed, and it settles.
     pub(crate) fn do_added(&mut self, task: u32, step: AddedStep) -> Option<Answer>
         requires { FitsAdded task step self.old }
         ensures { (outcome : Outcome) (notices : NoticeList)

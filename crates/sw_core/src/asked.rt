@@ -7,7 +7,7 @@ ghost use Rattle.sw_pages.specs.Acts as pages;
 ghost use Rattle.sw_pages.specs.Fits.{FitsPage};
 ghost use Rattle.sw_rules.specs.State.{State};
 ghost use Rattle.sw_rules.specs.Told.{Told};
-ghost use Rattle.sw_work.specs.Hosted.{Hosted, SameRows};
+ghost use Rattle.sw_work.specs.Hosted.{SameRows};
 ghost use Rattle.sw_work.specs.Plans.{FitsAsked, FitsTheAct, FitsThen, IsAsked, caller_of, told_by_act, told_then};
 
 use crate::core_tables::Core;
@@ -62,7 +62,7 @@ impl Core {
         }
     }
 
-    /// An action of a lane that was worked out, with the room for its promise and its navigation preload.
+    // An action of a lane that was worked out, with the room for its promise and its navigation preload.
     pub(crate) fn asked(
         &mut self,
         alloc: Global,

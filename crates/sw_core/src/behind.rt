@@ -6,7 +6,7 @@ use sw_ledgers::Tasks;
 use sw_queue::Queues;
 use sw_worker::Workers;
 
-/// The number of the job behind a job, none behind the last.
+// The number of the job behind a job, none behind the last.
 pub(crate) fn job_behind(queues: &Queues, job: u32) -> Option<u32>
     ensures { result
         ≡ option_map (λ row. row.job.number) (slice_get queues.now.rows (job + 1)) }
@@ -14,7 +14,7 @@ pub(crate) fn job_behind(queues: &Queues, job: u32) -> Option<u32>
     Some(queues.rows().get(job as usize + 1)?.job.number)
 }
 
-/// The number of the addAll behind an addAll, none behind the last.
+// The number of the addAll behind an addAll, none behind the last.
 #[tactic(auto, using(crate::proofs::Ready::number_behind))]
 pub(crate) fn task_behind(tasks: &Tasks, task: u32) -> Option<u32>
     ensures { result ≡ option_map (λ row. row.number) (slice_get tasks.now.rows (task + 1)) }
@@ -22,7 +22,7 @@ pub(crate) fn task_behind(tasks: &Tasks, task: u32) -> Option<u32>
     Some(tasks.rows().get(task as usize + 1)?.number)
 }
 
-/// The number of the worker behind a worker, none behind the last.
+// The number of the worker behind a worker, none behind the last.
 pub(crate) fn worker_behind(workers: &Workers, worker: u32) -> Option<u32>
     ensures { result
         ≡ option_map (λ row. row.number) (slice_get workers.now.rows (worker + 1)) }

@@ -71,7 +71,7 @@ impl Core {
         }
     }
 
-    /// What a call of a handler comes to. An event that isn't one isn't enabled, and any work fits.
+    // What a call of a handler comes to. An event that isn't one isn't enabled, and any work fits.
     #[tactic(auto, unfolding(sw_rules::specs::Step::step, sw_data::specs::Events::who_of))]
     pub(crate) fn work_of_call(&mut self, alloc: Global, event: &Event) -> Result<Work, NoMemory>
         requires coherent { Coherent (state_of self.old) }

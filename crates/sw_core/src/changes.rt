@@ -7,7 +7,7 @@ ghost use Rattle.sw_data.specs.declared.events.Who.TheVariants as maker;
 ghost use Rattle.sw_data.specs.declared.recordings.FetchLine.{FetchLine};
 ghost use Rattle.sw_data.specs.declared.rows.WorkerRow.{WorkerRow};
 ghost use Rattle.sw_data.specs.declared.workers.Phase.{Phase};
-ghost use Rattle.sw_durable.specs.OfCaches.{is_on_caches};
+ghost use Rattle.sw_cachestorage.specs.Actions.{acts_on_caches};
 ghost use Rattle.sw_durable.specs.Telling.{Tells, TellsBy};
 ghost use Rattle.sw_install.specs.Fetches.{ComesTo};
 ghost use Rattle.sw_laws.specs.Coherent.{Coherent};
@@ -43,7 +43,7 @@ use sw_work::{Act, Asked, Work};
 
 // Whether a call acts on caches, and has no fetches.
 fn acts_on_caches(call: &Call) -> bool
-    ensures { result ≡ is_on_caches call.now }
+    ensures { result ≡ acts_on_caches call.now }
 {
     !matches!(
         call,

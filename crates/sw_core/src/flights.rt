@@ -24,7 +24,7 @@ fn is_taken(flights: &[Option<Task>], task: Task) -> bool
     flights.iter().any(|flight| has_taken(flight, task))
 }
 
-/// Whether a task is in flight.
+// Whether a task is in flight.
 pub(crate) fn is_in_flight(flights: &[Option<Task>], task: Task) -> bool
     ensures { result ≡ list_any (is_task task) (in_flight flights.now) }
 {
@@ -38,7 +38,7 @@ fn taken(flights: &[Option<Task>]) -> usize
     flights.iter().filter(|flight| flight.is_some()).count()
 }
 
-/// How many tasks are in flight.
+// How many tasks are in flight.
 pub(crate) fn many_in_flight(flights: &[Option<Task>]) -> u32
     requires { length flights.now < 2 ^ 32 }
     ensures { result ≡ length (in_flight flights.now) }

@@ -49,7 +49,7 @@ impl Core {
         self.preloads.set_put(row);
     }
 
-    /// A register job runs.
+    // A register job runs.
     #[tactic(auto, using(sw_work::proofs::Coherence::job_numbers))]
     pub(crate) fn run_register(
         &mut self,
@@ -83,7 +83,7 @@ impl Core {
         ran_answer(done)
     }
 
-    /// An update job runs.
+    // An update job runs.
     #[tactic(auto, using(sw_work::proofs::Coherence::job_numbers))]
     pub(crate) fn run_update(
         &mut self,
@@ -113,7 +113,7 @@ impl Core {
         ran_answer(done)
     }
 
-    /// An unregister job runs.
+    // An unregister job runs.
     pub(crate) fn run_unregister(
         &mut self,
         job: u32,
@@ -138,7 +138,7 @@ impl Core {
         finished_answer(done)
     }
 
-    /// The fetch of a job's script has ended.
+    // The fetch of a job's script has ended.
     #[tactic(auto, using(sw_work::proofs::Coherence::under_way))]
     pub(crate) fn fetched(
         &mut self,
@@ -169,7 +169,7 @@ impl Core {
         fetched_answer(done)
     }
 
-    /// A job's script was evaluated.
+    // A job's script was evaluated.
     #[tactic(auto, using(sw_work::proofs::Coherence::under_way))]
     pub(crate) fn evaluated(&mut self, job: u32, notices: &mut Notices) -> Option<Answer>
         requires coherent { Coherent (state_of self.old) }
@@ -191,7 +191,7 @@ impl Core {
         evaluated_answer(done)
     }
 
-    /// The install handler of a job's worker ends.
+    // The install handler of a job's worker ends.
     #[tactic(auto, using(sw_work::proofs::Coherence::under_way))]
     pub(crate) fn installed(&mut self, job: u32, notices: &mut Notices) -> Option<Answer>
         requires coherent { Coherent (state_of self.old) }
@@ -213,7 +213,7 @@ impl Core {
         installed_answer(done)
     }
 
-    /// An owed Try Activate.
+    // An owed Try Activate.
     pub(crate) fn try_activate(
         &mut self,
         registration: u32,
@@ -235,7 +235,7 @@ impl Core {
         activate_answer(done)
     }
 
-    /// The activate handler of a worker ends.
+    // The activate handler of a worker ends.
     #[tactic(auto, using(sw_work::proofs::Coherence::runs_while_activating))]
     pub(crate) fn activated(&mut self, worker: u32, notices: &mut Notices) -> Option<Answer>
         requires coherent { Coherent (state_of self.old) }

@@ -104,8 +104,8 @@ impl Core {
         Ok(Work::Added { task, step })
     }
 
-    /// What an event of the host comes to. Any work fits an event that the host doesn't make, since it isn't
-    /// enabled.
+    // What an event of the host comes to. Any work fits an event that the host doesn't make, since it isn't
+    // enabled.
     pub(crate) fn work_of_host(&mut self, alloc: Global, event: &Event) -> Result<Work, NoMemory>
         requires coherent { Coherent (state_of self.old) }
         requires who { who_of event.now ≡ maker.Host }

@@ -219,7 +219,7 @@ impl Core {
         Ok(Work::Asked(self.forget(alloc, place)?))
     }
 
-    /// What an action of a lane comes to.
+    // What an action of a lane comes to.
     #[tactic(auto, unfolding(sw_rules::specs::Step::step, sw_data::specs::Events::who_of))]
     pub(crate) fn work_of_lane(
         &mut self,

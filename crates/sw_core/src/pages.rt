@@ -1,6 +1,6 @@
 //! Actions of pages, worked out on the tables of a host.
 
-ghost use Rattle.std.specs.Prelude.{◌≡◌, ℕ, true, false, IfOk, IfSome, option_copied};
+ghost use Rattle.std.specs.Prelude.{◌≡◌, ℕ, IfOk, IfSome, option_copied};
 ghost use Rattle.sw_core.specs.Paged.{FitsHost, Gives, MayGive};
 ghost use Rattle.sw_data.specs.declared.events.Who.TheVariants as maker;
 ghost use Rattle.sw_laws.specs.Coherent.{Coherent};
@@ -8,7 +8,7 @@ ghost use Rattle.sw_pages.specs.Acts.{outcome_of};
 ghost use Rattle.sw_rules.specs.Clients as clients;
 ghost use Rattle.sw_rules.specs.Preloading as preloading;
 ghost use Rattle.sw_rules.specs.Registering as registering;
-ghost use Rattle.sw_work.specs.Hosted.{Hosted, SameRows, state_of};
+ghost use Rattle.sw_work.specs.Hosted.{SameRows, state_of};
 
 use crate::core_tables::Core;
 use std::alloc::Global;

@@ -97,7 +97,7 @@ impl Core {
         Notices::with_room(alloc, room)
     }
 
-    /// The plan of a work that was worked out, with room for what it tells.
+    // The plan of a work that was worked out, with room for what it tells.
     pub(crate) fn planned(&self, alloc: Global, work: Work) -> Result<Plan, NoMemory>
         requires { FitsWork work self.now }
         ensures { IfOk result (λ plan. Fits plan self.now × (plan.work ≡ work)) }

@@ -1,13 +1,11 @@
 //! Events, worked out with all their room. The state stays as it is.
 
-ghost use Rattle.std.specs.Prelude.{◌≡◌, true, IfOk, IfSome, Some};
+ghost use Rattle.std.specs.Prelude.{◌≡◌, true, IfOk, IfSome};
 ghost use Rattle.sw_core.specs.Planned.{Fits};
-ghost use Rattle.sw_data.specs.declared.events.Who.TheVariants as maker;
-ghost use Rattle.sw_data.specs.Events.{who_of};
 ghost use Rattle.sw_laws.specs.Coherent.{Coherent};
 ghost use Rattle.sw_rules.specs.Step.{enabled, step};
 ghost use Rattle.sw_work.specs.Hosted.{SameRows, state_of};
-ghost use Rattle.sw_work.specs.Plans.{FitsWork, Means, Works, work_room};
+ghost use Rattle.sw_work.specs.Plans.{Means, Works};
 
 use crate::core_tables::Core;
 use crate::plan::Plan;

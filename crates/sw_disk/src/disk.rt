@@ -1,6 +1,6 @@
 //! What a disk is.
 
-ghost use Rattle.std.specs.Prelude.{◌≡◌, ◌^◌, ◌<◌, ◌≤◌, ◌-◌, ℕ, Option, Some, IfOk, OnOk, OnErr, length, take};
+ghost use Rattle.std.specs.Prelude.{◌≡◌, ◌^◌, ◌<◌, ◌≤◌, ◌-◌, ℕ, Option, IfOk, OnOk, OnErr, length, take};
 ghost use Rattle.sw_disk.specs.Image.{Image, get};
 ghost use Rattle.sw_disk.specs.declared.part.Part.{Part};
 ghost use Rattle.sw_disk.specs.DiskRule.{ForTold, BothTold, OnPart, Puts, written, FailedWrite, FailedCut, PendingCut};

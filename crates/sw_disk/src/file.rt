@@ -1,6 +1,6 @@
 //! A disk over three files.
 
-ghost use Rattle.std.specs.Prelude.{◌≡◌, ◌≤◌, IfSome, IsSome, IsTrue, length, option_map, is_some};
+ghost use Rattle.std.specs.Prelude.{◌≡◌, ◌≤◌, IfSome, IsSome, IsTrue, length, is_some};
 
 use crate::disk::Disk;
 use crate::part::{Part, Parts};

@@ -40,7 +40,7 @@ impl PlainDisk {
 
 impl Disk for PlainDisk {
     ghost use Rattle.std.specs.Prelude.{◌≡◌, ◌≤◌, Some, refl, length, take, IfOk, IsOk, OnOk, OnErr};
-    ghost use Rattle.sw_disk.specs.Image.{Image, get};
+    ghost use Rattle.sw_disk.specs.Image.{get};
     ghost use Rattle.sw_disk.specs.DiskRule.{Puts, written, HasCause, faults_after, ReadsAt, Elapses};
     ghost use Rattle.sw_disk.specs.Plain.{plain, plain_image, plain_small};
 

@@ -1,6 +1,6 @@
 //! Reads and writes of a vector of bytes from a place on.
 
-ghost use Rattle.std.specs.Prelude.{◌≡◌, ◌+◌, ◌-◌, ◌≤◌, min, length, take, vec_len, OnOk, OnErr};
+ghost use Rattle.std.specs.Prelude.{◌≡◌, ◌+◌, ◌-◌, ◌≤◌, min, length, vec_len, OnOk, OnErr};
 ghost use Rattle.sw_disk.specs.DiskRule.{written, ReadsAt};
 
 use sw_data::Failed;

@@ -4,7 +4,7 @@ use Rattle.std.specs.Prelude.{IfSome, Result, Ok, Err, option_to_list}
 use Rattle.std.specs.Option.{option_map_or}
 use Rattle.std.specs.Result.{result_ok}
 use Rattle.std.proofs.lemmas.List.{append-nil}
-use Rattle.sw_cachestorage.specs.Actions.{CacheAction, cache_action}
+use Rattle.sw_cachestorage.specs.Actions.{CacheAction, acts_on_caches, cache_action}
 use Rattle.sw_data.specs.declared.answers.Answer.{Answer}
 use Rattle.sw_data.specs.declared.answers.Answer.TheVariants as answer
 use Rattle.sw_data.specs.declared.answers.Cause.TheVariants as cause
@@ -29,7 +29,7 @@ use Rattle.sw_data.specs.declared.recordings.Place.{Place}
 use Rattle.sw_data.specs.declared.storage.Change.{Change}
 use Rattle.sw_data.specs.declared.workers.Phase.{Phase}
 use Rattle.sw_data.specs.Addresses.{resolved}
-use Rattle.sw_durable.specs.OfCaches.{added_changes, batch_told, changes_of_call, delete_changes, drop_changes, event_changes, is_on_caches, open_changes, put_changes, write_changes}
+use Rattle.sw_durable.specs.OfCaches.{added_changes, batch_told, changes_of_call, delete_changes, drop_changes, event_changes, open_changes, put_changes, write_changes}
 use Rattle.sw_durable.specs.Telling.{TellsBy}
 use Rattle.sw_rules.specs.Batch.{BatchFault, batch}
 use Rattle.sw_rules.specs.Caching.{add_cache, added, batch_changes, batch_fault, batch_ops, carry_out, delete_cache, delete_request, drop_cache, first_hit, asked_caches, match_request, open_cache, pairs_of, parsed_ops, place_key, put_response, puts_of, query_cache, query_places, responses_fault, run_batch, settle_task, single_fault, store_task, task_ended, task_refused, unparsed_fault, with_key}
@@ -247,7 +247,7 @@ event_told state _ reply = tt
 
 -- ---- a handler's call
 
-pub call_told : (state : State) (by : Who) (worker : Worker) (in_phase : Phase) (base key : List ℕ) (made : Call) (reply : Answer) → worker.script ≡ base → is_on_caches made ≡ true
+pub call_told : (state : State) (by : Who) (worker : Worker) (in_phase : Phase) (base key : List ℕ) (made : Call) (reply : Answer) → worker.script ≡ base → acts_on_caches made ≡ true
     → TellsBy reply (called state by worker in_phase key made) (changes_of_call made reply base key)
 call_told state by worker in_phase base key (call.CacheOpen name) reply script is = open_told state reply key name
 call_told state by worker in_phase base key (call.CacheDelete name) reply script is = drop_told state reply key name

@@ -1,5 +1,5 @@
 -- The durable changes of the actions on caches, from their answers (own).
-use Rattle.std.specs.Prelude.{ℕ, Bool, true, false, List, [], ◌∷◌, option_map, option_to_list, Option, Some, None, option_and_then, slice_get, if◌then◌else◌}
+use Rattle.std.specs.Prelude.{ℕ, true, List, [], ◌∷◌, option_map, option_to_list, Option, Some, None, option_and_then, slice_get, if◌then◌else◌}
 use Rattle.std.specs.Option.{option_map_or}
 use Rattle.std.specs.Result.{result_ok}
 use Rattle.sw_data.specs.declared.answers.Answer.{Answer}
@@ -90,15 +90,6 @@ abbrev pub event_changes : Event → Answer → List Change
 event_changes happened reply = option_map_or (changes_at happened reply) (write_key happened) []
 
 -- ---- a handler's call
-
--- a call acts on caches, and has no fetches (own)
-abbrev pub is_on_caches : Call → Bool
-is_on_caches (call.CacheOpen name) = true
-is_on_caches (call.CacheDelete name) = true
-is_on_caches (call.Put put) = true
-is_on_caches (call.Delete asked) = true
-is_on_caches (call.Batch asked) = true
-is_on_caches _ = false
 
 -- the changes of a call at this key, its addresses being parsed against this base (own)
 abbrev pub changes_of_call : Call → Answer → List ℕ → List ℕ → List Change

@@ -1,7 +1,7 @@
 //! The durable changes of an activation: of the owed Try Activate, and of what is looked at again where a fetch event ends,
 //! a client leaves, a worker skips waiting or an activate handler ends.
 
-ghost use Rattle.std.specs.Prelude.{◌≡◌, ◌||◌, ◌∷◌, ◌++◌, [], ℕ, true, nat_lt, IfOk, IfSome, Some, is_some, if◌then◌else◌};
+ghost use Rattle.std.specs.Prelude.{◌≡◌, ◌||◌, ◌∷◌, ◌++◌, [], true, nat_lt, IfOk, IfSome, Some, is_some, if◌then◌else◌};
 ghost use Rattle.sw_activate.specs.Running.{RunsWhileActivating};
 ghost use Rattle.sw_client.specs.Table as clients_of;
 ghost use Rattle.sw_client.specs.Table.{users_of};

@@ -3,11 +3,11 @@
 ghost use Rattle.std.specs.Prelude.{◌≡◌, ◌∷◌, [], true, is_some, IfOk, IfSome, option_to_list};
 ghost use Rattle.std.specs.Option.{option_copied};
 ghost use Rattle.std.specs.Result.{result_ok};
-ghost use Rattle.sw_cachestorage.specs.Actions.{cache_action};
+ghost use Rattle.sw_cachestorage.specs.Actions.{acts_on_caches, cache_action};
 ghost use Rattle.sw_data.specs.declared.events.Who.{Who};
 ghost use Rattle.sw_data.specs.declared.storage.Change.TheVariants as change;
 ghost use Rattle.sw_data.specs.declared.workers.Phase.{Phase};
-ghost use Rattle.sw_durable.specs.OfCaches.{batch_told, changes_at, changes_of_call, delete_changes, delete_op, drop_changes, is_on_caches, open_changes, put_changes, put_op, write_key, write_place};
+ghost use Rattle.sw_durable.specs.OfCaches.{batch_told, changes_at, changes_of_call, delete_changes, delete_op, drop_changes, open_changes, put_changes, put_op, write_key, write_place};
 ghost use Rattle.sw_durable.specs.Telling.{TellsBy};
 ghost use Rattle.sw_rules.specs.Caching as rules;
 ghost use Rattle.sw_rules.specs.Calls.{called, is_fault};
@@ -93,7 +93,7 @@ fn carried(alloc: Global, key: &Text, name: &Text, ops: Items<Op>) -> Result<Vec
     )
 }
 
-/// A batch was carried out.
+// A batch was carried out.
 pub(crate) fn batch_changes(
     alloc: Global,
     key: &Text,
@@ -311,7 +311,7 @@ pub fn call_changes(
     answer: &Answer,
 ) -> Result<Vec<Change>, NoMemory>
     ensures { (state : State) (by : Who) (worker : Worker) (in_phase : Phase)
-        → worker.script ≡ base.now → is_on_caches call.now ≡ true
+        → worker.script ≡ base.now → acts_on_caches call.now ≡ true
         → IfOk result (λ changes. TellsBy answer.now
         (called state by worker in_phase key.now call.now) changes.items) }
 {

@@ -1,6 +1,6 @@
 //! The durable changes of a claim (Service Workers, Clients, "claim()").
 
-ghost use Rattle.std.specs.Prelude.{◌≡◌, ◌<◌, ◌≤◌, ◌+◌, ◌-◌, ◌^◌, ◌==◌, ◌++◌, ℕ, [], nat_eq, is_some, IfOk, IfSome, Some, find, length, map, option_and_then, vec_len, if◌then◌else◌};
+ghost use Rattle.std.specs.Prelude.{◌≡◌, ◌<◌, ◌+◌, ◌-◌, ◌^◌, ◌==◌, ◌++◌, ℕ, [], nat_eq, is_some, IfOk, IfSome, Some, find, length, map, option_and_then, vec_len, if◌then◌else◌};
 ghost use Rattle.std.specs.List.{IsDistinct};
 ghost use Rattle.sw_activate.specs.Names.{numbers_of};
 ghost use Rattle.sw_client.specs.Table as clients_of_table;

@@ -51,7 +51,7 @@ fn kept_at<'a>(
     }
 }
 
-/// The row of a registration, where it is kept. It takes no memory.
+// The row of a registration, where it is kept. It takes no memory.
 pub(crate) fn kept_row<'a>(
     registration: u32,
     map: &ScopeMap,
@@ -66,7 +66,7 @@ pub(crate) fn kept_row<'a>(
     kept_at(registration, map, registrations)
 }
 
-/// One change.
+// One change.
 pub(crate) fn one(alloc: Global, change: Change) -> Result<Vec<Change>, NoMemory>
     ensures { IfOk result (λ changes. changes.items ≡ change ∷ []) }
 {
@@ -75,14 +75,14 @@ pub(crate) fn one(alloc: Global, change: Change) -> Result<Vec<Change>, NoMemory
     Ok(changes)
 }
 
-/// No changes. It takes no memory.
+// No changes. It takes no memory.
 pub(crate) fn nothing(alloc: Global) -> Vec<Change>
     ensures { result.items ≡ [] }
 {
     Vec::new(alloc)
 }
 
-/// The change, where there is one.
+// The change, where there is one.
 pub(crate) fn told(alloc: Global, change: Option<Change>) -> Result<Vec<Change>, NoMemory>
     ensures { IfOk result (λ changes. changes.items ≡ option_to_list change) }
 {
@@ -92,7 +92,7 @@ pub(crate) fn told(alloc: Global, change: Option<Change>) -> Result<Vec<Change>,
     }
 }
 
-/// The key and the scope of a registration, where there is one.
+// The key and the scope of a registration, where there is one.
 pub(crate) fn names(
     alloc: Global,
     row: Option<&RegistrationRow>,
@@ -135,7 +135,7 @@ fn moded(names: Option<(Text, Text)>, mode: Mode) -> Option<Change>
     }
 }
 
-/// That the waiting worker of a registration becomes the active one, where the registration is kept.
+// That the waiting worker of a registration becomes the active one, where the registration is kept.
 pub(crate) fn active_change(
     alloc: Global,
     registration: u32,
@@ -151,7 +151,7 @@ pub(crate) fn active_change(
     told(alloc, active(names))
 }
 
-/// That a registration leaves the map, where it is kept.
+// That a registration leaves the map, where it is kept.
 pub(crate) fn gone_change(
     alloc: Global,
     registration: u32,
@@ -184,7 +184,7 @@ fn of_other_mode(row: Option<&RegistrationRow>, mode: Mode) -> Option<&Registrat
     }
 }
 
-/// That a registration gets a mode, where it is kept and has another one.
+// That a registration gets a mode, where it is kept and has another one.
 pub(crate) fn mode_change(
     alloc: Global,
     registration: u32,

@@ -1,6 +1,6 @@
 //! Passes on threads of their own, over a list of numbers.
-ghost use Rattle.std.specs.Prelude.{◌≡◌, ◌++◌, ◌∷◌, ℕ, [], All, MatchBool, IfOk, vec_len};
-ghost use Rattle.sw_lock.specs.Passes.{IsPassOf, made_of};
+ghost use Rattle.std.specs.Prelude.{◌≡◌, ◌++◌, ◌∷◌, ℕ, [], All, MatchBool};
+ghost use Rattle.sw_lock.specs.Passes.{IsPassOf};
 
 use std::hint::spin_loop;
 use std::sync::Wait;

@@ -4,7 +4,7 @@ ghost use Rattle.std.specs.Prelude.{◌≡◌, ◌-◌, ◌%◌, ◌==◌, not, 
 ghost use Rattle.std.specs.List.{position_from};
 ghost use Rattle.std.specs.Option.{option_copied};
 
-/// How many flags a block has.
+// How many flags a block has.
 pub(crate) const BLOCK: usize = 256;
 
 // What stands at or behind a place.
@@ -37,7 +37,7 @@ fn first_counted(counts: &[u16]) -> Option<usize>
     counts.iter().position(|count| *count != 0)
 }
 
-/// The first place whose flag is set, from a place to the end of its block.
+// The first place whose flag is set, from a place to the end of its block.
 #[tactic(auto, using(crate::proofs::Placing::placed_at, crate::proofs::Placing::placed_none))]
 pub(crate) fn in_block(flags: &[bool], from: usize) -> Option<usize>
     ensures { result ≡ position_from (λ flag. flag) from
@@ -49,7 +49,7 @@ pub(crate) fn in_block(flags: &[bool], from: usize) -> Option<usize>
     }
 }
 
-/// The first block at or behind a block of which a flag is set.
+// The first block at or behind a block of which a flag is set.
 #[tactic(auto, using(crate::proofs::Placing::placed_at, crate::proofs::Placing::placed_none))]
 pub(crate) fn counted_from(counts: &[u16], block: usize) -> Option<usize>
     ensures { result ≡ position_from (λ count. not (count == 0)) block (drop block counts.now) }
@@ -60,7 +60,7 @@ pub(crate) fn counted_from(counts: &[u16], block: usize) -> Option<usize>
     }
 }
 
-/// The row of a place.
+// The row of a place.
 pub(crate) fn row_at<T>(rows: &[T], place: usize) -> Option<&T>
     ensures { option_copied result ≡ slice_get rows.now place }
 {

@@ -1,6 +1,6 @@
 //! Requests and responses: methods, statuses, lists of headers and bodies.
 
-ghost use Rattle.std.specs.Prelude.{◌≡◌, map, option_map, IfOk};
+ghost use Rattle.std.specs.Prelude.{◌≡◌, map, IfOk};
 ghost use Rattle.serde_json.specs.View.{view};
 ghost use Rattle.sw_forms.specs.Exchanges as exchanges;
 

@@ -1,6 +1,6 @@
 //! The flaws of a line, and which of them decides.
 
-ghost use Rattle.std.specs.Prelude.{◌≡◌, Ok, Err, IfOk};
+ghost use Rattle.std.specs.Prelude.{◌≡◌, Ok, Err};
 ghost use Rattle.sw_forms.specs.Flaws as flaws;
 
 use crate::error::{Limit, LineCause, RecordingError};

@@ -1,9 +1,8 @@
 //! The members of a JSON object, and values of one kind.
 
-ghost use Rattle.std.specs.Prelude.{◌≡◌, List, ℕ, Result, map, option_map, bytes_eq, string_bytes, IfOk};
+ghost use Rattle.std.specs.Prelude.{◌≡◌, Result, map, option_map, bytes_eq, string_bytes, IfOk};
 ghost use Rattle.std.specs.List.{list_all, list_any};
 ghost use Rattle.std.specs.Map.{keys_of};
-ghost use Rattle.serde_json.specs.Data.{Data};
 ghost use Rattle.serde_json.specs.Find.{as_str};
 ghost use Rattle.serde_json.specs.View.{view};
 ghost use Rattle.sw_forms.specs.declared.flaw.Flaw.{Flaw};

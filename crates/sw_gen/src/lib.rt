@@ -2,7 +2,7 @@
 //! unregister, in numbers and kinds that look random and are the same on every machine.
 #![tactic(auto)]
 
-ghost use Rattle.std.specs.Prelude.{◌≡◌, ◌≤◌, IfOk, string_bytes};
+ghost use Rattle.std.specs.Prelude.{◌≡◌, ◌≤◌, IfOk};
 ghost use Rattle.sw_gen.specs.Generated.{generated, made};
 
 use lines::fetch_lines;

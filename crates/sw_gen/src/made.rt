@@ -1,7 +1,7 @@
 //! The recording while it is made.
 
-ghost use Rattle.std.specs.Prelude.{◌≡◌, ◌+◌, ◌%◌, IfOk, OnOk, string_bytes, replicate};
-ghost use Rattle.sw_gen.specs.Generated.{next, drawn, count_of, with_client};
+ghost use Rattle.std.specs.Prelude.{◌≡◌, ◌+◌, ◌%◌, OnOk, string_bytes, replicate};
+ghost use Rattle.sw_gen.specs.Generated.{next, count_of, with_client};
 
 use crate::lines::client_lines;
 use std::alloc::Global;

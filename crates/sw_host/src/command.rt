@@ -98,7 +98,7 @@ fn three_words(word: &str, number: &str, size: &str) -> Command
     }
 }
 
-/// What the words ask for.
+// What the words ask for.
 pub(crate) fn command_of(words: &[String]) -> Command
     ensures command { result ≡ command_of words.now }
     ensures within { AreWithin result }

@@ -74,7 +74,7 @@ fn text_of(alloc: Global, history: &[Entry], end: DriveEnd) -> Result<Text, NoMe
     text
 }
 
-/// The report of a run.
+// The report of a run.
 pub(crate) fn printed(alloc: Global, history: Vec<Entry>, end: DriveEnd) -> Result<Report, NoMemory>
     ensures status { IfOk result (λ report. report.status ≡ status_of end) }
     ensures some { IfOk result (λ report. end ≢ DriveEnd.NoMemory) }
@@ -85,8 +85,8 @@ pub(crate) fn printed(alloc: Global, history: Vec<Entry>, end: DriveEnd) -> Resu
     Ok(Report { status, text })
 }
 
-/// What comes of a recording on a disk that was opened, which was so at the start: what has happened, and how that has
-/// ended.
+// What comes of a recording on a disk that was opened, which was so at the start: what has happened, and how that has
+// ended.
 pub(crate) fn play<R: Threads + Wait + Sync, D: Disk + Send, G: Gate + Sync>(
     rt: &R,
     alloc: Global,
@@ -161,7 +161,7 @@ fn unopened(alloc: Global, recording: Recording, error: OpenError) -> Result<Rep
     }
 }
 
-/// The report of a recording that is run by so many workers on a disk.
+// The report of a recording that is run by so many workers on a disk.
 pub(crate) fn run_to_end<R: Threads + Wait + Sync, D: Disk + Send, G: Gate + Sync>(
     rt: &R,
     alloc: Global,

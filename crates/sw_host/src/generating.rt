@@ -205,8 +205,8 @@ fn run_recording<R: Threads + Wait + Sync>(
     }
 }
 
-/// The report of the generated recording of this number and size, which one worker runs on a fresh disk in memory: a line
-/// that sums it up where it is done, and else its transcript.
+// The report of the generated recording of this number and size, which one worker runs on a fresh disk in memory: a line
+// that sums it up where it is done, and else its transcript.
 pub(crate) fn run_generated<R: Threads + Wait + Sync>(
     rt: &R,
     alloc: Global,

@@ -1,6 +1,6 @@
 //! How a run ended.
 
-ghost use Rattle.std.specs.Prelude.{◌≡◌, ℕ};
+ghost use Rattle.std.specs.Prelude.{◌≡◌};
 ghost use Rattle.sw_host.specs.Texts.{code_of, refusal_text};
 
 use sw_lock::Spent;

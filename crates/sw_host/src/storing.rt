@@ -14,10 +14,10 @@ use sw_disk::Disk;
 use sw_kept::{InitError, OpenError, init, open};
 use sw_print::print_kept;
 
-/// How long a part of the disk may grow, in bytes.
+// How long a part of the disk may grow, in bytes.
 pub(crate) const LIMIT: u64 = 4_294_967_296;
 
-/// Formats the current part of the disk.
+// Formats the current part of the disk.
 #[tactic(auto, using(crate::proofs::StoringLemmas::formatted))]
 pub(crate) fn format<D: Disk>(alloc: Global, disk: &mut D) -> Result<Report, NoMemory>
     ensures formats { IfOk result (λ report.
@@ -46,7 +46,7 @@ fn shown(alloc: Global, content: Content) -> Result<Report, NoMemory>
     })
 }
 
-/// Prints what the disk keeps.
+// Prints what the disk keeps.
 pub(crate) fn show<D: Disk>(alloc: Global, disk: &mut D) -> Result<Report, NoMemory>
     ensures shows { IfOk result (λ report.
         Shows D.Disk disk.old disk.new report.status report.text) }

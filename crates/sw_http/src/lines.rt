@@ -1,7 +1,6 @@
 //! Lists of header lines: their test, and the lines as they are kept.
 
-ghost use Rattle.std.specs.Prelude.{◌≡◌, ◌↔◌, ◌<◌, true, false, IfOk, IsErrOf, IsOk};
-ghost use Rattle.http_header.specs.FieldName.{is_field_name};
+ghost use Rattle.std.specs.Prelude.{◌≡◌, ◌<◌, IfOk};
 ghost use Rattle.sw_data.specs.Headers.{good_names, good_values, is_value, normal_line, normal_lines, trimmed};
 
 use std::alloc::Global;

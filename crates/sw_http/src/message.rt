@@ -1,6 +1,6 @@
 //! Requests and responses.
 
-ghost use Rattle.std.specs.Prelude.{◌≡◌, ◌↔◌, ◌<◌, ◌||◌, true, false, IfOk, IsErrOf, SomeIff, bytes_eq, codes, length};
+ghost use Rattle.std.specs.Prelude.{◌≡◌, ◌↔◌, ◌<◌, true, false, IfOk, IsErrOf, SomeIff, bytes_eq, length};
 ghost use Rattle.std.specs.List.{list_any};
 ghost use Rattle.http.specs.StatusCode.{IsStatusCode};
 ghost use Rattle.sw_data.specs.Headers.{capital_methods, good_names, good_values, is_token, normal_lines, normal_method};

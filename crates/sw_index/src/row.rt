@@ -21,7 +21,7 @@ pub struct Row<V> {
 }
 
 impl<V> Row<V> {
-    /// The value, which can be written.
+    // The value, which can be written.
     pub(crate) fn value_mut(&mut self) -> &mut V
         ensures* writes_back { sem 𝓛 (lends_row V.row self.entry result) }
         ensures value { result.now ≡ self.old.value }
@@ -42,7 +42,7 @@ fn asked_digest(key: &Text, name: Option<&Text>) -> u64
     }
 }
 
-/// Puts a number under the digests of a key and a name.
+// Puts a number under the digests of a key and a name.
 pub(crate) fn mark(slots: &mut Slots, key: &Text, name: &Text, number: u64) -> Result<(), NoMemory>
     ensures keeps { KeepsSlots slots.old slots.new }
     ensures marked { OnOk result ((kind : Bool)
@@ -124,7 +124,7 @@ fn before<V>(rows: &[Row<V>]) -> u64
     }
 }
 
-/// The place of the first row of a key, or of a key and a name; it takes no memory.
+// The place of the first row of a key, or of a key and a name; it takes no memory.
 pub(crate) fn first_asked<V>(
     rows: &[Row<V>],
     slots: &Slots,
@@ -146,7 +146,7 @@ pub(crate) fn first_asked<V>(
     None
 }
 
-/// Takes out the rows of a key, or of a key and a name; it takes no memory.
+// Takes out the rows of a key, or of a key and a name; it takes no memory.
 pub(crate) fn drop_asked<V: Drop>(
     rows: &mut Vec<Row<V>>,
     slots: &mut Slots,

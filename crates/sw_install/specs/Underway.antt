@@ -1,11 +1,9 @@
 -- What an event of a job past waiting needs of the tables (own).
-use Rattle.std.specs.Prelude.{◌≡◌, ℕ, Bool, true, ◌&&◌, ◌==◌, List, find, is_none, is_some, Some, None, IfSome}
+use Rattle.std.specs.Prelude.{◌≡◌, ℕ, Bool, true, ◌&&◌, List, find, is_none, is_some, Some, None, IfSome}
 use Rattle.sw_data.specs.declared.rows.JobPhase.{JobPhase}
 use Rattle.sw_data.specs.declared.rows.JobPhase.TheVariants as job_phase
 use Rattle.sw_data.specs.declared.rows.JobRow.{JobRow}
-use Rattle.sw_data.specs.declared.rows.WorkerRow.{WorkerRow}
 use Rattle.sw_data.specs.declared.workers.Slot.TheVariants as slot
-use Rattle.sw_data.specs.declared.workers.WorkerState.{WorkerState}
 use Rattle.sw_queue.specs.Tables.{is_under_way}
 use Rattle.sw_reg.specs.Table as registrations
 use Rattle.sw_reg.specs.Table.{slot_of}

@@ -1,7 +1,6 @@
 //! A job that is rejected, and its registration that leaves the map where it has no worker.
 
-ghost use Rattle.std.specs.Prelude.{◌≡◌, ◌+◌, ◌<◌, ◌≤◌, true, length, is_none};
-ghost use Rattle.sw_data.specs.declared.answers.Settlement.TheVariants as settlement;
+ghost use Rattle.std.specs.Prelude.{◌≡◌, ◌+◌, ◌<◌, true, length, is_none};
 ghost use Rattle.sw_queue.specs.Kept.{followers_of};
 ghost use Rattle.sw_queue.specs.Tables.{has_job};
 ghost use Rattle.sw_reg.specs.Table.{is_there};
@@ -22,7 +21,7 @@ use sw_scope::ScopeMap;
 use sw_tables::{finish, newest_row, settle, unmap};
 use sw_worker::Workers;
 
-/// A registration without a worker leaves the map. It takes no memory.
+// A registration without a worker leaves the map. It takes no memory.
 #[tactic(auto, unfolding(sw_rules::specs::Registrations::drop_registration))]
 pub(crate) fn drop_registration(
     registration: u32,
@@ -46,8 +45,8 @@ pub(crate) fn drop_registration(
     }
 }
 
-/// A job's promise is rejected, its registration leaves the map where it has no worker, and the job is over. It takes no
-/// memory.
+// A job's promise is rejected, its registration leaves the map where it has no worker, and the job is over. It takes no
+// memory.
 pub(crate) fn reject_and_drop(
     job: u32,
     registration: u32,

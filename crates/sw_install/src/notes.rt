@@ -5,7 +5,7 @@ ghost use Rattle.std.specs.Option.{option_copied};
 ghost use Rattle.sw_data.specs.declared.rows.JobPhase.TheVariants as job_phase;
 ghost use Rattle.sw_install.specs.Runs.{fetches};
 ghost use Rattle.sw_install.specs.Underway.{is_in};
-ghost use Rattle.sw_queue.specs.Tables.{FollowersStay, has_head, has_job};
+ghost use Rattle.sw_queue.specs.Tables.{FollowersStay, has_head};
 ghost use Rattle.sw_rules.specs.Rows.{changed, in_phase, is_job, is_waiting};
 ghost use Rattle.sw_tables.specs.Linked.{ArePlaces};
 
@@ -19,7 +19,7 @@ fn is_in_phase(row: &JobRow, phase: JobPhase) -> bool
     row.leader.is_none() && row.phase == phase
 }
 
-/// The row of a job that joined no other, in this phase. It takes no memory.
+// The row of a job that joined no other, in this phase. It takes no memory.
 pub(crate) fn job_in(job: u32, phase: JobPhase, queues: &Queues) -> Option<&JobRow>
     ensures { option_copied result ≡ option_and_then
         (λ row. if in_phase (is_in phase) row then Some row else None)
@@ -37,7 +37,7 @@ pub(crate) fn job_in(job: u32, phase: JobPhase, queues: &Queues) -> Option<&JobR
     }
 }
 
-/// A job's worker begins to install, and the newest worker is remembered. It takes no memory.
+// A job's worker begins to install, and the newest worker is remembered. It takes no memory.
 pub(crate) fn note_install(job: u32, remembered: Option<u32>, queues: &mut Queues)
     requires numbers { ArePlaces (λ row. row.job.number) queues.old.rows }
     requires head { has_head (λ row. not (is_waiting row.phase)) job queues.old.rows ≡ true }
@@ -58,7 +58,7 @@ pub(crate) fn note_install(job: u32, remembered: Option<u32>, queues: &mut Queue
     }
 }
 
-/// A worker was made for a job, which goes on to its evaluation. It takes no memory.
+// A worker was made for a job, which goes on to its evaluation. It takes no memory.
 pub(crate) fn note_worker(job: u32, worker: u32, queues: &mut Queues)
     requires numbers { ArePlaces (λ row. row.job.number) queues.old.rows }
     requires head { has_head (λ row. not (is_waiting row.phase)) job queues.old.rows ≡ true }
@@ -79,7 +79,7 @@ pub(crate) fn note_worker(job: u32, worker: u32, queues: &mut Queues)
     }
 }
 
-/// A job that has started fetches its script for a registration, with this number. It takes no memory.
+// A job that has started fetches its script for a registration, with this number. It takes no memory.
 pub(crate) fn note_fetch(job: u32, registration: u32, ordinal: u32, queues: &mut Queues)
     requires numbers { ArePlaces (λ row. row.job.number) queues.old.rows }
     requires head { has_head (λ row. not (is_waiting row.phase)) job queues.old.rows ≡ true }

@@ -6,7 +6,7 @@ ghost use Rattle.sw_client.specs.Table as clients;
 ghost use Rattle.sw_data.specs.declared.rows.Job.{Job};
 ghost use Rattle.sw_data.specs.declared.rows.JobKind.TheVariants as job_kind;
 ghost use Rattle.sw_data.specs.declared.rows.JobRow.{JobRow};
-ghost use Rattle.sw_install.specs.Runs.{HasNewRegistration, HasWhatItMaps, IsNewRegistration, IsNextDraw, IsOfKind, IsRefusal, drawn, drawn_by, is_ready, ran_answer, script_of};
+ghost use Rattle.sw_install.specs.Runs.{HasWhatItMaps, IsNewRegistration, IsNextDraw, IsOfKind, IsRefusal, drawn, drawn_by, is_ready, ran_answer, script_of};
 ghost use Rattle.sw_queue.specs.Kept.{followers_of};
 ghost use Rattle.sw_queue.specs.Tables.{has_job};
 ghost use Rattle.sw_rules.specs.Jobs.{next_draw, same_kind, same_mode};

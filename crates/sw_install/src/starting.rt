@@ -1,11 +1,11 @@
 //! A job that may run goes on to the fetch of its script.
 
-ghost use Rattle.std.specs.Prelude.{◌≡◌, ℕ, true, not};
+ghost use Rattle.std.specs.Prelude.{◌≡◌, true, not};
 ghost use Rattle.sw_client.specs.Table as clients;
 ghost use Rattle.sw_data.specs.declared.rows.Job.{Job};
 ghost use Rattle.sw_data.specs.declared.rows.JobPhase.TheVariants as job_phase;
 ghost use Rattle.sw_install.specs.Runs.{HasItsNames, drawn, fetches, is_ready};
-ghost use Rattle.sw_queue.specs.Tables.{FollowersStay, has_head, has_job, with_phase};
+ghost use Rattle.sw_queue.specs.Tables.{has_head, has_job, with_phase};
 ghost use Rattle.sw_rules.specs.Jobs.{next_draw};
 ghost use Rattle.sw_rules.specs.Noticing.{Did, NoticeList};
 ghost use Rattle.sw_rules.specs.Registering as rules;
@@ -34,7 +34,7 @@ fn start(job: u32, registration: u32, queues: &mut Queues, registrations: &Regis
     }
 }
 
-/// A job's script is to be fetched for a registration of its key and scope, with this number. It takes no memory.
+// A job's script is to be fetched for a registration of its key and scope, with this number. It takes no memory.
 pub(crate) fn fetch_script(
     job: u32,
     registration: u32,

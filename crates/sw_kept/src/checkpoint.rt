@@ -1,6 +1,6 @@
 //! Checkpoints: the content is written anew as the other part, which becomes the current one.
 
-ghost use Rattle.std.specs.Prelude.{◌≡◌, ◌↔◌, ◌+◌, ◌<◌, ◌≤◌, ℕ, length, IfOk, IsErrOf, OnErr, OnOk};
+ghost use Rattle.std.specs.Prelude.{◌≡◌, ◌↔◌, ◌+◌, ◌<◌, ◌≤◌, length, IfOk, IsErrOf, OnErr, OnOk};
 ghost use Rattle.sw_data.specs.declared.storage.Kept as content_of;
 ghost use Rattle.sw_data.specs.Faults.{Rose};
 ghost use Rattle.sw_disk.specs.DiskRule.{ForTold, capped};

@@ -33,8 +33,8 @@ fn carry_payload(alloc: Global, content: &mut Content, payload: &[u8]) -> Result
     }
 }
 
-/// The content that the changes of records make of nothing, or the offset of the gate of the first record that spells
-/// none.
+// The content that the changes of records make of nothing, or the offset of the gate of the first record that spells
+// none.
 pub(crate) fn content_by(
     alloc: Global,
     records: &[(u64, Bytes)],

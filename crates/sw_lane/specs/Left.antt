@@ -1,5 +1,5 @@
 -- What is left of each lane of a recording.
-use Rattle.std.specs.Prelude.{ℕ, ◌+◌, Bool, List, [], length, drop, set, is_some, Option, Some, None, option_map, option_and_then, slice_get}
+use Rattle.std.specs.Prelude.{ℕ, ◌+◌, List, length, drop, set, Option, option_and_then, slice_get}
 use Rattle.std.specs.Option.{option_map_or}
 use Rattle.std.specs.List.{range_with_len}
 use Rattle.sw_data.specs.declared.recordings.Action.{Action}

@@ -1,5 +1,5 @@
 -- What is picked: the lowest lane whose next action may happen, or else the first ready task that isn't in flight.
-use Rattle.std.specs.Prelude.{ℕ, Bool, true, false, not, ◌==◌, List, length, find, filter_map, is_some, Option, Some, None, option_map, if◌then◌else◌}
+use Rattle.std.specs.Prelude.{ℕ, Bool, true, false, not, ◌==◌, List, length, find, filter_map, is_some, Option, option_map, if◌then◌else◌}
 use Rattle.std.specs.Option.{option_map_or}
 use Rattle.std.specs.List.{list_any}
 use Rattle.sw_data.specs.declared.events.Event.{Event}

@@ -1,5 +1,5 @@
 -- The lanes of a recording after a history, and what a pick says of what comes next in it.
-use Rattle.std.specs.Prelude.{◌≡◌, ℕ, true, false, List, [], length, drop, is_some, Option, Some, None, option_map, slice_get}
+use Rattle.std.specs.Prelude.{◌≡◌, ℕ, true, List, [], length, drop, is_some, Some, None, option_map, slice_get}
 use Rattle.sw_data.specs.declared.events.Who.TheVariants as who
 use Rattle.sw_data.specs.declared.histories.Entry.{Entry}
 use Rattle.sw_data.specs.declared.histories.Task.{Task}

@@ -7,7 +7,7 @@ use std::collections::VecDeque;
 use std::marker::Model;
 use sw_data::{Action, Items};
 
-/// The position of a lane, and the actions that it goes on with.
+// The position of a lane, and the actions that it goes on with.
 #[derive(Drop)]
 pub(crate) struct Lane {
     at: u32,

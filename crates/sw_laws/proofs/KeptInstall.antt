@@ -16,7 +16,7 @@ use Rattle.sw_rules.specs.Jobs.{same_mode}
 use Rattle.sw_rules.specs.Registrations.{shift}
 use Rattle.sw_rules.specs.Rows.{changed, is_mapped_to, is_number, is_registration, registration_row}
 use Rattle.sw_rules.specs.State.{State, Registration, Worker}
-use Rattle.sw_rules.specs.Storage.{applied, first_waiting, kept_after, with_registration, with_waiting}
+use Rattle.sw_rules.specs.Storage.{first_waiting, with_waiting}
 use Rattle.sw_rules.specs.Storage as storage
 use Rattle.sw_laws.specs.Coherent.{SoundRegistrations, apart}
 use Rattle.sw_laws.proofs.Contents.{Slots, contents, found_in, is_worked, kept_in, kept_row, kept_with, placed_at, same_first, slots_in}

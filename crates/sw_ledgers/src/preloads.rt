@@ -8,7 +8,7 @@ use std::alloc::Global;
 use std::marker::Model;
 use sw_data::{NoMemory, Text};
 
-/// The flag and the header value of a navigation preload.
+// The flag and the header value of a navigation preload.
 #[derive(Debug, Drop)]
 pub(crate) struct Preload {
     pub(crate) on: bool,

@@ -2,7 +2,7 @@
 
 ghost use Rattle.std.specs.Prelude.{◌≡◌, ◌≤◌, ◌++◌, ◌∷◌, ◌-◌, [], true, drop, find, length, is_none, map, Some, None, option_map, IfOk};
 ghost use Rattle.std.specs.List.{range_with_len};
-ghost use Rattle.std.specs.Option.{option_copied, option_map_or};
+ghost use Rattle.std.specs.Option.{option_copied};
 ghost use Rattle.sw_rules.specs.Rows.{changed, is_task};
 ghost use Rattle.sw_ledgers.specs.Tasks.{FitsTask, has_task, row_of};
 

@@ -1,5 +1,5 @@
 //! The end of a lock, once all its passes are back.
-ghost use Rattle.std.specs.Prelude.{◌≡◌, ◌≤◌, ◌<◌, ◌+◌, ◌↔◌, ℕ, [], ◌++◌, ◌∷◌, length, All, map, vec_len, Some, IfOk, IfErr, IsErr};
+ghost use Rattle.std.specs.Prelude.{◌≡◌, ◌≤◌, ◌<◌, ◌↔◌, length, All, vec_len, Some, IfOk, IfErr, IsErr};
 ghost use Rattle.sw_lock.specs.Entries.{ThenOthers};
 ghost use Rattle.sw_lock.specs.declared.view.Place.TheVariants.{Away};
 ghost use Rattle.sw_lock.specs.Turns.{IsEnd};

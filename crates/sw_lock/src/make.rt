@@ -1,8 +1,8 @@
 //! Making a lock with its passes.
-ghost use Rattle.std.specs.Prelude.{◌≡◌, ◌≤◌, ◌<◌, ◌+◌, ℕ, [], ◌∷◌, ◌++◌, length, All, map, vec_len, vec_capacity, Some, IfOk, IfErr};
+ghost use Rattle.std.specs.Prelude.{◌≡◌, ◌≤◌, ◌<◌, ◌+◌, [], All, map, vec_capacity, Some, IfOk, IfErr};
 ghost use Rattle.std.specs.List.{range_with_len};
 ghost use Rattle.sw_lock.specs.Steps.{IsFirst};
-ghost use Rattle.sw_lock.specs.Passes.{number, seen, known, turns, opened_of, made_of, IsPassOf, IsNew};
+ghost use Rattle.sw_lock.specs.Passes.{number, turns, opened_of, made_of, IsNew};
 
 use crate::lock::Shared;
 use crate::logged::Logged;

@@ -1,5 +1,4 @@
 //! The rule of the lock's table, and what its steps tell.
-ghost use Rattle.std.specs.Prelude.{◌≡◌, ℕ, length};
 ghost use Rattle.sw_lock.specs.Turns.{Kept};
 ghost use Rattle.sw_lock.specs.Steps.{newcomer, gave, further, together, gone, drew, saw, tallied, passed, looked};
 

@@ -1,8 +1,7 @@
 //! One turn: draw a ticket, wait until it is served, work on the value, count its entries, pass on.
-ghost use Rattle.std.specs.Prelude.{◌≡◌, ◌≢◌, ◌↔◌, ℕ, ◌+◌, ◌<◌, ◌≤◌, ◌^◌, [], ◌∷◌, length, Some, None, IfOk, IfErr, IsErr};
+ghost use Rattle.std.specs.Prelude.{◌≡◌, ◌↔◌, ◌+◌, ◌<◌, ◌≤◌, ◌^◌, length, Some, IfOk, IfErr, IsErr};
 ghost use Rattle.sw_lock.specs.declared.view.Place.TheVariants.{Away};
-ghost use Rattle.sw_lock.specs.Entries.{ThenOwn};
-ghost use Rattle.sw_lock.specs.Steps.{IsIdle, Found, Advanced, Took, with_ticket, without, counting};
+ghost use Rattle.sw_lock.specs.Steps.{IsIdle, Found, Advanced, Took, with_ticket};
 ghost use Rattle.sw_lock.specs.Passes.{number, seen, known, turns, opened_of, IsPassOf, IsSame, Turned};
 
 use crate::lock::Shared;

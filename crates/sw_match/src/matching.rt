@@ -1,6 +1,6 @@
 //! Items of a cache that a query matches.
 
-ghost use Rattle.std.specs.Prelude.{◌≡◌, true, IfOk, bytes_eq, option_copied};
+ghost use Rattle.std.specs.Prelude.{◌≡◌, true, IfOk, option_copied};
 ghost use Rattle.std.specs.Option.{option_map_or};
 ghost use Rattle.sw_rules.specs.Matching.{finds_nothing, is_get, matches, matches_pair, query_of, same_address, vary_allows};
 

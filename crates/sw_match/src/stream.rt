@@ -7,7 +7,7 @@ use crate::values::first_line;
 use std::marker::Model;
 use sw_data::Header;
 
-/// The bytes of a combined value that are left.
+// The bytes of a combined value that are left.
 #[derive(Drop)]
 pub(crate) struct Stream<'a> {
     /// A space comes before the value.
@@ -27,7 +27,7 @@ impl<'a> Model for Stream<'a> {
 }
 
 impl<'a> Stream<'a> {
-    /// A value, and the further values of a field behind it.
+    // A value, and the further values of a field behind it.
     pub(crate) fn new(value: &'a [u8], headers: &'a [Header], name: &'a [u8]) -> Stream<'a>
         ensures { result ≡ value.now ++ further name.now headers.now }
     {
@@ -64,7 +64,7 @@ impl<'a> Stream<'a> {
     }
 }
 
-/// Both streams have the same bytes.
+// Both streams have the same bytes.
 pub(crate) fn same_bytes(mut left: Stream<'_>, mut right: Stream<'_>) -> bool
     ensures { result ≡ bytes_eq left.entry right.entry }
 {

@@ -1,6 +1,6 @@
 //! Combined values of a field.
 
-ghost use Rattle.std.specs.Prelude.{◌≡◌, ◌<◌, ◌++◌, ◌∷◌, [], MatchOption, IfOk, bytes_eq, length, string_bytes};
+ghost use Rattle.std.specs.Prelude.{◌≡◌, ◌<◌, ◌++◌, ◌∷◌, [], MatchOption, IfOk, length};
 ghost use Rattle.sw_data.specs.Headers.{combined, values_of};
 ghost use Rattle.sw_rules.specs.Matching.{same_values};
 ghost use Rattle.sw_match.specs.Left.{further};
@@ -10,7 +10,7 @@ use std::alloc::Global;
 use sw_data::header::same_name;
 use sw_data::{Header, NoMemory, Text};
 
-/// The first line of a field, and the lines behind it.
+// The first line of a field, and the lines behind it.
 pub(crate) fn first_line<'a>(
     headers: &'a [Header],
     name: &[u8],

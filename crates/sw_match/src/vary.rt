@@ -2,7 +2,7 @@
 
 ghost use Rattle.std.specs.Prelude.{◌≡◌, ◌&&◌, ◌||◌, ◌==◌, not, codes, length};
 ghost use Rattle.std.specs.List.{list_any, list_all, slice_split};
-ghost use Rattle.sw_data.specs.Headers.{is_ows, same_name, trimmed};
+ghost use Rattle.sw_data.specs.Headers.{same_name, trimmed};
 ghost use Rattle.sw_rules.specs.Matching.{vary_allows, varies_on_all};
 ghost use Rattle.sw_rules.specs.Matching as rules;
 ghost use Rattle.sw_match.specs.Left.{agrees, is_star};
@@ -43,7 +43,7 @@ fn has_star(value: &[u8]) -> bool
     false
 }
 
-/// The Vary value of a response lets a query have it that an item's request had.
+// The Vary value of a response lets a query have it that an item's request had.
 #[tactic(auto, using(crate::proofs::VaryLemmas::allow_lines))]
 pub(crate) fn vary_allows(query: &[Header], item: &[Header], response: &Response) -> bool
     ensures { result ≡ vary_allows query.now item.now response.now }

@@ -1,23 +1,12 @@
 -- What is found is there: a worker in a slot is one of that slot's registration, and a mapped registration is there.
-use Rattle.std.proofs.Common.{◌≡◌, ◌∙◌, ◌==◌, ◌&&◌, ℕ, Bool, true, false, List, [], Option, Some, None, is_some, option_map, refl, sym, ap, arith}
-use Rattle.std.specs.Prelude.{find}
+use Rattle.std.proofs.Common.{◌≡◌, ◌∙◌, ℕ, Bool, true, false, List, [], Option, Some, None, is_some, option_map, refl, ap}
 use Rattle.std.specs.Option.{option_map_or}
-use Rattle.std.proofs.lemmas.Bool.{and_parts}
-use Rattle.std.proofs.lemmas.Bool.Decides.{nat_tests}
 use Rattle.sw_data.specs.declared.rows.RegistrationRow.{RegistrationRow}
 use Rattle.sw_data.specs.declared.rows.WorkerRow.{WorkerRow}
-use Rattle.sw_data.specs.declared.workers.Slot.{Slot}
-use Rattle.sw_client.specs.Table as clients
-use Rattle.sw_reg.specs.Table as registrations
-use Rattle.sw_reg.specs.Table.{has_registration, is_there, registration_at, slot_of}
+use Rattle.sw_reg.specs.Table.{has_registration, is_there, registration_at}
 use Rattle.sw_rules.specs.Rows.{is_active}
 use Rattle.sw_rules.specs.State.{Worker}
-use Rattle.sw_scope.specs.Scopes.{Scopes}
-use Rattle.sw_tables.proofs.Rows.{find_passes}
-use Rattle.sw_tables.proofs.Standing.{stands}
-use Rattle.sw_tables.specs.Lent.{Rest, lent, shown_worker}
-use Rattle.sw_tables.specs.Linked.{HasSlots, registration_of}
-use Rattle.sw_worker.specs.Table as workers
+use Rattle.sw_tables.specs.Lent.{Rest, shown_worker}
 
 -- nothing else is kept
 pub nothing : Rest

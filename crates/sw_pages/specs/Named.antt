@@ -1,5 +1,5 @@
 -- What a client names: a registration by its scope, and a worker by a slot of it.
-use Rattle.std.specs.Prelude.{◌≡◌, ℕ}
+use Rattle.std.specs.Prelude.{◌≡◌}
 use Rattle.sw_client.specs.Table as clients
 use Rattle.sw_data.specs.declared.answers.Answer.{Answer}
 use Rattle.sw_data.specs.declared.events.Who.{Who}

@@ -13,7 +13,7 @@ ghost use Rattle.sw_rules.specs.Rows.{is_active, worker_row};
 ghost use Rattle.sw_scope.specs.Scopes.{Scopes};
 ghost use Rattle.sw_tables.specs.Lent.{Rest, lent};
 ghost use Rattle.sw_tables.specs.Linked.{ArePlaces, registration_of};
-ghost use Rattle.sw_worker.specs.Table.{has_worker, is_activated, worker_at};
+ghost use Rattle.sw_worker.specs.Table.{has_worker, is_activated};
 
 use crate::worked::{PageAct, Worked, answered};
 use sw_client::Clients;

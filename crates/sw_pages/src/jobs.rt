@@ -3,22 +3,16 @@
 ghost use Rattle.std.specs.Prelude.{◌≡◌, length, IfOk, Some, None, option_copied, option_map};
 ghost use Rattle.sw_client.specs.Table as clients_of;
 ghost use Rattle.sw_data.specs.Addresses.{scope_address, script_address, without_fragment};
-ghost use Rattle.sw_data.specs.declared.answers.Answer.TheVariants as answer;
 ghost use Rattle.sw_data.specs.declared.events.Who.{Who};
-ghost use Rattle.sw_data.specs.declared.rows.JobKind.TheVariants as job_kind;
-ghost use Rattle.sw_data.specs.declared.workers.Kind.TheVariants as kind;
-ghost use Rattle.sw_data.specs.declared.workers.Mode.TheVariants as mode;
-ghost use Rattle.sw_ledgers.specs.declared.promises.Awaited.TheVariants as awaited;
 ghost use Rattle.sw_pages.specs.Acts.{outcome_of};
 ghost use Rattle.sw_pages.specs.Jobs.{FitsJobs, JobsGive, asked_job, awaits, job_answer, register_job, registers, schedules, unregister_job, update_job, with_cause};
 ghost use Rattle.sw_rules.specs.Registering as rules;
 ghost use Rattle.sw_rules.specs.Rows.{named_scope};
-ghost use Rattle.sw_rules.specs.State.{State};
 ghost use Rattle.sw_rules.specs.Told.{type_error};
 ghost use Rattle.sw_scope.specs.Scopes.{Scopes};
 ghost use Rattle.sw_tables.specs.Happened.{with_jobs};
 ghost use Rattle.sw_tables.specs.Lent.{Rest, lent, shown_registration};
-ghost use Rattle.sw_tables.specs.Linked.{HasScopes, HasSlots, Linked};
+ghost use Rattle.sw_tables.specs.Linked.{HasScopes, HasSlots};
 
 use crate::worked::{PageAct, Worked, answered, rejected};
 use std::alloc::Global;
@@ -221,7 +215,7 @@ fn bare(address: &Text) -> &str
     }
 }
 
-/// The scope that a client names: its text parsed against the client's address, without its fragment.
+// The scope that a client names: its text parsed against the client's address, without its fragment.
 pub(crate) fn named_scope(
     alloc: Global,
     client: &ClientRow,

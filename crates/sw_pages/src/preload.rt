@@ -1,6 +1,6 @@
 //! Navigation preload (Service Workers, "NavigationPreloadManager").
 
-ghost use Rattle.std.specs.Prelude.{◌≡◌, true, is_some, IfOk, Some};
+ghost use Rattle.std.specs.Prelude.{◌≡◌, true, is_some, IfOk};
 ghost use Rattle.sw_client.specs.Table as clients_of;
 ghost use Rattle.sw_data.specs.declared.events.Who.{Who};
 ghost use Rattle.sw_pages.specs.Acts.{outcome_of};

@@ -38,7 +38,7 @@ pub enum Turned {
     Ended(Brief),
 }
 
-/// The end without its events; it takes no memory.
+// The end without its events; it takes no memory.
 pub(crate) fn brief_of(end: &DriveEnd) -> Brief
     ensures { result ≡ brief_of end.now }
 {
@@ -52,7 +52,7 @@ pub(crate) fn brief_of(end: &DriveEnd) -> Brief
     }
 }
 
-/// What a turn came to, as a step answers it.
+// What a turn came to, as a step answers it.
 pub(crate) fn shown(turn: Turn) -> Turned
     ensures { result ≡ shown turn }
 {

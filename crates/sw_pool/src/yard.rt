@@ -49,7 +49,7 @@ impl<D: Disk> Model for Yard<D> {
 }
 
 impl<D: Disk> Yard<D> {
-    /// A host at whose work a recording is under way.
+    // A host at whose work a recording is under way.
     pub(crate) fn new(
         alloc: Global,
         disk: D,
@@ -83,7 +83,7 @@ impl<D: Disk> Yard<D> {
         }
     }
 
-    /// The disk, what has happened, and how the work has ended, if it has. It takes no memory.
+    // The disk, what has happened, and how the work has ended, if it has. It takes no memory.
     pub(crate) fn into_parts(self) -> (D, Progress, Option<DriveEnd>)
         ensures disk { result.0 ≡ self.disk }
         ensures progress { result.1 ≡ self.progress }

@@ -1,7 +1,6 @@
 //! The texts of makers and of events.
 
 ghost use Rattle.std.specs.Prelude.{◌≡◌, IfOk, string_bytes};
-ghost use Rattle.sw_data.specs.Events.{who_of};
 ghost use Rattle.sw_print.specs.Transcript.{phase_word, who_text, call_word, event_text, mark};
 
 use std::alloc::{AllocError, Global};

@@ -1,7 +1,7 @@
 //! The texts of faults and of the values of promises.
 
 ghost use Rattle.std.specs.Prelude.{◌≡◌, IfOk, string_bytes};
-ghost use Rattle.sw_print.specs.Transcript.{cause_word, security_word, state_word, index_text, fault_text, truth_word, settlement_text};
+ghost use Rattle.sw_print.specs.Transcript.{cause_word, security_word, state_word, fault_text, truth_word, settlement_text};
 
 use std::alloc::{AllocError, Global};
 use sw_data::{Cause, Fault, SecurityCause, Settlement, StateCause};

@@ -6,7 +6,7 @@ use std::alloc::Global;
 use std::marker::Model;
 use sw_data::NoMemory;
 
-/// Lists of numbers, by place.
+// Lists of numbers, by place.
 #[derive(Drop)]
 pub(crate) struct Followers {
     lists: Vec<Vec<u32>>,

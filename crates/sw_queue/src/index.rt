@@ -10,7 +10,7 @@ use std::alloc::Global;
 use std::marker::Model;
 use sw_data::NoMemory;
 
-/// The line of each key and scope.
+// The line of each key and scope.
 #[derive(Drop)]
 pub(crate) struct Index {
     keys: IndexMap<Vec<u8>, Scopes>,

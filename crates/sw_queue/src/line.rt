@@ -8,7 +8,7 @@ use std::collections::VecDeque;
 use std::marker::Model;
 use sw_data::NoMemory;
 
-/// Numbers that stand in line.
+// Numbers that stand in line.
 #[derive(Drop)]
 pub(crate) struct Line {
     numbers: VecDeque<u32>,

@@ -1,6 +1,6 @@
 //! Which jobs are ready, found without a scan of all.
 
-ghost use Rattle.std.specs.Prelude.{◌≡◌, ◌++◌, ◌∷◌, [], ◌-◌, ◌<◌, ◌≤◌, Bool, false, drop, find, length, map, slice_set, OnOk};
+ghost use Rattle.std.specs.Prelude.{◌≡◌, ◌++◌, ◌∷◌, [], ◌-◌, ◌<◌, Bool, false, drop, find, length, map, slice_set, OnOk};
 ghost use Rattle.std.specs.Option.{option_copied};
 ghost use Rattle.sw_data.specs.declared.rows.JobRow.{JobRow};
 ghost use Rattle.sw_queue.specs.Ready.{HasFlags, moved};
@@ -10,7 +10,7 @@ use std::marker::Model;
 use sw_data::{JobPhase, JobRow, NoMemory};
 use sw_flags::Flags;
 
-/// A flag for each job and each phase that it may be ready in.
+// A flag for each job and each phase that it may be ready in.
 #[derive(Drop)]
 pub(crate) struct Ready {
     // The jobs that joined no other, wait, and stand first in their queues.

@@ -10,7 +10,7 @@ use std::alloc::Global;
 use std::marker::Model;
 use sw_data::NoMemory;
 
-/// The line of each scope.
+// The line of each scope.
 #[derive(Drop)]
 pub(crate) struct Scopes {
     lines: IndexMap<Vec<u8>, Line>,

@@ -1,6 +1,5 @@
 //! Reading a recording whole.
 
-ghost use Rattle.std.specs.Prelude.{◌≡◌};
 ghost use Rattle.sw_record.specs.Grammar as grammar;
 ghost use Rattle.sw_record.specs.Grammar.{recording_of, Reads};
 

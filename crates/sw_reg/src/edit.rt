@@ -6,7 +6,7 @@ ghost use Rattle.sw_reg.specs.Table.{has_first};
 
 use sw_data::{Mode, RegistrationRow};
 
-/// What a call does to the row of a registration.
+// What a call does to the row of a registration.
 #[derive(Debug, Clone, Copy)]
 pub(crate) enum Edit {
     /// This worker becomes the installing one.
@@ -24,7 +24,7 @@ pub(crate) enum Edit {
     Owed(bool),
 }
 
-/// Carries an edit out on a row, and tells whether the registration has got its first waiting worker. It takes no memory.
+// Carries an edit out on a row, and tells whether the registration has got its first waiting worker. It takes no memory.
 pub(crate) fn carry_out(row: &mut RegistrationRow, edit: Edit) -> bool
     ensures row { row.new ≡ edited edit row.old }
     ensures first { result ≡ (not (has_first row.old) && has_first row.new) }

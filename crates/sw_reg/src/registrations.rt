@@ -5,7 +5,6 @@ ghost use Rattle.std.specs.Option.{option_copied};
 ghost use Rattle.sw_rules.specs.Rows.{changed};
 ghost use Rattle.sw_reg.specs.Edits.{cleared, edited, new_registration, with_active, with_installing, with_mode, with_owed, with_waiting, without_installing};
 ghost use Rattle.sw_reg.specs.Fits.{FitsRegistration};
-ghost use Rattle.sw_reg.specs.Kept.{ArePlaced};
 ghost use Rattle.sw_reg.specs.Table.{firsts, has_registration, is_registration, is_there, newest_of, registration_at, slot_of};
 ghost use Rattle.sw_data.specs.declared.workers.Slot.TheVariants as in_place;
 

@@ -27,7 +27,7 @@ use Rattle.sw_tables.proofs.Rows.{find_map, found_at, map_on}
 use Rattle.sw_tables.specs.Lent.{Rest, lent, shown_registration, shown_worker}
 use Rattle.sw_tables.specs.Linked.{HasSlots}
 use Rattle.sw_worker.specs.Table as workers
-use Rattle.sw_worker.specs.Table.{is_activated, worker_at}
+use Rattle.sw_worker.specs.Table.{is_activated}
 
 filter_mapped : {X Y Z : Type 0} (h : X → Option Z) (f : Y → Option Z) (g : X → Y) → ((x : X) → h x ≡ f (g x)) → (xs : List X) → filter_map h xs ≡ filter_map f (map g xs)
 filter_mapped h f g same [] = refl

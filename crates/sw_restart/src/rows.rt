@@ -23,7 +23,7 @@ use sw_reg::Registrations;
 use sw_scope::ScopeMap;
 use sw_worker::Workers;
 
-/// Adds a registration, which has no worker, under its key and scope, and gives its number.
+// Adds a registration, which has no worker, under its key and scope, and gives its number.
 pub(crate) fn add_registration(
     alloc: Global,
     key: &Text,
@@ -143,7 +143,7 @@ fn seat(registration: u32, worker: u32, registrations: &mut Registrations)
     let _ = registrations.to_active(registration);
 }
 
-/// Adds the worker of a registration that was kept, which becomes its active one.
+// Adds the worker of a registration that was kept, which becomes its active one.
 pub(crate) fn restore_worker(
     alloc: Global,
     registration: u32,
@@ -178,7 +178,7 @@ pub(crate) fn restore_worker(
     }
 }
 
-/// A registration gets its navigation preload.
+// A registration gets its navigation preload.
 pub(crate) fn set_preload(
     alloc: Global,
     registration: u32,

@@ -1,5 +1,5 @@
 -- Small generated recordings, computed: how many actions, entries, mapped registrations and caches they come to.
-use Rattle.std.specs.Prelude.{◌≡◌, ◌+◌, ℕ, List, [], ◌∷◌, ◌++◌, length, map, fold, codes, refl, Ok, Err}
+use Rattle.std.specs.Prelude.{◌≡◌, ◌+◌, ℕ, List, [], ◌∷◌, length, fold, refl, Ok, Err}
 use Rattle.std.specs.Fmt.{digits}
 use Rattle.json.specs.Print.{escape_byte}
 use Rattle.sw_data.specs.declared.recordings.Recording.{Recording}

@@ -1,5 +1,5 @@
 -- Restarts from a kept content, computed.
-use Rattle.std.specs.Prelude.{◌≡◌, ℕ, List, [], ◌∷◌, ◌++◌, codes, true, refl}
+use Rattle.std.specs.Prelude.{◌≡◌, ℕ, List, [], ◌∷◌, ◌++◌, codes, refl}
 use Rattle.std.specs.Fmt.{digits}
 use Rattle.json.specs.Print.{escape_byte}
 use Rattle.sw_data.specs.declared.storage.Change.{Change}
@@ -9,7 +9,7 @@ use Rattle.sw_data.specs.declared.workers.Kind.TheVariants.{Classic}
 use Rattle.sw_data.specs.declared.workers.Mode.TheVariants.{Imports}
 use Rattle.sw_record.proofs.OnLiterals.{grammar_on_literals}
 use Rattle.sw_rules.proofs.OnLiterals.{steps_on_literals}
-use Rattle.sw_rows.specs.Replays.{has_lines, replayed_from}
+use Rattle.sw_rows.specs.Replays.{replayed_from}
 
 abbrev worker : KeptWorker
 worker = record { script = codes "https://a.test/sw.js"; kind = Classic; body = codes "// v1" }

@@ -1,10 +1,10 @@
 -- Recordings of conformance/small/updating, computed from their lines to the transcript and to the text of what is kept.
-use Rattle.std.specs.Prelude.{◌≡◌, List, [], ◌∷◌, ◌++◌, true, codes, refl}
+use Rattle.std.specs.Prelude.{◌≡◌, [], ◌++◌, true, codes, refl}
 use Rattle.std.specs.Fmt.{digits}
 use Rattle.json.specs.Print.{escape_byte}
 use Rattle.sw_record.proofs.OnLiterals.{grammar_on_literals}
 use Rattle.sw_rules.proofs.OnLiterals.{steps_on_literals}
-use Rattle.sw_rows.specs.Replays.{has_lines, replayed}
+use Rattle.sw_rows.specs.Replays.{replayed}
 
 row_044 :
     replayed

@@ -1,5 +1,5 @@
 -- Recordings of conformance/worked, computed from their lines to the transcript and to the text of what is kept.
-use Rattle.std.specs.Prelude.{◌≡◌, List, [], ◌∷◌, ◌++◌, true, codes, refl}
+use Rattle.std.specs.Prelude.{◌≡◌, [], ◌∷◌, ◌++◌, true, codes, refl}
 use Rattle.std.specs.Fmt.{digits}
 use Rattle.json.specs.Print.{escape_byte}
 use Rattle.sw_record.proofs.OnLiterals.{grammar_on_literals}

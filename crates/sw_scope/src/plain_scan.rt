@@ -1,6 +1,6 @@
 //! The longest scope by a plain scan.
 
-ghost use Rattle.std.specs.Prelude.{◌≡◌, Option, length, map, option_map};
+ghost use Rattle.std.specs.Prelude.{◌≡◌, Option, map, option_map};
 ghost use Rattle.sw_rules.specs.Matching.{Scope, longer, longest};
 ghost use Rattle.sw_scope.specs.Scopes.{as_scope, sized};
 

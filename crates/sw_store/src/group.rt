@@ -8,7 +8,7 @@ use std::marker::Model;
 use std::mem;
 use sw_data::{Entry, NoMemory};
 
-/// The entries of the events that wait, and the spellings of their changes.
+// The entries of the events that wait, and the spellings of their changes.
 #[derive(Drop)]
 pub(crate) struct Group {
     entries: Vec<Entry>,
@@ -40,7 +40,7 @@ fn stamp_all(entries: &mut [Entry], clock: u64)
 }
 
 impl Group {
-    /// Nothing waits.
+    // Nothing waits.
     pub(crate) fn new(alloc: Global) -> Group
         ensures entries { result.entries ≡ [] }
         ensures payload { result.payload ≡ [] }
@@ -51,21 +51,21 @@ impl Group {
         }
     }
 
-    /// How many events wait.
+    // How many events wait.
     pub(crate) fn len(&self) -> usize
         ensures { result ≡ length self.now.entries }
     {
         self.entries.len()
     }
 
-    /// The spellings of the changes that wait.
+    // The spellings of the changes that wait.
     pub(crate) fn payload(&self) -> &[u8]
         ensures { result.now ≡ self.now.payload }
     {
         self.payload.as_slice()
     }
 
-    /// Makes room for one entry more, and so many bytes.
+    // Makes room for one entry more, and so many bytes.
     pub(crate) fn make_room(&mut self, bytes: usize) -> Result<(), NoMemory>
         ensures entries { self.new.entries ≡ self.old.entries }
         ensures payload { self.new.payload ≡ self.old.payload }
@@ -77,7 +77,7 @@ impl Group {
         Ok(())
     }
 
-    /// One entry more, and the spellings of its changes. It takes no memory.
+    // One entry more, and the spellings of its changes. It takes no memory.
     pub(crate) fn add(&mut self, entry: Entry, more: &[u8])
         requires entry_room { 0 < self.old.entry_room }
         requires payload_room { length more.now ≤ self.old.payload_room }
@@ -90,7 +90,7 @@ impl Group {
         }
     }
 
-    /// Takes the entries, which were acknowledged at this clock. It takes no memory.
+    // Takes the entries, which were acknowledged at this clock. It takes no memory.
     pub(crate) fn take_stamped(&mut self, alloc: Global, clock: u64) -> Vec<Entry>
         ensures taken { result.items ≡ all_stamped clock self.old.entries }
         ensures left { self.new.entries ≡ [] }
@@ -102,7 +102,7 @@ impl Group {
         entries
     }
 
-    /// Takes the entries, as they are. It takes no memory.
+    // Takes the entries, as they are. It takes no memory.
     pub(crate) fn take(&mut self, alloc: Global) -> Vec<Entry>
         ensures taken { result.items ≡ self.old.entries }
         ensures left { self.new.entries ≡ [] }

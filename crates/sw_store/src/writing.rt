@@ -1,6 +1,6 @@
 //! What waits is written, and what is kept is written anew.
 
-ghost use Rattle.std.specs.Prelude.{◌≡◌, ◌≢◌, ◌⊎◌, ◌≤◌, ◌+◌, ◌↔◌, [], ℕ, List, Vec, length, true, false, IfOk, IsErrOf, OnErr, OnOk, None, Some};
+ghost use Rattle.std.specs.Prelude.{◌≡◌, ◌≢◌, ◌≤◌, ◌+◌, ◌↔◌, [], ℕ, List, Vec, length, true, false, IfOk, IsErrOf, OnErr, OnOk, None, Some};
 ghost use Rattle.sw_codec.specs.Spelling.{spelled_all};
 ghost use Rattle.sw_data.specs.declared.histories.Entry as entries_of;
 ghost use Rattle.sw_data.specs.declared.storage.Change as changes;

@@ -20,7 +20,7 @@ use Rattle.sw_tables.proofs.Rows.{any_at, any_map, find_map, found_number, no_ro
 use Rattle.sw_tables.specs.Lent.{Rest, lent, shown_registration, shown_worker}
 use Rattle.sw_tables.specs.Linked.{ArePlaces, HasScopes, HasSlots}
 use Rattle.sw_worker.specs.Table as workers
-use Rattle.sw_worker.specs.Table.{has_worker, worker_at}
+use Rattle.sw_worker.specs.Table.{worker_at}
 
 -- ---- workers
 

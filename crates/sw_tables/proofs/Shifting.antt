@@ -9,7 +9,7 @@ use Rattle.sw_data.specs.declared.workers.Slot.TheVariants as place
 use Rattle.sw_data.specs.declared.workers.WorkerState.{WorkerState}
 use Rattle.sw_data.specs.declared.workers.WorkerState.TheVariants as worker_state
 use Rattle.sw_reg.specs.Table as registrations
-use Rattle.sw_reg.specs.Table.{is_registration, registration_at, slot_of}
+use Rattle.sw_reg.specs.Table.{slot_of}
 use Rattle.sw_rules.specs.Rows.{changed, in_slot, is_number}
 use Rattle.sw_tables.proofs.Moves.{passing, there}
 use Rattle.sw_tables.proofs.Rows.{at_changed, map_on}
@@ -19,7 +19,7 @@ use Rattle.sw_tables.specs.Linked.{HasSlots, runs_handler}
 use Rattle.sw_tables.specs.Shifts.{cleared_worker, is_of, promoted_worker, retired}
 use Rattle.sw_worker.specs.Edits.{advanced, started}
 use Rattle.sw_worker.specs.Table as workers
-use Rattle.sw_worker.specs.Table.{has_pending, has_worker, is_activated, is_idle, is_worker, may_advance, may_follow, worker_at}
+use Rattle.sw_worker.specs.Table.{has_worker, is_idle, is_worker, may_advance, may_follow, worker_at}
 
 pub none_retired : (worker : Option ℕ) (rows : List WorkerRow) → worker ≡ None → retired worker rows ≡ rows
 none_retired worker [] is = refl

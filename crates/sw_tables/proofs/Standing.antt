@@ -21,7 +21,7 @@ use Rattle.sw_tables.specs.Lent.{Rest, lent, shown_worker}
 use Rattle.sw_tables.specs.Linked.{HasSlots}
 use Rattle.sw_tables.specs.Shifts.{is_of, told_redundant}
 use Rattle.sw_worker.specs.Table as workers
-use Rattle.sw_worker.specs.Table.{has_worker, may_advance, may_follow, worker_at}
+use Rattle.sw_worker.specs.Table.{may_advance, may_follow, worker_at}
 
 pub is_same : (a b : ℕ) → a ≡ b → (a == b) ≡ true
 is_same a b is = grind (arith, nat_tests, is)

@@ -5,7 +5,6 @@ use Rattle.std.specs.Option.{option_map_or}
 use Rattle.std.proofs.lemmas.Bool.{and_parts}
 use Rattle.std.proofs.lemmas.List.{append-nil}
 use Rattle.sw_client.specs.Table as clients
-use Rattle.sw_client.specs.Table.{users_of}
 use Rattle.sw_data.specs.declared.rows.WorkerRow.{WorkerRow}
 use Rattle.sw_data.specs.declared.workers.Slot.{Slot}
 use Rattle.sw_data.specs.declared.workers.Slot.TheVariants as place
@@ -31,7 +30,7 @@ use Rattle.sw_tables.specs.Linked.{HasSlots, IsNoted}
 use Rattle.sw_tables.specs.Parts.{is_activating}
 use Rattle.sw_tables.specs.Shifts.{is_free, may_replace, picked}
 use Rattle.sw_worker.specs.Table as workers
-use Rattle.sw_worker.specs.Table.{has_pending, has_worker, is_running, worker_at}
+use Rattle.sw_worker.specs.Table.{has_pending, is_running, worker_at}
 
 pub quiet_did : (state : State) (before : NoticeList) → Did (quiet state) before before state
 quiet_did state before = record { state = refl; notices = sym (append-nil before.rows) }

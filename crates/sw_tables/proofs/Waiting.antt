@@ -14,7 +14,7 @@ use Rattle.sw_data.specs.declared.workers.WorkerState.{WorkerState}
 use Rattle.sw_data.specs.declared.workers.WorkerState.TheVariants as worker_state
 use Rattle.sw_reg.specs.Edits.{with_owed, with_waiting}
 use Rattle.sw_reg.specs.Table as registrations
-use Rattle.sw_reg.specs.Table.{firsts, has_first, has_registration, is_registration, registration_at, slot_of}
+use Rattle.sw_reg.specs.Table.{firsts, has_registration, is_registration, registration_at, slot_of}
 use Rattle.sw_rules.specs.Installing.{become_waiting, first_counter, install_state, placed}
 use Rattle.sw_rules.specs.Noticing.{NoticeList}
 use Rattle.sw_rules.specs.Registrations.{shift, tell_redundant}

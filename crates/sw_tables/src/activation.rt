@@ -1,7 +1,6 @@
 //! How a registration is cleared, and how its waiting worker becomes the active one.
 
 ghost use Rattle.std.specs.Prelude.{◌≡◌, ◌<◌, ◌≤◌, ◌+◌, ◌++◌, ◌∷◌, [], true, false, ◌&&◌, ◌||◌, ℕ, All, Some, IfSome};
-ghost use Rattle.std.specs.Option.{option_map_or};
 ghost use Rattle.sw_client.specs.Table as clients_table;
 ghost use Rattle.sw_client.specs.Table.{users_of};
 ghost use Rattle.sw_data.specs.declared.answers.Notice.TheVariants as notice;
@@ -23,7 +22,7 @@ ghost use Rattle.sw_tables.specs.Shifts.{IsQuiet, cleared_worker, is_free, is_of
 ghost use Rattle.sw_tables.specs.Parts.{SlotsDid, is_activating, StayLinked};
 ghost use Rattle.sw_worker.specs.Edits.{advanced, started};
 ghost use Rattle.sw_worker.specs.Table as workers_table;
-ghost use Rattle.sw_worker.specs.Table.{has_pending, has_worker, is_idle, is_worker, may_advance, may_follow};
+ghost use Rattle.sw_worker.specs.Table.{has_pending, has_worker, is_idle, is_worker, may_advance};
 
 use sw_client::Clients;
 use sw_data::{Notice, Phase, Slot, WorkerState};

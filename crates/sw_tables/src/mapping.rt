@@ -1,6 +1,6 @@
 //! The map of scopes and the rows of registrations: making, mode, leaving the map, and the owed Try Activate.
 
-ghost use Rattle.std.specs.Prelude.{◌≡◌, ◌+◌, ◌<◌, ℕ, Bool, List, codes, false, true, length, Option, None, if◌then◌else◌};
+ghost use Rattle.std.specs.Prelude.{◌≡◌, ◌+◌, ◌<◌, ℕ, List, codes, false, true, length, None, if◌then◌else◌};
 ghost use Rattle.sw_client.specs.Table as clients;
 ghost use Rattle.sw_data.specs.declared.rows.Job.{Job};
 ghost use Rattle.sw_reg.specs.Edits.{new_registration};
@@ -10,7 +10,7 @@ ghost use Rattle.sw_rules.specs.Activating.{paid};
 ghost use Rattle.sw_rules.specs.Noticing.{Did};
 ghost use Rattle.sw_rules.specs.Registrations as rules;
 ghost use Rattle.sw_rules.specs.Rows.{is_number};
-ghost use Rattle.sw_scope.specs.Scopes.{Fits, Scopes, maps, without_scope};
+ghost use Rattle.sw_scope.specs.Scopes.{Fits, maps, without_scope};
 ghost use Rattle.sw_tables.specs.Lent.{Rest, lent};
 ghost use Rattle.sw_tables.specs.Linked.{ArePlaces, HasScopes, Linked};
 ghost use Rattle.sw_tables.specs.Parts.{SlotsBecome, StayLinked};

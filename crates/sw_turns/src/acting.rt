@@ -5,7 +5,7 @@ ghost use Rattle.sw_data.specs.Events.{event_of_action};
 
 use sw_data::{Action, Event, Who};
 
-/// The event that an action is, with its maker. It takes no memory.
+// The event that an action is, with its maker. It takes no memory.
 #[tactic(auto, unfolding(sw_data::specs::Events::event_of_action))]
 pub(crate) fn event_of_action(who: Who, action: Action) -> Event
     ensures { result ≡ event_of_action who action }

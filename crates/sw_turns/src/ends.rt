@@ -37,7 +37,7 @@ pub enum Turn {
     Idle,
 }
 
-/// Why no further event joins a group.
+// Why no further event joins a group.
 #[derive(Drop)]
 pub(crate) enum Stop {
     /// It has sixteen events, or one for which the group before had no room.

@@ -88,7 +88,7 @@ fn added(alloc: Global, core: &Core, net: &Net, task: u32) -> Result<Event, NoMe
     })
 }
 
-/// The event of a ready task, with the lines that the recording gives for its fetches.
+// The event of a ready task, with the lines that the recording gives for its fetches.
 pub(crate) fn task_event(
     alloc: Global,
     core: &Core,

@@ -33,7 +33,7 @@ use sw_store::{StageError, Store};
 // The most events of a group.
 const SIXTEEN: usize = 16;
 
-/// An event that comes next happens, and waits.
+// An event that comes next happens, and waits.
 pub(crate) fn enter(alloc: Global, store: &mut Store, event: Event, pass: u32) -> Result<(), Stop>
     requires coherent { Coherent (state_of store.old.core) }
     requires enabled { enabled (state_of store.old.core) event ≡ true }
@@ -287,8 +287,8 @@ fn fill(
     }
 }
 
-/// A group of events of a pass happens, the event of the fetch that it has taken up first: until sixteen wait, or no
-/// further one may join.
+// A group of events of a pass happens, the event of the fetch that it has taken up first: until sixteen wait, or no
+// further one may join.
 pub(crate) fn begin(
     alloc: Global,
     store: &mut Store,

@@ -19,7 +19,7 @@ use sw_data::{Event, NoMemory, Task, Who};
 use sw_lane::Lanes;
 use sw_net::Net;
 
-/// The event of the next action of a lane, which is taken.
+// The event of the next action of a lane, which is taken.
 pub(crate) fn action_event(
     core: &Core,
     lanes: &mut Lanes,
@@ -39,7 +39,7 @@ pub(crate) fn action_event(
     event_of_action(Who::Lane { lane, at }, action)
 }
 
-/// The event of the first ready task, which is no fetch.
+// The event of the first ready task, which is no fetch.
 pub(crate) fn ready_event(
     alloc: Global,
     core: &Core,
@@ -60,8 +60,8 @@ pub(crate) fn ready_event(
     task_event(alloc, core, net, task)
 }
 
-/// The event of the fetch that a pass has taken up, which it hasn't any more then. None exactly where it has taken up
-/// none.
+// The event of the fetch that a pass has taken up, which it hasn't any more then. None exactly where it has taken up
+// none.
 pub(crate) fn landing(
     alloc: Global,
     core: &Core,

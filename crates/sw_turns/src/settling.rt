@@ -94,8 +94,8 @@ fn tend<D: Disk>(alloc: Global, store: &mut Store, disk: &mut D) -> Result<(), D
     }
 }
 
-/// What waits is written, and its entries are the history's; where changes were written, what is kept is written anew if
-/// that is due.
+// What waits is written, and its entries are the history's; where changes were written, what is kept is written anew if
+// that is due.
 pub(crate) fn settle<D: Disk>(
     alloc: Global,
     store: &mut Store,

@@ -1,6 +1,6 @@
 //! The ones that Root begins with, and the part that they tell.
 
-ghost use Rattle.std.specs.Prelude.{◌≡◌, ◌<◌, ◌≤◌, ◌+◌, true, false, length, drop, IfOk, IsErr};
+ghost use Rattle.std.specs.Prelude.{◌≡◌, ◌<◌, ◌≤◌, ◌+◌, true, false, drop, IfOk, IsErr};
 ghost use Rattle.sw_data.specs.Faults.{Rose};
 ghost use Rattle.sw_disk.specs.DiskRule.{ForTold};
 ghost use Rattle.sw_journal.specs.Quiet.{IsQuiet};

@@ -4,7 +4,7 @@ ghost use Rattle.std.specs.Prelude.{◌≡◌, ◌↔◌, ◌+◌, ◌-◌, ◌^
 ghost use Rattle.std.specs.Prelude.{IfOk, IfErr, IsErrOf, OnOk, OnErr};
 ghost use Rattle.sw_data.specs.Faults.{Rose};
 ghost use Rattle.sw_disk.specs.Image.{Image};
-ghost use Rattle.sw_disk.specs.DiskRule.{ForTold, OnPart, Puts, written, Stepped, capped};
+ghost use Rattle.sw_disk.specs.DiskRule.{ForTold, Puts, written, Stepped, capped};
 ghost use Rattle.sw_disk.specs.Meanings.{Becomes, IsDurable, LeavesSteps};
 ghost use Rattle.sw_journal.specs.Content.{BadAt, Records, content};
 ghost use Rattle.sw_journal.specs.Content as parts;

@@ -1,9 +1,9 @@
 //! Resolved, script and scope addresses.
 
-ghost use Rattle.std.specs.Prelude.{◌≡◌, ◌↔◌, List, ℕ, Option, take, codes, Some, None, Ok, Err, ok_or, option_map, option_copied, IfOk, IsErrOf, IsNone, IsSome, IsTrue};
+ghost use Rattle.std.specs.Prelude.{◌≡◌, ◌↔◌, List, ℕ, Option, take, Some, None, Ok, Err, ok_or, option_map, option_copied, IfOk, IsErrOf, IsNone, IsSome, IsTrue};
 ghost use Rattle.url.specs.Parser.{parse_url};
 ghost use Rattle.url.specs.Parts.{Parts, serialize};
-ghost use Rattle.sw_data.specs.Addresses.{AddressFault, Unparsed, Scheme, EscapedSlash, accepted, address_of, has_escaped_slash, is_escaped_slash, is_within_bound, no_fragment, parsed_against, when_parsed, resolved, scope_address, scope_bound, script_address, without_fragment, without_query};
+ghost use Rattle.sw_data.specs.Addresses.{Unparsed, Scheme, EscapedSlash, accepted, address_of, has_escaped_slash, is_escaped_slash, is_within_bound, no_fragment, parsed_against, when_parsed, resolved, scope_address, scope_bound, script_address, without_fragment, without_query};
 ghost use Rattle.sw_url.specs.Answers.{Answers, UnlessNoMemory};
 ghost use Rattle.sw_url.specs.HttpAddress.{http_address};
 

@@ -26,7 +26,7 @@ use Rattle.sw_queue.specs.Tables.{is_under_way}
 use Rattle.sw_reg.specs.Table as registrations
 use Rattle.sw_reg.specs.Table.{slot_of}
 use Rattle.sw_rules.specs.Rows as rules
-use Rattle.sw_rules.specs.Rows.{first_job, in_phase, in_slot, is_evaluating, is_first, is_installing, is_job, is_number, is_unfinished}
+use Rattle.sw_rules.specs.Rows.{in_phase, in_slot, is_evaluating, is_first, is_installing, is_job, is_number, is_unfinished}
 use Rattle.sw_rules.specs.State.{State, Registration, Worker}
 use Rattle.sw_scope.specs.Scopes.{Scopes}
 use Rattle.sw_tables.proofs.Lookups.{worker_shown}

@@ -1,5 +1,5 @@
 -- What a plan does to the state of a host, and what it needs of the host's tables.
-use Rattle.std.specs.Prelude.{◌≡◌, ◌≤◌, ◌<◌, ◌+◌, ◌*◌, ℕ, Bool, true, false, nat_lt, List, [], ◌∷◌, ◌++◌, codes, find, length, is_none, Option, Some, None, IfSome}
+use Rattle.std.specs.Prelude.{◌≡◌, ◌<◌, ◌+◌, ◌*◌, ℕ, Bool, true, false, nat_lt, List, [], ◌∷◌, ◌++◌, codes, find, length, is_none, Option, Some, None, IfSome}
 use Rattle.std.specs.Option.{option_map_or}
 use Rattle.sw_cachestorage.specs.Acts.{FitsAct, acted}
 use Rattle.sw_cachestorage.specs.Added.{IsAdded}

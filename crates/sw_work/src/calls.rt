@@ -2,13 +2,13 @@
 
 ghost use Rattle.std.specs.Prelude.{◌≡◌, ℕ, true, List, IfOk, IfSome, Some, None, if◌then◌else◌};
 ghost use Rattle.std.specs.Option.{option_copied};
+ghost use Rattle.sw_cachestorage.specs.Actions.{acts_on_caches};
 ghost use Rattle.sw_cachestorage.specs.Acts.{FitsAct, IsOutcome, IsStep};
 ghost use Rattle.sw_cachestorage.specs.Adding.{FitsStart, begun};
 ghost use Rattle.sw_client.specs.Table as clients_of;
 ghost use Rattle.sw_data.specs.declared.events.Who.{Who};
 ghost use Rattle.sw_data.specs.declared.workers.Phase.{Phase};
 ghost use Rattle.sw_data.specs.Events.{is_handler};
-ghost use Rattle.sw_durable.specs.OfCaches.{is_on_caches};
 ghost use Rattle.sw_laws.specs.Coherent.{Coherent};
 ghost use Rattle.sw_pages.specs.Acts as pages;
 ghost use Rattle.sw_pages.specs.Jobs.{FitsJobs};
@@ -128,7 +128,7 @@ fn on_caches(
     call: &Call,
     caches: &mut Caches,
 ) -> Result<CacheStep, NoMemory>
-    requires { is_on_caches call.now ≡ true }
+    requires { acts_on_caches call.now ≡ true }
     ensures same { caches.new.rows ≡ caches.old.rows }
     ensures fits { IfOk result (λ step. FitsAct step.act caches.new) }
     ensures step { IfOk result (λ step. (by : Who) (in_phase : Phase) → IsStep caches.old.rows
@@ -152,7 +152,7 @@ pub fn caches_work(
     call: &Call,
     caches: &mut Caches,
 ) -> Result<Work, NoMemory>
-    requires caches { is_on_caches call.now ≡ true }
+    requires caches { acts_on_caches call.now ≡ true }
     requires left { workers_of.has_calls_left row.now ≡ true }
     ensures same { caches.new.rows ≡ caches.old.rows }
     ensures fits { IfOk result (λ work. (host : Hosted) → HasRow row.now host

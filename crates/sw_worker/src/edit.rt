@@ -1,13 +1,13 @@
 //! What becomes of the row of a worker.
 
 ghost use Rattle.std.specs.Prelude.{◌≡◌, true, Some};
-ghost use Rattle.sw_worker.specs.Edits.{allows, call_counted, edited, task_counted};
+ghost use Rattle.sw_worker.specs.Edits.{allows, edited};
 ghost use Rattle.sw_worker.specs.Kept.{Counts};
 ghost use Rattle.sw_worker.specs.Table.{has_calls_left, has_unsettled};
 
 use sw_data::{HandlerRow, Phase, WorkerRow, WorkerState};
 
-/// What a call does to the row of a worker.
+// What a call does to the row of a worker.
 #[derive(Debug, Clone, Copy)]
 pub(crate) enum Edit {
     /// It goes on to this state.
@@ -50,7 +50,7 @@ fn task_settled(row: &mut WorkerRow, fault: bool)
     }
 }
 
-/// Carries an edit out on a row. It takes no memory.
+// Carries an edit out on a row. It takes no memory.
 pub(crate) fn carry_out(row: &mut WorkerRow, edit: Edit)
     requires allowed { allows edit row.old ≡ true }
     requires counts { Counts row.old }

@@ -119,7 +119,7 @@ fn steps_of(alloc: Global, count: u32, bytes: &[u8]) -> Result<(Items<Op>, &[u8]
     Ok((ops, rest))
 }
 
-/// The operations of a batch, at least one.
+// The operations of a batch, at least one.
 #[tactic(auto, unfolding(crate::specs::Reading::counted_at))]
 pub(crate) fn ops_of(alloc: Global, bytes: &[u8]) -> Result<(Items<Op>, &[u8]), Fault>
     ensures { Gives (λ x. (x.0, x.1.now)) result (ops_at bytes.now) }

@@ -10,7 +10,7 @@ use std::alloc::Global;
 use std::str;
 use sw_data::{Bytes, Kind, Mode, Options, Text};
 
-/// The byte in front.
+// The byte in front.
 pub(crate) fn byte_of(bytes: &[u8]) -> Result<(u8, &[u8]), Fault>
     ensures { Gives (λ x. (x.0, x.1.now)) result (byte_at bytes.now) }
 {
@@ -20,7 +20,7 @@ pub(crate) fn byte_of(bytes: &[u8]) -> Result<(u8, &[u8]), Fault>
     }
 }
 
-/// The number that two bytes tell.
+// The number that two bytes tell.
 pub(crate) fn u16_of(bytes: &[u8]) -> Result<(u16, &[u8]), Fault>
     ensures { Gives (λ x. (x.0, x.1.now)) result (number_at w16 bytes.now) }
 {
@@ -31,7 +31,7 @@ pub(crate) fn u16_of(bytes: &[u8]) -> Result<(u16, &[u8]), Fault>
     Ok((u16::from_be_bytes([front[0], front[1]]), rest))
 }
 
-/// The number that four bytes tell.
+// The number that four bytes tell.
 pub(crate) fn u32_of(bytes: &[u8]) -> Result<(u32, &[u8]), Fault>
     ensures { Gives (λ x. (x.0, x.1.now)) result (number_at w32 bytes.now) }
 {
@@ -58,7 +58,7 @@ fn span_of(bytes: &[u8]) -> Result<(&[u8], &[u8]), Fault>
     Ok(rest.split_at(size))
 }
 
-/// A body.
+// A body.
 pub(crate) fn bytes_of(alloc: Global, bytes: &[u8]) -> Result<(Bytes, &[u8]), Fault>
     ensures { Gives (λ x. (x.0, x.1.now)) result (bytes_at bytes.now) }
 {
@@ -66,7 +66,7 @@ pub(crate) fn bytes_of(alloc: Global, bytes: &[u8]) -> Result<(Bytes, &[u8]), Fa
     Ok((Bytes::of(alloc, body)?, rest))
 }
 
-/// A text.
+// A text.
 #[tactic(auto, unfolding(crate::specs::Reading::text_at))]
 pub(crate) fn text_of(alloc: Global, bytes: &[u8]) -> Result<(Text, &[u8]), Fault>
     ensures { Gives (λ x. (x.0, x.1.now)) result (text_at bytes.now) }
@@ -78,7 +78,7 @@ pub(crate) fn text_of(alloc: Global, bytes: &[u8]) -> Result<(Text, &[u8]), Faul
     }
 }
 
-/// A mode.
+// A mode.
 #[tactic(auto, unfolding(crate::specs::Reading::mode_at))]
 pub(crate) fn mode_of(bytes: &[u8]) -> Result<(Mode, &[u8]), Fault>
     ensures { Gives (λ x. (x.0, x.1.now)) result (mode_at bytes.now) }
@@ -92,7 +92,7 @@ pub(crate) fn mode_of(bytes: &[u8]) -> Result<(Mode, &[u8]), Fault>
     }
 }
 
-/// The type of a script.
+// The type of a script.
 #[tactic(auto, unfolding(crate::specs::Reading::kind_at))]
 pub(crate) fn kind_of(bytes: &[u8]) -> Result<(Kind, &[u8]), Fault>
     ensures { Gives (λ x. (x.0, x.1.now)) result (kind_at bytes.now) }
@@ -105,7 +105,7 @@ pub(crate) fn kind_of(bytes: &[u8]) -> Result<(Kind, &[u8]), Fault>
     }
 }
 
-/// A truth value.
+// A truth value.
 #[tactic(auto, unfolding(crate::specs::Reading::flag_at))]
 pub(crate) fn flag_of(bytes: &[u8]) -> Result<(bool, &[u8]), Fault>
     ensures { Gives (λ x. (x.0, x.1.now)) result (flag_at bytes.now) }
@@ -118,7 +118,7 @@ pub(crate) fn flag_of(bytes: &[u8]) -> Result<(bool, &[u8]), Fault>
     }
 }
 
-/// The options of a query, as the low three bits of a byte.
+// The options of a query, as the low three bits of a byte.
 #[tactic(auto, unfolding(crate::specs::Reading::options_at))]
 pub(crate) fn options_of(bytes: &[u8]) -> Result<(Options, &[u8]), Fault>
     ensures { Gives (λ x. (x.0, x.1.now)) result (options_at bytes.now) }

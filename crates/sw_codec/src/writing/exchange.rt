@@ -93,7 +93,7 @@ fn put_steps(out: &mut Vec<u8>, ops: &[Op]) -> Result<(), NoMemory>
     Ok(())
 }
 
-/// Writes the operations of a batch.
+// Writes the operations of a batch.
 pub(crate) fn put_ops(out: &mut Vec<u8>, ops: &[Op]) -> Result<(), NoMemory>
     ensures bytes { OnOk result (out.new.items ≡ out.old.items
         ++ counted_spelling op_spelling ops.now) }

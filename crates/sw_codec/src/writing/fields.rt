@@ -6,7 +6,7 @@ ghost use Rattle.sw_codec.specs.Spelling.{bytes_spelling, is_body, is_length, is
 
 use sw_data::{Bytes, Kind, Mode, NoMemory, Options, Text};
 
-/// Writes a length or a count, where four bytes tell it.
+// Writes a length or a count, where four bytes tell it.
 pub(crate) fn put_length(out: &mut Vec<u8>, size: usize) -> Result<(), NoMemory>
     ensures bytes { OnOk result (out.new.items ≡ out.old.items ++ to_be_bytes w32 size) }
     ensures fits { IfOk result (λ _. is_length size ≡ true) }
@@ -29,7 +29,7 @@ fn put_span(out: &mut Vec<u8>, bytes: &[u8]) -> Result<(), NoMemory>
     Ok(())
 }
 
-/// Writes a body.
+// Writes a body.
 pub(crate) fn put_bytes(out: &mut Vec<u8>, body: &Bytes) -> Result<(), NoMemory>
     ensures bytes { OnOk result (out.new.items ≡ out.old.items ++ bytes_spelling body.now) }
     ensures fits { IfOk result (λ _. is_body body.now ≡ true) }
@@ -37,7 +37,7 @@ pub(crate) fn put_bytes(out: &mut Vec<u8>, body: &Bytes) -> Result<(), NoMemory>
     put_span(out, body.as_bytes())
 }
 
-/// Writes a text.
+// Writes a text.
 pub(crate) fn put_text(out: &mut Vec<u8>, text: &Text) -> Result<(), NoMemory>
     ensures bytes { OnOk result (out.new.items ≡ out.old.items ++ bytes_spelling text.now) }
     ensures fits { IfOk result (λ _. is_text text.now ≡ true) }
@@ -45,7 +45,7 @@ pub(crate) fn put_text(out: &mut Vec<u8>, text: &Text) -> Result<(), NoMemory>
     put_span(out, text.as_str().as_bytes())
 }
 
-/// The byte of a mode.
+// The byte of a mode.
 pub(crate) fn mode_byte(mode: Mode) -> u8
     ensures { result ≡ mode_byte mode }
 {
@@ -56,7 +56,7 @@ pub(crate) fn mode_byte(mode: Mode) -> u8
     }
 }
 
-/// The byte of the type of a script.
+// The byte of the type of a script.
 pub(crate) fn kind_byte(kind: Kind) -> u8
     ensures { result ≡ kind_byte kind }
 {
@@ -66,14 +66,14 @@ pub(crate) fn kind_byte(kind: Kind) -> u8
     }
 }
 
-/// The bit of this value, where the flag is set.
+// The bit of this value, where the flag is set.
 pub(crate) fn bit(value: u8, flag: bool) -> u8
     ensures { result ≡ bit value flag }
 {
     if flag { value } else { 0 }
 }
 
-/// The byte of the options of a query.
+// The byte of the options of a query.
 pub(crate) fn options_byte(options: Options) -> u8
     ensures { result ≡ options_byte options }
 {

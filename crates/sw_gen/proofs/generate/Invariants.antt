@@ -1,4 +1,4 @@
-use Rattle.std.proofs.Common.{◌≡◌, string_bytes}
+use Rattle.std.proofs.Common.{◌≡◌}
 use Rattle.sw_gen.specs.Generated.{made}
 use Rattle.sw_gen.proofs.generate.Given as goal
 

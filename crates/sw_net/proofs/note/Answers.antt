@@ -1,4 +1,4 @@
-use Rattle.std.proofs.Common.{◌≡◌, ◌∙◌, sym, ap}
+use Rattle.std.proofs.Common.{◌∙◌, sym, ap}
 use Rattle.sw_net.specs.Places.{noted}
 use Rattle.sw_net.proofs.Noting.{noted_more}
 use Rattle.sw_net.proofs.note.Goals as goal

@@ -1,4 +1,4 @@
-use Rattle.std.proofs.Common.{◌≡◌, ◌∙◌, ◌++◌, ap}
+use Rattle.std.proofs.Common.{◌∙◌, ◌++◌, ap}
 use Rattle.sw_net.specs.Places.{noted}
 use Rattle.sw_net.proofs.Noting.{own_place, places_grown}
 use Rattle.sw_net.proofs.places_of.Goals as goal

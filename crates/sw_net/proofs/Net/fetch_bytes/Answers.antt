@@ -1,4 +1,4 @@
-use Rattle.std.proofs.Common.{◌≡◌, ◌∙◌, sym, ap, slice_get, Option, ℕ}
+use Rattle.std.proofs.Common.{ap, slice_get, Option, ℕ}
 use Rattle.std.specs.Option.{option_and_then}
 use Rattle.sw_data.specs.Network.{answered_line}
 use Rattle.sw_net.proofs.Drawing.{drawn_at}

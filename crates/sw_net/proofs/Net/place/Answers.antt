@@ -1,4 +1,4 @@
-use Rattle.std.proofs.Common.{◌≡◌, ◌∙◌, ◌-◌, min, ap, length, slice_get, List, ℕ}
+use Rattle.std.proofs.Common.{◌∙◌, ◌-◌, min, ap, length, slice_get, List, ℕ}
 use Rattle.sw_data.specs.declared.recordings.FetchLine.{FetchLine}
 use Rattle.sw_net.specs.Places.{places_from}
 use Rattle.sw_net.proofs.Net.place.Goals as goal

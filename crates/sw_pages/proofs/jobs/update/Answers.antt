@@ -1,11 +1,10 @@
 use Rattle.std.proofs.Common.{◌≡◌, ◌∙◌, Some, ap, sym, arith}
 use Rattle.std.proofs.lemmas.Result.{IfOk-weaker}
-use Rattle.sw_data.specs.declared.answers.Answer.TheVariants as answer
 use Rattle.sw_data.specs.declared.answers.Cause.TheVariants as cause
 use Rattle.sw_rules.specs.Registering as rules
 use Rattle.sw_rules.specs.Registering.{rejected}
 use Rattle.sw_rules.specs.Rows.{mapped_registration, named_scope}
-use Rattle.sw_rules.specs.Told.{answered, type_error}
+use Rattle.sw_rules.specs.Told.{type_error}
 use Rattle.sw_tables.specs.Happened.{with_jobs}
 use Rattle.sw_tables.specs.Lent.{lent}
 use Rattle.sw_pages.proofs.Named.{scope_given}

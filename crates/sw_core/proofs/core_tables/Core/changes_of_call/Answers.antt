@@ -5,7 +5,7 @@ use Rattle.std.specs.Prelude.{IfOk}
 use Rattle.sw_core.proofs.Changing.{noted_tells}
 use Rattle.sw_core.proofs.Given.{host_of}
 use Rattle.sw_data.specs.declared.events.Who.TheVariants as who
-use Rattle.sw_durable.specs.OfCaches.{is_on_caches}
+use Rattle.sw_cachestorage.specs.Actions.{acts_on_caches}
 use Rattle.sw_durable.specs.Telling.{TellsBy}
 use Rattle.sw_rules.specs.Calls.{called, make_call}
 use Rattle.sw_tables.specs.Lent.{shown_worker}
@@ -18,7 +18,7 @@ returns c in_phase number =
     let host = host_of c.self.inside in
     let row = c.in-Some.row.now in
     let of = c.in-Some-row.of.now in
-    let acts : is_on_caches c.args.call.now ≡ true = sym c.acts_on_caches.ensures ∙ cc c.if-not-acts_on_caches.false in
+    let acts : acts_on_caches c.args.call.now ≡ true = sym c.acts_on_caches.ensures ∙ cc c.if-not-acts_on_caches.false in
     subst (λ (h : Hosted). IfOk c.call_changes.result (λ changes. IfSome (make_call (state_of h) (who.Handler c.args.worker in_phase number) c.args.call.now)
     (λ outcome. TellsBy c.args.answer.now outcome changes.items))) c.self.view_is
     (IfOk-weaker c.call_changes.result _ _
