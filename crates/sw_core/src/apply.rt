@@ -6,9 +6,9 @@ ghost use Rattle.sw_rules.specs.Step.{Step, enabled};
 ghost use Rattle.sw_work.specs.Hosted.{state_of};
 
 use crate::core_tables::Core;
-use crate::plan::Reply;
 use std::alloc::Global;
 use sw_data::{Event, NoMemory};
+use sw_work::Reply;
 
 impl Core {
     /// An event that is enabled happens: it is worked out and done. After want of memory the state is as before.

@@ -17,9 +17,10 @@ use sw_data::{Kept, NoMemory};
 use sw_ledgers::{Draws, Promises, Tasks};
 use sw_queue::Queues;
 use sw_restart::{Restored, kept, restored};
+use sw_work::HostTables;
 
 // The host of the tables of a restart, which has nothing else. It takes no memory.
-fn host_of(alloc: Global, tables: Restored) -> Core
+fn host_of(alloc: Global, tables: Restored) -> HostTables
     requires linked { Linked tables.map tables.workers tables.registrations tables.clients }
     requires counts { CountsTasks tables.workers [] }
     ensures { state_of result ≡ lent tables.map tables.workers tables.registrations tables.clients
@@ -33,7 +34,7 @@ fn host_of(alloc: Global, tables: Restored) -> Core
         caches,
         preloads,
     } = tables;
-    Core {
+    HostTables {
         map,
         queues: Queues::new(alloc),
         workers,
@@ -47,6 +48,20 @@ fn host_of(alloc: Global, tables: Restored) -> Core
     }
 }
 
+// What the tables of a host keep: the durable part of its state.
+fn kept_of(alloc: Global, host: &HostTables) -> Result<Kept, NoMemory>
+    ensures kept { IfOk result (λ kept. kept ≡ durable (state_of host.now)) }
+{
+    kept(
+        alloc,
+        &host.map,
+        &host.workers,
+        &host.registrations,
+        &host.caches,
+        &host.preloads,
+    )
+}
+
 impl Core {
     /// A host after a restart from a content that changes have made.
     pub fn restart(alloc: Global, content: Content) -> Result<Core, NoMemory>
@@ -54,20 +69,15 @@ impl Core {
         ensures state { IfOk result (λ core. state_of core ≡ restart content) }
     {
         let tables = restored(alloc, content)?;
-        Ok(host_of(alloc, tables))
+        Ok(Core {
+            host: host_of(alloc, tables),
+        })
     }
 
     /// What the host keeps: the durable part of its state.
     pub fn kept(&self, alloc: Global) -> Result<Kept, NoMemory>
         ensures kept { IfOk result (λ kept. kept ≡ durable (state_of self.now)) }
     {
-        kept(
-            alloc,
-            &self.map,
-            &self.workers,
-            &self.registrations,
-            &self.caches,
-            &self.preloads,
-        )
+        kept_of(alloc, &self.host)
     }
 }

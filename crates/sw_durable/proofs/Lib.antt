@@ -1,4 +1,3 @@
-pub mod CacheChanges
 pub mod Changes
 pub mod Claims
 pub mod Counting
@@ -6,10 +5,8 @@ pub mod Ending
 pub mod JobChanges
 pub mod KeptRows
 pub mod Leaving
-pub mod Puts
 pub mod Registers
 pub mod Rows
 pub mod Shown
 pub mod Steps
 pub mod Taking
-pub mod TellsIt

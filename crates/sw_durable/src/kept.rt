@@ -1,6 +1,6 @@
 //! Registrations that are kept, and the changes of one.
 
-ghost use Rattle.std.specs.Prelude.{◌≡◌, ◌∷◌, [], IfOk, option_map, option_to_list};
+ghost use Rattle.std.specs.Prelude.{◌≡◌, IfOk, option_map, option_to_list};
 ghost use Rattle.std.specs.Option.{option_copied};
 ghost use Rattle.sw_client.specs.Table as clients;
 ghost use Rattle.sw_data.specs.declared.storage.Change.TheVariants as change;
@@ -14,6 +14,7 @@ ghost use Rattle.sw_tables.specs.Linked.{HasSlots};
 ghost use Rattle.sw_worker.specs.Table as workers;
 
 use std::alloc::Global;
+use sw_cachechanges::{nothing, one};
 use sw_data::{Change, Mode, NoMemory, RegistrationRow, Text};
 use sw_reg::Registrations;
 use sw_rules::same_mode;
@@ -64,22 +65,6 @@ pub(crate) fn kept_row<'a>(
         registration }
 {
     kept_at(registration, map, registrations)
-}
-
-// One change.
-pub(crate) fn one(alloc: Global, change: Change) -> Result<Vec<Change>, NoMemory>
-    ensures { IfOk result (λ changes. changes.items ≡ change ∷ []) }
-{
-    let mut changes = Vec::new(alloc);
-    changes.push(change)?;
-    Ok(changes)
-}
-
-// No changes. It takes no memory.
-pub(crate) fn nothing(alloc: Global) -> Vec<Change>
-    ensures { result.items ≡ [] }
-{
-    Vec::new(alloc)
 }
 
 // The change, where there is one.

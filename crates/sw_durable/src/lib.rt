@@ -1,9 +1,7 @@
-//! The durable changes of an event, told from the tables before it happens.
+//! The durable changes of an event on registrations, told from the tables before it happens.
 #![tactic(auto)]
 
 mod activating;
-mod added;
-mod caching;
 mod claiming;
 mod jobs;
 mod kept;
@@ -13,8 +11,6 @@ mod preloading;
 pub use activating::{
     activated_changes, close_changes, end_changes, skip_waiting_changes, try_activate_changes,
 };
-pub use added::added_changes;
-pub use caching::{cache_changes, call_changes, forgotten};
 pub use claiming::claim_changes;
 pub use jobs::{evaluated_changes, fetched_changes, installed_changes, unregister_changes};
 pub use laws::register_has_no_changes;

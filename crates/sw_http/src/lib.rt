@@ -1,6 +1,6 @@
 //! Requests and responses: each call is its rule. JavaScript's media types are passed on.
 //!
-//! Tokens, names, values and statuses are those of `http_header` and `http`.
+//! Tokens, names and values are those of `sw_data`, statuses those of `http`.
 #![tactic(auto)]
 
 mod fault;

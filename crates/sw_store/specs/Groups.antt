@@ -1,8 +1,6 @@
 -- Groups of events: their changes are written as one record.
 use Rattle.std.specs.Prelude.{◌≡◌, ◌≢◌, ◌<◌, ◌+◌, ℕ, true, List, [], ◌∷◌, ◌++◌, length, Some, IfSome}
 use Rattle.sw_codec.specs.Spelling.{spelled_all}
-use Rattle.sw_core.specs.Planned.{Fits}
-use Rattle.sw_core.specs.declared.plan.Plan.{Plan}
 use Rattle.sw_data.specs.declared.events.Event.{Event}
 use Rattle.sw_data.specs.declared.histories.Entry.{Entry}
 use Rattle.sw_data.specs.declared.storage.Change.{Change}
@@ -18,6 +16,8 @@ use Rattle.sw_store.specs.Stores.{GroupState, StoreState, same_but_room}
 use Rattle.sw_twin.specs.Twin.{TwinState}
 use Rattle.sw_work.specs.Hosted.{Hosted, state_of}
 use Rattle.sw_work.specs.Plans.{Means}
+use Rattle.sw_work.specs.Planned.{Fits}
+use Rattle.sw_work.specs.declared.plan.Plan.{Plan}
 
 -- own: an event is enabled, and this plan was made for it
 pub record IsWorkedOut (happened : Event) (plan : Plan) (host : Hosted) : Type 0 where

@@ -17,9 +17,10 @@ use crate::group::Group;
 use crate::store::Store;
 use std::alloc::Global;
 use sw_codec::write;
-use sw_core::{Core, Plan, Reply};
+use sw_core::Core;
 use sw_data::{Bytes, Entry, Event, NoMemory};
 use sw_kept::Twin;
+use sw_work::{Plan, Reply};
 
 // ---- events that don't happen; each call takes its event and its plan, since one that a larger function would drop itself
 // at an early end costs the check minutes

@@ -9,7 +9,7 @@ use Rattle.sw_data.specs.declared.exchange.Request.{Request}
 use Rattle.sw_data.specs.declared.histories.Task.TheVariants as task
 use Rattle.sw_data.specs.declared.recordings.FetchLine.{FetchLine}
 use Rattle.sw_data.specs.declared.rows.JobRow.{JobRow}
-use Rattle.sw_core.specs.Fetching.{fetches_of, fetches_of_add_all, fetches_of_job}
+use Rattle.sw_next.specs.Fetching.{fetches_of, fetches_of_add_all, fetches_of_job}
 use Rattle.sw_turns.specs.Machines.{IsEventOf, line_for}
 use Rattle.sw_turns.proofs.ReadyLemmas.{fetched_add_all, fetched_job}
 use Rattle.sw_lane.specs.Picked.{is_task}

@@ -1,5 +1,5 @@
-//! The host's events and the calls of handlers, worked out on the tables that they are lent; the answers of the host's
-//! events.
+//! The tables of a host, and what an event comes to before it is done: the host's events and the calls of handlers, worked
+//! out on the tables that they are lent; the answers of the host's events.
 #![tactic(auto)]
 
 mod answers;
@@ -7,6 +7,7 @@ mod calls;
 mod fetches;
 mod plan;
 mod runs;
+mod tables;
 
 pub use answers::{
     activate_answer, draw_where, evaluated_answer, fetched_answer, finished_answer,
@@ -16,5 +17,6 @@ pub use calls::{
     add_all_work, caches_work, claim_work, has_calls_left, idle, skip_work, update_work,
 };
 pub use fetches::{fetch_ended, fetched_of};
-pub use plan::{Act, Asked, NewFetch, Then, Work};
+pub use plan::{Act, Asked, NewFetch, Plan, Reply, Then, Work};
 pub use runs::run_work;
+pub use tables::HostTables;

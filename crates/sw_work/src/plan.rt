@@ -1,10 +1,11 @@
 //! What an event comes to before it is done, with its room.
 
 use sw_cachestorage::{AddedStep, CacheAct, NewAddAll};
-use sw_data::{Answer, Fault, Text};
+use sw_data::{Answer, Fault, Items, Notice, Text};
 use sw_install::{FetchOutcome, Rows};
 use sw_ledgers::{NewDraw, NewPreload, NewPromise};
 use sw_pages::PageAct;
+use sw_rules::Notices;
 
 /// What an action of a lane or a call of a handler does, with its room.
 #[derive(Drop)]
@@ -82,4 +83,18 @@ pub enum Work {
     Installed(u32),
     TryActivate(u32),
     Activated(u32),
+}
+
+/// An event, worked out with all its room: doing it takes no memory.
+#[derive(Drop)]
+pub struct Plan {
+    pub work: Work,
+    pub notices: Notices,
+}
+
+/// What an event answered and told.
+#[derive(Drop)]
+pub struct Reply {
+    pub answer: Answer,
+    pub notices: Items<Notice>,
 }

@@ -1,7 +1,7 @@
 -- What was picked is taken up, or there was no memory for its fetches.
 use Rattle.std.proofs.Common.{◌∙◌, Some, None, ap}
 use Rattle.std.proofs.lemmas.Option.{slice_get_within}
-use Rattle.sw_core.specs.Fetching.{fetches_of}
+use Rattle.sw_next.specs.Fetching.{fetches_of}
 use Rattle.sw_turns.proofs.FlightLemmas.{free_due, set_there, taken_due, taken_fly}
 use Rattle.sw_work.specs.Hosted.{Hosted, state_of}
 use Rattle.sw_turns.proofs.filling.take_off.Goals as goal

@@ -1,0 +1,3 @@
+pub mod CacheChanges
+pub mod Puts
+pub mod TellsIt

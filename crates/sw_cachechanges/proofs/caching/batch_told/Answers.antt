@@ -1,0 +1,19 @@
+use Rattle.std.proofs.Common.{Bool, List, [], ◌∙◌, sym, subst, ap, if◌then◌else◌}
+use Rattle.std.specs.Prelude.{◌≡◌, IfOk}
+use Rattle.sw_data.specs.declared.exchange.Op.{Op}
+use Rattle.sw_rules.specs.Caching.{batch_changes, parsed_ops}
+use Rattle.sw_cachechanges.proofs.caching.batch_told.Goals as goal
+
+pub returns-then-is_fault : goal.returns-then-is_fault
+returns-then-is_fault c =
+    c.nothing.ensures
+    ∙ ap (λ (b : Bool). if b then [] else batch_changes c.args.key.now c.args.asked.now.name ((parsed_ops c.args.base.now c.args.asked.now.operations).0)) (sym c.if-is_fault.true ∙ c.is_fault.ensures)
+
+pub returns : goal.returns
+returns c =
+    let key = c.args.key.now in
+    let name = c.args.asked.now.name in
+    let ops = (parsed_ops c.args.base.now c.args.asked.now.operations).0 in
+    subst (λ (b : Bool). IfOk c.batch_changes.result (λ changes. changes.items ≡ (if b then [] else batch_changes key name ops)))
+    (sym c.if-is_fault.false ∙ c.is_fault.ensures)
+    (subst (λ (list : List Op). IfOk c.batch_changes.result (λ changes. changes.items ≡ batch_changes key name list)) c.in_ok-ops.ensures c.batch_changes.ensures)

@@ -1,0 +1,2 @@
+pub mod OfCaches
+pub mod Telling

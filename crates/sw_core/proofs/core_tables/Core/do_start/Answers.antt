@@ -1,5 +1,0 @@
-use Rattle.std.proofs.Common.{refl}
-use Rattle.sw_core.proofs.core_tables.Core.do_start.Goals as goal
-
-pub returns : goal.returns
-returns c notices = record { answer = refl; did = c.start_then.ensures notices }

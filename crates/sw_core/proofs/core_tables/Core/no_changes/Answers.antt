@@ -1,7 +1,0 @@
-use Rattle.sw_core.proofs.Changing.{tells_none}
-use Rattle.sw_rules.specs.Registering.{run}
-use Rattle.sw_work.specs.Hosted.{state_of}
-use Rattle.sw_core.proofs.core_tables.Core.no_changes.Goals as goal
-
-pub returns : goal.returns
-returns c = tells_none (run (state_of c.args.self.now) c.args.job) _ c.new.ensures.items (c.register_has_no_changes.ensures (state_of c.args.self.now) c.args.job c.requires)

@@ -1,9 +1,0 @@
-use Rattle.sw_core.proofs.OnCaches.{steps}
-use Rattle.sw_work.specs.Hosted.{state_of}
-use Rattle.sw_core.proofs.core_tables.Core.work_on_caches.Goals as goal
-
-pub returns-clause-works : goal.returns-clause-works
-returns-clause-works c = record {
-  means = steps (state_of c.args.self.now) c.args.event.now c.in_ok-on_caches.field-0 c.requires.caches c.requires.who c.in_ok-on_caches.ensures.agrees;
-  fits = c.in_ok-on_caches.ensures.fits;
-}

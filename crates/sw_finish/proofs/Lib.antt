@@ -1,0 +1,7 @@
+pub mod Doing
+pub mod Fetching
+pub mod FirstPreload
+pub mod Going
+pub mod Preload
+pub mod Settling
+pub mod Starting

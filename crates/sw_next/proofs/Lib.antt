@@ -1,0 +1,12 @@
+pub mod Boards
+pub mod Counting
+pub mod Enabling
+pub mod FetchLists
+pub mod FirstReady
+pub mod Handling
+pub mod InFlight
+pub mod Left
+pub mod Readied
+pub mod ReadyAny
+pub mod Searching
+pub mod TaskEvents

@@ -1,0 +1,6 @@
+pub mod Asking
+pub mod Begun
+pub mod Busy
+pub mod Changing
+pub mod Meanings
+pub mod OnCaches

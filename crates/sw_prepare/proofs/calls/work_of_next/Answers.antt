@@ -1,0 +1,226 @@
+-- The next call of a handler.
+use Rattle.std.proofs.Common.{Some, refl, sym, ap, subst}
+use Rattle.sw_work.proofs.Same.{same_refl}
+use Rattle.sw_data.specs.declared.events.Who.TheVariants as maker
+use Rattle.sw_data.specs.declared.recordings.Call.TheVariants as call
+use Rattle.sw_data.specs.declared.rows.WorkerRow.{WorkerRow}
+use Rattle.sw_laws.specs.Coherent.{Coherent}
+use Rattle.sw_rules.specs.Calls.{make_call}
+use Rattle.sw_tables.proofs.Rows.{found_number}
+use Rattle.sw_work.specs.Hosted.{Hosted, SameRows, state_of}
+use Rattle.sw_work.specs.Plans.{Works}
+use Rattle.sw_work.specs.declared.plan.Work.{Work}
+use Rattle.sw_work.proofs.Calling.{both_ok, no_calls, no_registration, no_worker, own_row, works_next}
+use Rattle.sw_prepare.proofs.calls.work_of_next.Goals as goal
+
+pub returns-in_default-clause-works : goal.returns-in_default-clause-works
+returns-in_default-clause-works c =
+    let host : Hosted = record {
+      scopes = c.host.inside.map;
+      queues = c.host.inside.queues;
+      workers = c.host.inside.workers;
+      registrations = c.host.inside.registrations;
+      clients = c.host.inside.clients;
+      caches = c.host.inside.caches;
+      preloads = c.host.inside.preloads;
+      promises = c.host.inside.promises;
+      tasks = c.host.inside.tasks;
+      draws = c.host.inside.draws;
+    } in
+    subst (λ (h : Hosted). Works h h (make_call (state_of h) (maker.Handler c.args.worker c.args.phase c.args.number) c.args.call.now) c.idle.result) c.host.view_is
+    (record {
+      means = no_worker host c.args.worker c.args.phase c.args.number c.args.call.now c.idle.result (sym c.in_default.ensures);
+      fits = c.idle.ensures host;
+    })
+
+pub returns-in_default-row-clause-works : goal.returns-in_default-row-clause-works
+returns-in_default-row-clause-works c =
+    let host : Hosted = record {
+      scopes = c.host.inside.map;
+      queues = c.host.inside.queues;
+      workers = c.host.inside.workers;
+      registrations = c.host.inside.registrations;
+      clients = c.host.inside.clients;
+      caches = c.host.inside.caches;
+      preloads = c.host.inside.preloads;
+      promises = c.host.inside.promises;
+      tasks = c.host.inside.tasks;
+      draws = c.host.inside.draws;
+    } in
+    subst (λ (h : Hosted). Works h h (make_call (state_of h) (maker.Handler c.args.worker c.args.phase c.args.number) c.args.call.now) c.idle-in_default-row.result) c.host.view_is
+    (record {
+      means = no_registration host c.args.worker c.args.phase c.args.number c.args.call.now c.idle-in_default-row.result c.in-Some.row.now (sym c.in-Some.ensures) (sym c.in_default-row.ensures);
+      fits = c.idle-in_default-row.ensures host;
+    })
+
+pub returns-then-not-has_calls_left-clause-works : goal.returns-then-not-has_calls_left-clause-works
+returns-then-not-has_calls_left-clause-works c =
+    let host : Hosted = record {
+      scopes = c.host.inside.map;
+      queues = c.host.inside.queues;
+      workers = c.host.inside.workers;
+      registrations = c.host.inside.registrations;
+      clients = c.host.inside.clients;
+      caches = c.host.inside.caches;
+      preloads = c.host.inside.preloads;
+      promises = c.host.inside.promises;
+      tasks = c.host.inside.tasks;
+      draws = c.host.inside.draws;
+    } in
+    subst (λ (h : Hosted). Works h h (make_call (state_of h) (maker.Handler c.args.worker c.args.phase c.args.number) c.args.call.now) c.idle-then-not-has_calls_left.result) c.host.view_is
+    (record {
+      means = no_calls host c.args.worker c.args.phase c.args.number c.args.call.now c.idle-then-not-has_calls_left.result c.in-Some.row.now (sym c.in-Some.ensures) (sym c.if-not-has_calls_left.ensures);
+      fits = c.idle-then-not-has_calls_left.ensures host;
+    })
+
+pub add_all_work-requires-clause-by : goal.add_all_work-requires-clause-by
+add_all_work-requires-clause-by c =
+    ap Some (sym (found_number (λ (w : WorkerRow). w.number) c.args.worker c.host.inside.workers.rows c.in-Some.row.now (sym c.in-Some.ensures)))
+
+pub returns-in-SkipWaiting-clause-works : goal.returns-in-SkipWaiting-clause-works
+returns-in-SkipWaiting-clause-works c =
+    let host : Hosted = record {
+      scopes = c.host.inside.map;
+      queues = c.host.inside.queues;
+      workers = c.host.inside.workers;
+      registrations = c.host.inside.registrations;
+      clients = c.host.inside.clients;
+      caches = c.host.inside.caches;
+      preloads = c.host.inside.preloads;
+      promises = c.host.inside.promises;
+      tasks = c.host.inside.tasks;
+      draws = c.host.inside.draws;
+    } in
+    let row = c.in-Some.row.now in
+    let there = sym c.in-Some.ensures in
+    let own = own_row host c.args.worker c.args.phase c.args.number c.args.call.now c.skip_work.result row there in
+    let by = maker.Handler c.args.worker c.args.phase c.args.number in
+    let sound : Coherent (state_of host) = subst (λ (h : Hosted). Coherent (state_of h)) (sym c.host.view_is) c.requires.coherent in
+    subst (λ (h : Hosted). Works h h (make_call (state_of h) by c.args.call.now) c.skip_work.result) c.host.view_is
+    (works_next host c.args.worker c.args.phase c.args.number c.args.call.now c.skip_work.result row there host c.in-Some-row.of.now call.SkipWaiting (sym c.in-Some-row.ensures) c.in-SkipWaiting.is
+    (c.skip_work.ensures.means host by c.args.phase c.in-Some-row.of.now.key refl)
+    (c.skip_work.ensures.fits host sound own))
+
+pub returns-in-Claim-clause-works : goal.returns-in-Claim-clause-works
+returns-in-Claim-clause-works c =
+    let host : Hosted = record {
+      scopes = c.host.inside.map;
+      queues = c.host.inside.queues;
+      workers = c.host.inside.workers;
+      registrations = c.host.inside.registrations;
+      clients = c.host.inside.clients;
+      caches = c.host.inside.caches;
+      preloads = c.host.inside.preloads;
+      promises = c.host.inside.promises;
+      tasks = c.host.inside.tasks;
+      draws = c.host.inside.draws;
+    } in
+    let row = c.in-Some.row.now in
+    let there = sym c.in-Some.ensures in
+    let own = own_row host c.args.worker c.args.phase c.args.number c.args.call.now c.claim_work.result row there in
+    let by = maker.Handler c.args.worker c.args.phase c.args.number in
+    let sound : Coherent (state_of host) = subst (λ (h : Hosted). Coherent (state_of h)) (sym c.host.view_is) c.requires.coherent in
+    subst (λ (h : Hosted). Works h h (make_call (state_of h) by c.args.call.now) c.claim_work.result) c.host.view_is
+    (works_next host c.args.worker c.args.phase c.args.number c.args.call.now c.claim_work.result row there host c.in-Some-row.of.now call.Claim (sym c.in-Some-row.ensures) c.in-Claim.is
+    (c.claim_work.ensures.means host by c.args.phase c.in-Some-row.of.now.key refl)
+    (c.claim_work.ensures.fits host sound own))
+
+pub returns-in-Update-clause-works : goal.returns-in-Update-clause-works
+returns-in-Update-clause-works c =
+    let host : Hosted = record {
+      scopes = c.host.inside.map;
+      queues = c.host.inside.queues;
+      workers = c.host.inside.workers;
+      registrations = c.host.inside.registrations;
+      clients = c.host.inside.clients;
+      caches = c.host.inside.caches;
+      preloads = c.host.inside.preloads;
+      promises = c.host.inside.promises;
+      tasks = c.host.inside.tasks;
+      draws = c.host.inside.draws;
+    } in
+    let row = c.in-Some.row.now in
+    let there = sym c.in-Some.ensures in
+    let by = maker.Handler c.args.worker c.args.phase c.args.number in
+    let new : Hosted = record host { queues = c.update_work.new.queues } in
+    both_ok c.update_work.result _ _
+    (λ (work : Work). Works c.args.host.now new (make_call (state_of c.args.host.now) by c.args.call.now) work)
+    (λ work fits means.
+    subst (λ (h : Hosted). Works h new (make_call (state_of h) by c.args.call.now) work) c.host.view_is
+    (works_next host c.args.worker c.args.phase c.args.number c.args.call.now work row there new c.in-Some-row.of.now call.Update (sym c.in-Some-row.ensures) c.in-Update.is
+    (means host by refl)
+    (fits host (own_row host c.args.worker c.args.phase c.args.number c.args.call.now work row there))))
+    c.update_work.ensures.fits c.update_work.ensures.means
+
+pub returns-in-AddAll-clause-works : goal.returns-in-AddAll-clause-works
+returns-in-AddAll-clause-works c =
+    let host : Hosted = record {
+      scopes = c.host.inside.map;
+      queues = c.host.inside.queues;
+      workers = c.host.inside.workers;
+      registrations = c.host.inside.registrations;
+      clients = c.host.inside.clients;
+      caches = c.host.inside.caches;
+      preloads = c.host.inside.preloads;
+      promises = c.host.inside.promises;
+      tasks = c.host.inside.tasks;
+      draws = c.host.inside.draws;
+    } in
+    let row = c.in-Some.row.now in
+    let there = sym c.in-Some.ensures in
+    let by = maker.Handler c.args.worker c.args.phase c.args.number in
+    let new : Hosted = record host { tasks = c.add_all_work.new.tasks; draws = c.add_all_work.new.draws } in
+    both_ok c.add_all_work.result _ _
+    (λ (work : Work). Works c.args.host.now new (make_call (state_of c.args.host.now) by c.args.call.now) work)
+    (λ work fits means.
+    subst (λ (h : Hosted). Works h new (make_call (state_of h) by c.args.call.now) work) c.host.view_is
+    (works_next host c.args.worker c.args.phase c.args.number c.args.call.now work row there new c.in-Some-row.of.now (call.AddAll c.in-AddAll.asked) (sym c.in-Some-row.ensures) c.in-AddAll.is
+    (means host c.args.phase)
+    (fits host (own_row host c.args.worker c.args.phase c.args.number c.args.call.now work row there))))
+    c.add_all_work.ensures.fits c.add_all_work.ensures.means
+
+pub returns-in_default-call : goal.returns-in_default-call
+returns-in_default-call c =
+    let host : Hosted = record {
+      scopes = c.host.inside.map;
+      queues = c.host.inside.queues;
+      workers = c.host.inside.workers;
+      registrations = c.host.inside.registrations;
+      clients = c.host.inside.clients;
+      caches = c.host.inside.caches;
+      preloads = c.host.inside.preloads;
+      promises = c.host.inside.promises;
+      tasks = c.host.inside.tasks;
+      draws = c.host.inside.draws;
+    } in
+    let row = c.in-Some.row.now in
+    let there = sym c.in-Some.ensures in
+    let by = maker.Handler c.args.worker c.args.phase c.args.number in
+    let new : Hosted = record host { caches = c.caches_work.new.caches } in
+    let works =
+    both_ok c.caches_work.result _ _
+    (λ (work : Work). Works c.args.host.now new (make_call (state_of c.args.host.now) by c.args.call.now) work)
+    (λ work fits means.
+    subst (λ (h : Hosted). Works h new (make_call (state_of h) by c.args.call.now) work) c.host.view_is
+    (works_next host c.args.worker c.args.phase c.args.number c.args.call.now work row there new c.in-Some-row.of.now c.args.call.now (sym c.in-Some-row.ensures) refl
+    (means host by c.args.phase)
+    (fits host (own_row host c.args.worker c.args.phase c.args.number c.args.call.now work row there))))
+    c.caches_work.ensures.fits c.caches_work.ensures.means in
+    let kept = same_refl host in
+    record {
+      same = subst (λ (h : Hosted). SameRows h new) c.host.view_is (record {
+        scopes = kept.scopes;
+        jobs = kept.jobs;
+        workers = kept.workers;
+        events = kept.events;
+        registrations = kept.registrations;
+        clients = kept.clients;
+        known = kept.known;
+        caches = c.caches_work.ensures.same;
+        preloads = kept.preloads;
+        promises = kept.promises;
+        tasks = kept.tasks;
+        draws = kept.draws;
+      });
+      works = works;
+    }
