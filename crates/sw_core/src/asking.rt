@@ -1,12 +1,14 @@
 //! What may happen next on a host, and what it tells of its state.
 
-ghost use Rattle.std.specs.Prelude.{◌≡◌, true, not, Some, is_some, IfOk, IfSome, length, option_map};
+ghost use Rattle.std.specs.Prelude.{◌≡◌, ℕ, true, not, Some, is_some, IfOk, IfSome, length, option_map};
 ghost use Rattle.std.specs.List.{list_all, list_any};
 ghost use Rattle.std.specs.Option.{option_copied};
+ghost use Rattle.sw_data.specs.declared.events.Who.TheVariants as maker;
 ghost use Rattle.sw_data.specs.declared.recordings.Recording.{Recording};
 ghost use Rattle.sw_lane.specs.Picked.{in_flight, is_fetch, is_task, task_left};
 ghost use Rattle.sw_next.specs.Fetching.{fetches_of};
 ghost use Rattle.sw_rules.specs.Caching.{is_busy};
+ghost use Rattle.sw_rules.specs.Clients as clients;
 ghost use Rattle.sw_rules.specs.History.{mapped_registrations};
 ghost use Rattle.sw_rules.specs.Rows.{task_row};
 ghost use Rattle.sw_rules.specs.Step.{enabled};
@@ -17,7 +19,8 @@ use crate::core_tables::Core;
 use std::alloc::Global;
 use sw_data::{Event, NoMemory, Task, Text};
 use sw_next::{
-    busy, cache_count, enabled, event_of, fetches, mapped_count, next_task, ready, task_key,
+    busy, cache_count, enabled, event_of, fetches, has_settled, is_ready, mapped_count, may_begin,
+    next_task, ready, task_key,
 };
 
 impl Core {
@@ -90,5 +93,27 @@ impl Core {
         ensures { result ≡ length (state_of self.now).caches }
     {
         cache_count(&self.host)
+    }
+
+    // Whether the promise of an action of a lane has settled.
+    pub(crate) fn has_settled(&self, lane: u32, of: u32) -> bool
+        ensures { (at : ℕ)
+            → result ≡ is_some (clients.await (state_of self.now) (maker.Lane lane at) of) }
+    {
+        has_settled(&self.host, lane, of)
+    }
+
+    // Whether the ready promise of a client has a registration, or the client isn't open.
+    pub(crate) fn is_ready(&self, client: u32) -> bool
+        ensures { result ≡ is_some (clients.ready (state_of self.now) client) }
+    {
+        is_ready(&self.host, client)
+    }
+
+    // Whether a fetch event of a client may begin, or is refused at once.
+    pub(crate) fn may_begin(&self, client: u32) -> bool
+        ensures { (event : ℕ) → result ≡ is_some (clients.begin (state_of self.now) client event) }
+    {
+        may_begin(&self.host, client)
     }
 }

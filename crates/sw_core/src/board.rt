@@ -7,7 +7,7 @@ ghost use Rattle.sw_lane.specs.Picked.{in_flight, is_fetch};
 use crate::core_tables::Core;
 use sw_data::{Action, Task};
 use sw_lane::Board;
-use sw_next::{has_settled, is_ready, many_in_flight, may_begin};
+use sw_next::many_in_flight;
 
 /// A host as the board that lanes are picked by, while passes have these fetches in flight.
 #[derive(Clone, Copy)]
@@ -29,9 +29,9 @@ impl Board for CoreBoard<'_> {
     #[tactic(auto, unfolding(sw_rules::specs::Step::step, sw_data::specs::Events::event_of_action))]
     fn lane_ready(&self, lane: u32, action: &Action) -> bool {
         match action {
-            Action::Await { of } => has_settled(&self.core.host, lane, *of),
-            Action::Ready { client } => is_ready(&self.core.host, *client),
-            Action::Begin { client, .. } => may_begin(&self.core.host, *client),
+            Action::Await { of } => self.core.has_settled(lane, *of),
+            Action::Ready { client } => self.core.is_ready(*client),
+            Action::Begin { client, .. } => self.core.may_begin(*client),
             _ => true,
         }
     }
