@@ -1,6 +1,6 @@
 //! Matches in the caches of a key.
 
-ghost use Rattle.std.specs.Prelude.{◌≡◌, ◌<◌, true, map, option_copied, option_map, bytes_eq};
+ghost use Rattle.std.specs.Prelude.{◌≡◌, true, map, option_copied, option_map, bytes_eq};
 ghost use Rattle.std.specs.Option.{option_map_or};
 ghost use Rattle.sw_data.specs.declared.answers.Answer.TheVariants as answer;
 ghost use Rattle.sw_rules.specs.Caching as rules;

@@ -1,6 +1,6 @@
 //! Forgetting a key: whether it is busy, and what goes where it isn't (own).
 
-ghost use Rattle.std.specs.Prelude.{◌≡◌, ◌≤◌, ◌<◌, ◌+◌, ◌*◌, ◌&&◌, true, false, length, bytes_eq, is_none, slice_get};
+ghost use Rattle.std.specs.Prelude.{◌≡◌, ◌≤◌, ◌+◌, ◌*◌, ◌&&◌, true, false, length, bytes_eq, is_none, slice_get};
 ghost use Rattle.std.specs.List.{list_any};
 ghost use Rattle.std.specs.Option.{option_map_or};
 ghost use Rattle.sw_client.specs.Table as clients_table;

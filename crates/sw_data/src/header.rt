@@ -3,7 +3,7 @@
 ghost use Rattle.std.specs.Prelude.{◌≡◌};
 ghost use Rattle.std.specs.List.{list_all};
 ghost use Rattle.http_header.specs.FieldName.{is_field_name};
-ghost use Rattle.http_header.specs.Token.{token_test, is_value_byte};
+ghost use Rattle.http_header.specs.Token.{token_test};
 ghost use Rattle.sw_data.specs.Headers.{is_ows, is_token, is_value, same_name, trimmed, trimmed_front, trimmed_back};
 
 // The byte may stand in a token.

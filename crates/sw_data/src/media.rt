@@ -1,6 +1,6 @@
 //! JavaScript's media types.
 
-ghost use Rattle.std.specs.Prelude.{◌≡◌, ◌==◌, codes, option_copied, option_map};
+ghost use Rattle.std.specs.Prelude.{◌≡◌, codes, option_copied};
 ghost use Rattle.http_header.specs.Token.{lowercase};
 ghost use Rattle.sw_data.specs.Headers.{last_value, trimmed};
 ghost use Rattle.sw_data.specs.Media.{essence, is_javascript, is_javascript_essence};

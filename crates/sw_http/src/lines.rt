@@ -1,6 +1,6 @@
 //! Lists of header lines: their test, and the lines as they are kept.
 
-ghost use Rattle.std.specs.Prelude.{◌≡◌, ◌<◌, IfOk};
+ghost use Rattle.std.specs.Prelude.{◌≡◌, IfOk};
 ghost use Rattle.sw_data.specs.Headers.{good_names, good_values, is_value, normal_line, normal_lines, trimmed};
 
 use std::alloc::Global;

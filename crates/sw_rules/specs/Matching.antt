@@ -1,5 +1,5 @@
 -- Matching: which registration an address has, and which items of a cache a query finds.
-use Rattle.std.specs.Prelude.{ℕ, Bool, true, false, not, ◌&&◌, ◌||◌, nat_eq, nat_lt, List, [], codes, map, filter, fold, length, bytes_eq, Option, Some, None, find, if◌then◌else◌}
+use Rattle.std.specs.Prelude.{ℕ, Bool, true, not, ◌&&◌, ◌||◌, nat_eq, nat_lt, List, [], codes, map, filter, fold, length, bytes_eq, Option, Some, None, find, if◌then◌else◌}
 use Rattle.std.specs.List.{list_any, list_all, enumerate_from, starts_with}
 use Rattle.std.specs.Option.{option_eq, option_map_or}
 use Rattle.sw_data.specs.declared.exchange.Header.{Header}
