@@ -19,7 +19,8 @@ use Rattle.sw_rules.specs.State.{State, Worker, FetchEvent, Promise}
 use Rattle.sw_rules.specs.Told.{Told, followed, quiet}
 use Rattle.sw_scope.specs.Scopes.{Scopes}
 use Rattle.sw_tables.proofs.Chain.{did_then, did_quietly}
-use Rattle.sw_tables.proofs.Rows.{find_map, find_passes}
+use Rattle.sw_tables.proofs.Lookups.{worker_shown}
+use Rattle.sw_tables.proofs.Rows.{find_passes}
 use Rattle.sw_tables.specs.Lent.{lent, shown_worker}
 use Rattle.sw_tables.specs.Linked.{IsNoted, registration_of}
 use Rattle.sw_worker.specs.Table as workers
@@ -52,10 +53,6 @@ with_same_jobs host scopes of_workers of_registrations of_clients of_jobs same t
 
 -- ---- workers
 
--- the row of a worker is what is shown of it
-pub worker_shown : (host : Hosted) (number : ℕ) → worker_row (state_of host) number ≡ option_map shown_worker (worker_at number host.workers.rows)
-worker_shown host number = find_map (rows.is_worker number) shown_worker host.workers.rows
-
 number_of : (number : ℕ) (found : List WorkerRow) (row : WorkerRow) → worker_at number found ≡ Some row → row.number ≡ number
 number_of number found row is =
     let passes = find_passes (λ (other : WorkerRow). other.number == number) found row is in
@@ -64,7 +61,7 @@ number_of number found row is =
 -- what is said of the row of a worker of a registration
 pub of_owned : (host : Hosted) (worker registration : ℕ) → registration_of host.workers.rows worker ≡ Some registration
     → (P : ℕ → ℕ → Type 0) → IfSome (worker_row (state_of host) worker) (λ row. P row.registration row.number) → P registration worker
-of_owned host worker registration owner P said = by (worker_at worker host.workers.rows) refl owner (subst (λ o. IfSome o (λ row. P row.registration row.number)) (worker_shown host worker) said)
+of_owned host worker registration owner P said = by (worker_at worker host.workers.rows) refl owner (subst (λ o. IfSome o (λ row. P row.registration row.number)) (worker_shown worker host.workers.rows) said)
   where
     by : (found : Option WorkerRow) → worker_at worker host.workers.rows ≡ found → option_map (λ row. row.registration) found ≡ Some registration
         → IfSome (option_map shown_worker found) (λ row. P row.registration row.number) → P registration worker
@@ -78,7 +75,7 @@ pub of_claimant : (host : Hosted) (worker registration : ℕ)
     → option_map {U = ℕ × Bool} (λ row. (row.registration, is_active row.state)) (worker_at worker host.workers.rows) ≡ Some (registration, true)
     → (P : ℕ → ℕ → Bool → Type 0) → IfSome (worker_row (state_of host) worker) (λ row. P row.registration row.number (is_active row.state)) → P registration worker true
 of_claimant host worker registration claims P said =
-    by (worker_at worker host.workers.rows) refl claims (subst (λ o. IfSome o (λ row. P row.registration row.number (is_active row.state))) (worker_shown host worker) said)
+    by (worker_at worker host.workers.rows) refl claims (subst (λ o. IfSome o (λ row. P row.registration row.number (is_active row.state))) (worker_shown worker host.workers.rows) said)
   where
     by : (found : Option WorkerRow) → worker_at worker host.workers.rows ≡ found
         → option_map {U = ℕ × Bool} (λ row. (row.registration, is_active row.state)) found ≡ Some (registration, true)
@@ -90,7 +87,7 @@ of_claimant host worker registration claims P said =
 
 -- the registration of a worker is what its row says
 pub owner_is : (host : Hosted) (worker : ℕ) → rows.registration_of (state_of host) worker ≡ registration_of host.workers.rows worker
-owner_is host worker = ap (option_map (λ (row : Worker). row.registration)) (worker_shown host worker) ∙ by (worker_at worker host.workers.rows)
+owner_is host worker = ap (option_map (λ (row : Worker). row.registration)) (worker_shown worker host.workers.rows) ∙ by (worker_at worker host.workers.rows)
   where
     by : (found : Option WorkerRow) → option_map (λ (row : Worker). row.registration) (option_map shown_worker found) ≡ option_map (λ row. row.registration) found
     by None = refl
@@ -121,7 +118,7 @@ left_of row = option_map_or (λ handler. nat_lt handler.made (length (Rattle.sw_
 -- a handler has calls left where its row says so
 pub left_in : (host : Hosted) (worker : ℕ) → plans.has_calls_left worker (state_of host) ≡ true → workers.has_worker workers.has_calls_left worker host.workers.rows ≡ true
 left_in host worker left =
-    by (worker_at worker host.workers.rows) (subst (λ o. option_map_or left_of o false ≡ true) (worker_shown host worker) left)
+    by (worker_at worker host.workers.rows) (subst (λ o. option_map_or left_of o false ≡ true) (worker_shown worker host.workers.rows) left)
   where
     inner : (row : WorkerRow) (found : Option HandlerRow) → row.handler ≡ found → left_of (shown_worker row) ≡ true → workers.has_calls_left row ≡ true
     inner row (Some handler) is left = let calls = calls_are handler.phase row in cc (is, calls, left)

@@ -4,7 +4,7 @@ use Rattle.std.proofs.lemmas.List.{append-nil}
 use Rattle.std.specs.Option.{option_map_or}
 use Rattle.std.specs.Prelude.{find}
 use Rattle.sw_cachestorage.specs.Actions.{CacheAction, cache_action}
-use Rattle.sw_work.proofs.Given.{if_some_map}
+use Rattle.sw_work.proofs.Working.{if_some_map}
 use Rattle.sw_data.specs.declared.answers.Answer.{Answer}
 use Rattle.sw_data.specs.declared.events.Event.{Event}
 use Rattle.sw_data.specs.declared.events.Event.TheVariants as event

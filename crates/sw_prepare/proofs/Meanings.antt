@@ -4,8 +4,8 @@ use Rattle.std.specs.Option.{IfSome}
 use Rattle.sw_rules.specs.State.{State}
 use Rattle.sw_rules.specs.Step.{step}
 use Rattle.sw_rules.specs.Told.{Outcome}
-use Rattle.sw_work.proofs.Given.{if_some_map}
-use Rattle.sw_work.proofs.Same.{same_state}
+use Rattle.sw_work.proofs.Working.{if_some_map}
+use Rattle.sw_prepare.proofs.Same.{same_state}
 use Rattle.sw_work.specs.Planned.{Fits}
 use Rattle.sw_work.specs.declared.plan.Plan.{Plan}
 use Rattle.sw_cachestorage.specs.Added.{IsAdded}

@@ -57,6 +57,11 @@ none_if {X = X} P o is = subst (λ (p : Option X). IfSome p P) (sym is) tt
 pub comes_so : {X : Type 0} (o p : Option X) → o ≡ p → IfSome o (λ x. p ≡ Some x)
 comes_so {X = X} o p is = subst (λ (q : Option X). IfSome q (λ x. p ≡ Some x)) (sym is) (some_is p)
 
+-- what holds of what is there holds of what is weaker
+pub if_some_map : {X : Type 0} (P Q : X → Type 0) → ((x : X) → P x → Q x) → (found : Option X) → IfSome found P → IfSome found Q
+if_some_map P Q to (Some x) is = to x is
+if_some_map P Q to None is = is
+
 -- ---- the run of a job
 
 -- a job that isn't there doesn't run

@@ -1,13 +1,13 @@
 use Rattle.std.proofs.Common.{◌≡◌, refl, subst}
 use Rattle.std.specs.Prelude.{IfOk}
-use Rattle.sw_work.proofs.Given.{host_of}
 use Rattle.sw_rules.specs.Durable.{durable}
+use Rattle.sw_work.specs.contracts.tables.HostTables.{the_view}
 use Rattle.sw_work.specs.Hosted.{Hosted, rest_of, state_of}
 use Rattle.sw_core.proofs.kept.kept_of.Goals as goal
 
 pub returns : goal.returns
 returns c =
-    let host = host_of c.host.inside in
+    let host = the_view c.host.inside in
     record {
       kept =
           subst (λ (h : Hosted). IfOk c.kept.result (λ kept. kept ≡ durable (state_of h))) c.host.view_is

@@ -9,7 +9,7 @@ use Rattle.sw_rules.specs.State.{State}
 use Rattle.sw_rules.specs.Told.{Outcome, refused}
 use Rattle.sw_tables.specs.Lent.{lent}
 use Rattle.sw_worker.specs.Table.{worker_at}
-use Rattle.sw_work.proofs.Given.{if_some_map}
+use Rattle.sw_work.proofs.Working.{if_some_map}
 use Rattle.sw_finish.proofs.Doing.{of_claimant, with_same_jobs, with_tables}
 use Rattle.sw_work.specs.contracts.tables.HostTables.{the_view}
 use Rattle.sw_work.specs.Hosted.{Hosted, rest_of, state_of}

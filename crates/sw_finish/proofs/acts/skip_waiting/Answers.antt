@@ -4,7 +4,7 @@ use Rattle.sw_rules.specs.Noticing.{Did}
 use Rattle.sw_rules.specs.Rows.{worker_row}
 use Rattle.sw_tables.specs.Lent.{lent}
 use Rattle.sw_tables.specs.Linked.{registration_of}
-use Rattle.sw_work.proofs.Given.{if_some_map}
+use Rattle.sw_work.proofs.Working.{if_some_map}
 use Rattle.sw_finish.proofs.Doing.{of_owned, with_same_jobs, with_tables}
 use Rattle.sw_work.specs.contracts.tables.HostTables.{the_view}
 use Rattle.sw_work.specs.Hosted.{Hosted, rest_of, state_of}

@@ -1,7 +1,7 @@
 use Rattle.std.proofs.Common.{◌≡◌, ◌∙◌, false, Option, Some, None, is_some, option_and_then, option_map, sym, ap, subst}
 use Rattle.std.specs.Option.{option_copied}
 use Rattle.sw_next.proofs.Enabling.{ends_shown}
-use Rattle.sw_work.proofs.Given.{host_of}
+use Rattle.sw_work.specs.contracts.tables.HostTables.{the_view}
 use Rattle.sw_work.specs.Hosted.{Hosted, rest_of, state_of}
 use Rattle.sw_data.specs.declared.rows.WorkerRow.{WorkerRow}
 use Rattle.sw_rules.specs.Installing as installing
@@ -16,7 +16,7 @@ use Rattle.sw_next.proofs.events.is_at_end.Goals as goal
 
 pub returns-in-Some : goal.returns-in-Some
 returns-in-Some c =
-    let host : Hosted = host_of c.host.inside in
+    let host : Hosted = the_view c.host.inside in
     let row : WorkerRow = c.in-Some.row.now in
     let here : worker_at c.args.worker host.workers.rows ≡ Some row = sym c.row.ensures ∙ ap option_copied c.in-Some.is in
     let own : worker_at row.number host.workers.rows ≡ Some row =
@@ -28,7 +28,7 @@ returns-in-Some c =
 
 pub returns-in-None : goal.returns-in-None
 returns-in-None c =
-    let host : Hosted = host_of c.host.inside in
+    let host : Hosted = the_view c.host.inside in
     let none : worker_at c.args.worker host.workers.rows ≡ None = sym c.row.ensures ∙ ap option_copied c.in-None.is in
     subst (λ (h : Hosted). false ≡ is_some (option_and_then (installing.ended_handler (state_of h) (is_in c.args.phase)) (worker_row (state_of h) c.args.worker))) c.host.view_is
     (ap (λ (o : Option Worker). is_some (option_and_then (installing.ended_handler (state_of host) (is_in c.args.phase)) o))

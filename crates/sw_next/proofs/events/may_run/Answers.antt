@@ -1,6 +1,6 @@
 use Rattle.std.proofs.Common.{◌≡◌, ◌∙◌, is_some, subst}
 use Rattle.sw_next.proofs.Enabling.{runs_where}
-use Rattle.sw_work.proofs.Given.{host_of}
+use Rattle.sw_work.specs.contracts.tables.HostTables.{the_view}
 use Rattle.sw_work.specs.Hosted.{Hosted, state_of}
 use Rattle.sw_rules.specs.Registering as registering
 use Rattle.sw_next.proofs.events.may_run.Goals as goal
@@ -8,4 +8,4 @@ use Rattle.sw_next.proofs.events.may_run.Goals as goal
 pub returns : goal.returns
 returns c =
     subst (λ (h : Hosted). c.may_run.result ≡ is_some (registering.run (state_of h) c.args.job)) c.host.view_is
-    (c.may_run.ensures ∙ runs_where (state_of (host_of c.host.inside)) c.args.job)
+    (c.may_run.ensures ∙ runs_where (state_of (the_view c.host.inside)) c.args.job)

@@ -1,6 +1,6 @@
 use Rattle.std.proofs.Common.{◌≡◌, ◌∙◌, option_map, sym, ap, subst}
 use Rattle.std.specs.Option.{option_copied}
-use Rattle.sw_work.proofs.Given.{host_of}
+use Rattle.sw_work.specs.contracts.tables.HostTables.{the_view}
 use Rattle.sw_work.specs.Hosted.{Hosted, state_of}
 use Rattle.sw_rules.specs.Rows.{worker_row}
 use Rattle.sw_tables.proofs.Lookups.{worker_shown}
@@ -9,6 +9,6 @@ use Rattle.sw_next.proofs.events.row_of_worker.Goals as goal
 
 pub returns : goal.returns
 returns c =
-    let host : Hosted = host_of c.host.inside in
+    let host : Hosted = the_view c.host.inside in
     subst (λ (h : Hosted). option_map shown_worker (option_copied c.row.result) ≡ worker_row (state_of h) c.args.worker) c.host.view_is
     (ap (option_map shown_worker) c.row.ensures ∙ sym (worker_shown c.args.worker host.workers.rows))

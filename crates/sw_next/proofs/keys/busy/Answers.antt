@@ -1,5 +1,5 @@
 use Rattle.std.proofs.Common.{◌≡◌, refl, subst}
-use Rattle.sw_work.proofs.Given.{host_of}
+use Rattle.sw_work.specs.contracts.tables.HostTables.{the_view}
 use Rattle.sw_work.specs.Hosted.{Hosted, rest_of, state_of}
 use Rattle.sw_rules.specs.Caching.{is_busy}
 use Rattle.sw_next.proofs.keys.busy.Goals as goal
@@ -7,4 +7,4 @@ use Rattle.sw_next.proofs.keys.busy.Goals as goal
 pub returns : goal.returns
 returns c =
     subst (λ (h : Hosted). c.is_busy.result ≡ is_busy (state_of h) c.args.key.now) c.host.view_is
-    (c.is_busy.ensures.busy c.host.inside.map (rest_of (host_of c.host.inside)) refl refl)
+    (c.is_busy.ensures.busy c.host.inside.map (rest_of (the_view c.host.inside)) refl refl)

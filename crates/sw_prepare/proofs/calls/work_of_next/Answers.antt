@@ -1,12 +1,13 @@
 -- The next call of a handler.
 use Rattle.std.proofs.Common.{Some, refl, sym, ap, subst}
-use Rattle.sw_work.proofs.Same.{same_refl}
+use Rattle.sw_prepare.proofs.Same.{same_refl}
 use Rattle.sw_data.specs.declared.events.Who.TheVariants as maker
 use Rattle.sw_data.specs.declared.recordings.Call.TheVariants as call
 use Rattle.sw_data.specs.declared.rows.WorkerRow.{WorkerRow}
 use Rattle.sw_laws.specs.Coherent.{Coherent}
 use Rattle.sw_rules.specs.Calls.{make_call}
 use Rattle.sw_tables.proofs.Rows.{found_number}
+use Rattle.sw_work.specs.contracts.tables.HostTables.{the_view}
 use Rattle.sw_work.specs.Hosted.{Hosted, SameRows, state_of}
 use Rattle.sw_work.specs.Plans.{Works}
 use Rattle.sw_work.specs.declared.plan.Work.{Work}
@@ -15,18 +16,7 @@ use Rattle.sw_prepare.proofs.calls.work_of_next.Goals as goal
 
 pub returns-in_default-clause-works : goal.returns-in_default-clause-works
 returns-in_default-clause-works c =
-    let host : Hosted = record {
-      scopes = c.host.inside.map;
-      queues = c.host.inside.queues;
-      workers = c.host.inside.workers;
-      registrations = c.host.inside.registrations;
-      clients = c.host.inside.clients;
-      caches = c.host.inside.caches;
-      preloads = c.host.inside.preloads;
-      promises = c.host.inside.promises;
-      tasks = c.host.inside.tasks;
-      draws = c.host.inside.draws;
-    } in
+    let host : Hosted = the_view c.host.inside in
     subst (λ (h : Hosted). Works h h (make_call (state_of h) (maker.Handler c.args.worker c.args.phase c.args.number) c.args.call.now) c.idle.result) c.host.view_is
     (record {
       means = no_worker host c.args.worker c.args.phase c.args.number c.args.call.now c.idle.result (sym c.in_default.ensures);
@@ -35,18 +25,7 @@ returns-in_default-clause-works c =
 
 pub returns-in_default-row-clause-works : goal.returns-in_default-row-clause-works
 returns-in_default-row-clause-works c =
-    let host : Hosted = record {
-      scopes = c.host.inside.map;
-      queues = c.host.inside.queues;
-      workers = c.host.inside.workers;
-      registrations = c.host.inside.registrations;
-      clients = c.host.inside.clients;
-      caches = c.host.inside.caches;
-      preloads = c.host.inside.preloads;
-      promises = c.host.inside.promises;
-      tasks = c.host.inside.tasks;
-      draws = c.host.inside.draws;
-    } in
+    let host : Hosted = the_view c.host.inside in
     subst (λ (h : Hosted). Works h h (make_call (state_of h) (maker.Handler c.args.worker c.args.phase c.args.number) c.args.call.now) c.idle-in_default-row.result) c.host.view_is
     (record {
       means = no_registration host c.args.worker c.args.phase c.args.number c.args.call.now c.idle-in_default-row.result c.in-Some.row.now (sym c.in-Some.ensures) (sym c.in_default-row.ensures);
@@ -55,18 +34,7 @@ returns-in_default-row-clause-works c =
 
 pub returns-then-not-has_calls_left-clause-works : goal.returns-then-not-has_calls_left-clause-works
 returns-then-not-has_calls_left-clause-works c =
-    let host : Hosted = record {
-      scopes = c.host.inside.map;
-      queues = c.host.inside.queues;
-      workers = c.host.inside.workers;
-      registrations = c.host.inside.registrations;
-      clients = c.host.inside.clients;
-      caches = c.host.inside.caches;
-      preloads = c.host.inside.preloads;
-      promises = c.host.inside.promises;
-      tasks = c.host.inside.tasks;
-      draws = c.host.inside.draws;
-    } in
+    let host : Hosted = the_view c.host.inside in
     subst (λ (h : Hosted). Works h h (make_call (state_of h) (maker.Handler c.args.worker c.args.phase c.args.number) c.args.call.now) c.idle-then-not-has_calls_left.result) c.host.view_is
     (record {
       means = no_calls host c.args.worker c.args.phase c.args.number c.args.call.now c.idle-then-not-has_calls_left.result c.in-Some.row.now (sym c.in-Some.ensures) (sym c.if-not-has_calls_left.ensures);
@@ -79,18 +47,7 @@ add_all_work-requires-clause-by c =
 
 pub returns-in-SkipWaiting-clause-works : goal.returns-in-SkipWaiting-clause-works
 returns-in-SkipWaiting-clause-works c =
-    let host : Hosted = record {
-      scopes = c.host.inside.map;
-      queues = c.host.inside.queues;
-      workers = c.host.inside.workers;
-      registrations = c.host.inside.registrations;
-      clients = c.host.inside.clients;
-      caches = c.host.inside.caches;
-      preloads = c.host.inside.preloads;
-      promises = c.host.inside.promises;
-      tasks = c.host.inside.tasks;
-      draws = c.host.inside.draws;
-    } in
+    let host : Hosted = the_view c.host.inside in
     let row = c.in-Some.row.now in
     let there = sym c.in-Some.ensures in
     let own = own_row host c.args.worker c.args.phase c.args.number c.args.call.now c.skip_work.result row there in
@@ -103,18 +60,7 @@ returns-in-SkipWaiting-clause-works c =
 
 pub returns-in-Claim-clause-works : goal.returns-in-Claim-clause-works
 returns-in-Claim-clause-works c =
-    let host : Hosted = record {
-      scopes = c.host.inside.map;
-      queues = c.host.inside.queues;
-      workers = c.host.inside.workers;
-      registrations = c.host.inside.registrations;
-      clients = c.host.inside.clients;
-      caches = c.host.inside.caches;
-      preloads = c.host.inside.preloads;
-      promises = c.host.inside.promises;
-      tasks = c.host.inside.tasks;
-      draws = c.host.inside.draws;
-    } in
+    let host : Hosted = the_view c.host.inside in
     let row = c.in-Some.row.now in
     let there = sym c.in-Some.ensures in
     let own = own_row host c.args.worker c.args.phase c.args.number c.args.call.now c.claim_work.result row there in
@@ -127,18 +73,7 @@ returns-in-Claim-clause-works c =
 
 pub returns-in-Update-clause-works : goal.returns-in-Update-clause-works
 returns-in-Update-clause-works c =
-    let host : Hosted = record {
-      scopes = c.host.inside.map;
-      queues = c.host.inside.queues;
-      workers = c.host.inside.workers;
-      registrations = c.host.inside.registrations;
-      clients = c.host.inside.clients;
-      caches = c.host.inside.caches;
-      preloads = c.host.inside.preloads;
-      promises = c.host.inside.promises;
-      tasks = c.host.inside.tasks;
-      draws = c.host.inside.draws;
-    } in
+    let host : Hosted = the_view c.host.inside in
     let row = c.in-Some.row.now in
     let there = sym c.in-Some.ensures in
     let by = maker.Handler c.args.worker c.args.phase c.args.number in
@@ -154,18 +89,7 @@ returns-in-Update-clause-works c =
 
 pub returns-in-AddAll-clause-works : goal.returns-in-AddAll-clause-works
 returns-in-AddAll-clause-works c =
-    let host : Hosted = record {
-      scopes = c.host.inside.map;
-      queues = c.host.inside.queues;
-      workers = c.host.inside.workers;
-      registrations = c.host.inside.registrations;
-      clients = c.host.inside.clients;
-      caches = c.host.inside.caches;
-      preloads = c.host.inside.preloads;
-      promises = c.host.inside.promises;
-      tasks = c.host.inside.tasks;
-      draws = c.host.inside.draws;
-    } in
+    let host : Hosted = the_view c.host.inside in
     let row = c.in-Some.row.now in
     let there = sym c.in-Some.ensures in
     let by = maker.Handler c.args.worker c.args.phase c.args.number in
@@ -181,18 +105,7 @@ returns-in-AddAll-clause-works c =
 
 pub returns-in_default-call : goal.returns-in_default-call
 returns-in_default-call c =
-    let host : Hosted = record {
-      scopes = c.host.inside.map;
-      queues = c.host.inside.queues;
-      workers = c.host.inside.workers;
-      registrations = c.host.inside.registrations;
-      clients = c.host.inside.clients;
-      caches = c.host.inside.caches;
-      preloads = c.host.inside.preloads;
-      promises = c.host.inside.promises;
-      tasks = c.host.inside.tasks;
-      draws = c.host.inside.draws;
-    } in
+    let host : Hosted = the_view c.host.inside in
     let row = c.in-Some.row.now in
     let there = sym c.in-Some.ensures in
     let by = maker.Handler c.args.worker c.args.phase c.args.number in

@@ -1,11 +1,12 @@
 use Rattle.std.proofs.Common.{Option, None, option_copied, subst, sym}
 use Rattle.std.specs.Option.{IfSome}
-use Rattle.sw_work.proofs.Same.{same_joined}
+use Rattle.sw_prepare.proofs.Same.{same_joined}
 use Rattle.sw_data.specs.declared.recordings.Fetched.{Fetched}
 use Rattle.sw_install.specs.Fetches.{IsOutcome}
 use Rattle.sw_install.specs.declared.calls.Rows.{Rows}
 use Rattle.sw_laws.specs.Coherent.{Coherent}
 use Rattle.sw_rules.specs.Installing.{fetched}
+use Rattle.sw_work.specs.contracts.tables.HostTables.{the_view}
 use Rattle.sw_work.specs.Hosted.{Hosted, rest_of, state_of}
 use Rattle.sw_work.specs.Plans.{Means}
 use Rattle.sw_work.specs.declared.plan.Work.{Work}
@@ -21,18 +22,7 @@ invariant_of-host-2 c = same_joined _ _ (made_room _ _ c.in_ok-outcome.ensures.s
 
 pub returns-clause-works : goal.returns-clause-works
 returns-clause-works c =
-    let host : Hosted = record {
-      scopes = c.host.inside.map;
-      queues = c.host.inside.queues;
-      workers = c.host.inside.workers;
-      registrations = c.host.inside.registrations;
-      clients = c.host.inside.clients;
-      caches = c.host.inside.caches;
-      preloads = c.host.inside.preloads;
-      promises = c.host.inside.promises;
-      tasks = c.host.inside.tasks;
-      draws = c.host.inside.draws;
-    } in
+    let host : Hosted = the_view c.host.inside in
     let line = option_copied c.args.line in
     let row = c.in-Some.row.now in
     let registration = c.in-Some-registration.registration in

@@ -1,7 +1,7 @@
 use Rattle.std.proofs.Common.{◌∙◌, List, Option, ap, subst, sym}
 use Rattle.std.specs.Prelude.{IfOk}
 use Rattle.sw_work.proofs.Others.{activated_comes, added_comes, evaluated_comes, fetched_comes, host_rests, installed_comes, run_comes, tries_comes}
-use Rattle.sw_work.proofs.Same.{same_refl}
+use Rattle.sw_prepare.proofs.Same.{same_refl}
 use Rattle.sw_data.specs.declared.recordings.FetchLine.{FetchLine}
 use Rattle.sw_rules.specs.Caching.{added}
 use Rattle.sw_rules.specs.Installing.{fetched}

@@ -1,5 +1,5 @@
 use Rattle.std.proofs.lemmas.Result.{IfOk-weaker}
-use Rattle.sw_work.proofs.Given.{await_given, begin_given, ready_given}
+use Rattle.sw_prepare.proofs.Given.{await_given, begin_given, ready_given}
 use Rattle.sw_data.specs.declared.events.Who.TheVariants as maker
 use Rattle.sw_pages.specs.Acts.{outcome_of}
 use Rattle.sw_work.specs.Hosted.{state_of}

@@ -1,4 +1,4 @@
-use Rattle.sw_work.proofs.Given.{agrees_too}
+use Rattle.sw_prepare.proofs.Given.{agrees_too}
 use Rattle.sw_data.specs.declared.events.Who.TheVariants as maker
 use Rattle.sw_pages.specs.Acts as pages
 use Rattle.sw_rules.specs.Step.{step}

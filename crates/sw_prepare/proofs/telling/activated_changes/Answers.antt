@@ -1,12 +1,12 @@
 use Rattle.std.proofs.Common.{subst}
 use Rattle.std.specs.Prelude.{IfOk}
-use Rattle.sw_work.proofs.Given.{host_of}
 use Rattle.sw_cachechanges.specs.Telling.{Tells}
 use Rattle.sw_rules.specs.Activating.{activated}
+use Rattle.sw_work.specs.contracts.tables.HostTables.{the_view}
 use Rattle.sw_work.specs.Hosted.{Hosted, rest_of, state_of}
 use Rattle.sw_prepare.proofs.telling.activated_changes.Goals as goal
 
 pub returns : goal.returns
 returns c =
     subst (λ (h : Hosted). IfOk c.activated_changes.result (λ changes. Tells (activated (state_of h) c.args.worker) changes.items)) c.host.view_is
-    (c.activated_changes.ensures (rest_of (host_of c.host.inside)) c.host.invariant.counts)
+    (c.activated_changes.ensures (rest_of (the_view c.host.inside)) c.host.invariant.counts)

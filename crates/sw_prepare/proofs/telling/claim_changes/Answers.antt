@@ -1,12 +1,12 @@
 use Rattle.std.proofs.Common.{◌≡◌, subst}
 use Rattle.std.specs.Prelude.{IfOk}
-use Rattle.sw_work.proofs.Given.{host_of}
 use Rattle.sw_pages.specs.Acts.{told_by}
 use Rattle.sw_pages.specs.declared.worked.PageAct.TheVariants as page
+use Rattle.sw_work.specs.contracts.tables.HostTables.{the_view}
 use Rattle.sw_work.specs.Hosted.{Hosted, rest_of, state_of}
 use Rattle.sw_prepare.proofs.telling.claim_changes.Goals as goal
 
 pub returns : goal.returns
 returns c =
     subst (λ (h : Hosted). IfOk c.claim_changes.result (λ changes. changes.items ≡ (told_by (page.Claim c.args.registration c.args.worker) (state_of h)).changes)) c.host.view_is
-    (c.claim_changes.ensures (rest_of (host_of c.host.inside)))
+    (c.claim_changes.ensures (rest_of (the_view c.host.inside)))

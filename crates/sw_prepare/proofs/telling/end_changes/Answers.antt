@@ -1,11 +1,11 @@
 use Rattle.std.proofs.Common.{◌≡◌, subst}
 use Rattle.std.specs.Prelude.{IfOk}
-use Rattle.sw_work.proofs.Given.{host_of}
 use Rattle.sw_rules.specs.Clients.{end_event}
+use Rattle.sw_work.specs.contracts.tables.HostTables.{the_view}
 use Rattle.sw_work.specs.Hosted.{Hosted, rest_of, state_of}
 use Rattle.sw_prepare.proofs.telling.end_changes.Goals as goal
 
 pub returns : goal.returns
 returns c =
     subst (λ (h : Hosted). IfOk c.end_changes.result (λ changes. changes.items ≡ (end_event (state_of h) c.args.event c.args.registration).changes)) c.host.view_is
-    (c.end_changes.ensures (rest_of (host_of c.host.inside)))
+    (c.end_changes.ensures (rest_of (the_view c.host.inside)))

@@ -1,13 +1,13 @@
 use Rattle.std.proofs.Common.{subst}
 use Rattle.std.specs.Prelude.{IfOk}
-use Rattle.sw_work.proofs.Given.{host_of}
 use Rattle.sw_cachechanges.specs.Telling.{Tells}
 use Rattle.sw_rules.specs.Installing.{evaluated}
+use Rattle.sw_work.specs.contracts.tables.HostTables.{the_view}
 use Rattle.sw_work.specs.Hosted.{Hosted, rest_of, state_of}
 use Rattle.sw_prepare.proofs.telling.evaluated_changes.Goals as goal
 
 pub returns : goal.returns
 returns c =
-    let host = host_of c.host.inside in
+    let host = the_view c.host.inside in
     subst (λ (h : Hosted). IfOk c.evaluated_changes.result (λ changes. Tells (evaluated (state_of h) c.args.job) changes.items)) c.host.view_is
     (c.evaluated_changes.ensures host.clients (rest_of host))

@@ -1,7 +1,6 @@
 -- What was worked out on the tables of a host was worked out on the host.
 use Rattle.std.proofs.Common.{◌≡◌, ◌∙◌, ℕ, Option, Some, None, IfSome, option_map, refl, sym, ap, subst}
-use Rattle.sw_work.specs.declared.tables.HostTables.TheInside.{Inside}
-use Rattle.sw_work.proofs.Same.{same_refl}
+use Rattle.sw_prepare.proofs.Same.{same_refl}
 use Rattle.sw_data.specs.declared.events.Event.{Event}
 use Rattle.sw_data.specs.declared.events.Event.TheVariants as event
 use Rattle.sw_data.specs.declared.events.Who.{Who}
@@ -17,21 +16,6 @@ use Rattle.sw_work.specs.Hosted.{Hosted, SameRows}
 use Rattle.sw_work.specs.Plans.{IsAsked}
 use Rattle.sw_work.specs.declared.plan.Asked.{Asked}
 use Rattle.sw_worker.specs.Table as workers
-
--- own: the host that these tables show
-abbrev pub host_of : Inside → Hosted
-host_of inside = record {
-  scopes = inside.map;
-  queues = inside.queues;
-  workers = inside.workers;
-  registrations = inside.registrations;
-  clients = inside.clients;
-  caches = inside.caches;
-  preloads = inside.preloads;
-  promises = inside.promises;
-  tasks = inside.tasks;
-  draws = inside.draws;
-}
 
 -- more room for workers alone
 pub workers_same : (host : Hosted) (of_workers : workers.Table) → of_workers.rows ≡ host.workers.rows → of_workers.events ≡ host.workers.events
@@ -52,10 +36,6 @@ workers_same host of_workers rows events =
       tasks = kept.tasks;
       draws = kept.draws;
     }
-
-pub if_some_map : {X : Type 0} (P Q : X → Type 0) → ((x : X) → P x → Q x) → (found : Option X) → IfSome found P → IfSome found Q
-if_some_map P Q to (Some x) is = to x is
-if_some_map P Q to None is = is
 
 -- ---- what is asked only where an action is enabled
 
