@@ -1,5 +1,5 @@
 -- The durable changes of a work are those of its event.
-use Rattle.std.proofs.Common.{◌≡◌, ◌∙◌, ℕ, Bool, true, false, List, [], Option, Some, None, IfSome, option_map, is_some, refl, sym, ap, subst}
+use Rattle.std.proofs.Common.{◌≡◌, ◌∙◌, ℕ, true, false, List, [], Option, Some, None, IfSome, option_map, is_some, refl, sym, ap, subst}
 use Rattle.std.proofs.lemmas.List.{append-nil}
 use Rattle.std.specs.Option.{option_map_or}
 use Rattle.std.specs.Prelude.{find}
@@ -15,7 +15,6 @@ use Rattle.sw_data.specs.declared.recordings.ClientScope.{ClientScope}
 use Rattle.sw_data.specs.declared.recordings.FetchLine.{FetchLine}
 use Rattle.sw_data.specs.declared.rows.JobKind.{JobKind}
 use Rattle.sw_data.specs.declared.rows.JobRow.{JobRow}
-use Rattle.sw_data.specs.declared.rows.WorkerRow.{WorkerRow}
 use Rattle.sw_data.specs.declared.storage.Change.{Change}
 use Rattle.sw_cachechanges.specs.Telling.{Tells, TellsBy}
 use Rattle.sw_install.specs.Runs.{IsOfKind}
@@ -23,16 +22,14 @@ use Rattle.sw_rules.specs.Caching.{added, with_key}
 use Rattle.sw_rules.specs.Calls.{make_call, note_call, noted}
 use Rattle.sw_rules.specs.Jobs.{is_unregister}
 use Rattle.sw_rules.specs.Preloading.{preload_switch, preload_value}
-use Rattle.sw_rules.specs.Rows.{is_active, is_job}
+use Rattle.sw_rules.specs.Rows.{is_job}
 use Rattle.sw_rules.specs.State.{State}
 use Rattle.sw_rules.specs.Step.{by_host, by_lane, step}
 use Rattle.sw_rules.specs.Told.{Told, Outcome, followed}
-use Rattle.sw_tables.specs.Linked.{registration_of}
 use Rattle.sw_work.specs.Plans.{IsAsked, TellSame, told_by_act, told_then}
 use Rattle.sw_work.specs.declared.plan.Asked.{Asked}
 use Rattle.sw_work.specs.declared.plan.Then.{Then}
 use Rattle.sw_work.specs.declared.plan.Then.TheVariants as then
-use Rattle.sw_worker.specs.Table.{worker_at}
 
 -- ---- what an event comes to
 
@@ -141,19 +138,6 @@ pub asked_tells : (outcome : Outcome) (asked : Asked) (state : State) → IsAske
     → TellSame asked.act outcome.told.changes (told_by_act asked.act state).changes
 asked_tells outcome asked state is =
     subst (λ (all : List Change). TellSame asked.act outcome.told.changes all) (then_tells asked.then (told_by_act asked.act state)) is.changes
-
--- a worker that claims for a registration is one of it
-pub claimant_owned : (rows : List WorkerRow) (worker registration : ℕ)
-    → option_map {U = ℕ × Bool} (λ row. (row.registration, is_active row.state)) (worker_at worker rows) ≡ Some (registration, true)
-    → registration_of rows worker ≡ Some registration
-claimant_owned rows worker registration claims = by (worker_at worker rows) claims
-  where
-    by : (found : Option WorkerRow) → option_map {U = ℕ × Bool} (λ row. (row.registration, is_active row.state)) found ≡ Some (registration, true)
-        → option_map (λ row. row.registration) found ≡ Some registration
-    by None claims = absurd cc
-    by (Some row) claims =
-        let pair : (row.registration, is_active row.state) ≡ (registration, true) = cc claims in
-        ap (λ (p : ℕ × Bool). Some p.0) pair
 
 -- ---- jobs
 

@@ -1,6 +1,6 @@
 //! The durable changes of an event that was worked out, told before it is done.
 
-ghost use Rattle.std.specs.Prelude.{◌≡◌, ℕ, Option, find, true, false, IfOk, IfSome, Some};
+ghost use Rattle.std.specs.Prelude.{◌≡◌, ℕ, Bool, Option, find, true, false, IfOk, IfSome, Some, option_map};
 ghost use Rattle.sw_work.specs.Planned.{Fits};
 ghost use Rattle.sw_data.specs.declared.events.Who.{Who};
 ghost use Rattle.sw_data.specs.declared.events.Who.TheVariants as maker;
@@ -20,12 +20,13 @@ ghost use Rattle.sw_rules.specs.Installing as installing;
 ghost use Rattle.sw_rules.specs.Jobs.{is_unregister};
 ghost use Rattle.sw_rules.specs.Preloading as preloading;
 ghost use Rattle.sw_rules.specs.Registering as registering;
-ghost use Rattle.sw_rules.specs.Rows.{is_job};
+ghost use Rattle.sw_rules.specs.Rows.{is_active, is_job};
 ghost use Rattle.sw_rules.specs.Step.{changes_of, enabled, step};
 ghost use Rattle.sw_rules.specs.Told.{Outcome};
 ghost use Rattle.sw_tables.specs.Linked.{registration_of};
 ghost use Rattle.sw_work.specs.Hosted.{state_of};
 ghost use Rattle.sw_work.specs.Plans.{FitsAsked, FitsWork, IsAsked, IsUnregister, Means};
+ghost use Rattle.sw_worker.specs.Table.{worker_at};
 
 use crate::pages::{preload_switch, preload_value};
 use std::alloc::Global;
@@ -93,7 +94,8 @@ fn claim_changes(
     registration: u32,
     worker: u32,
 ) -> Result<Vec<Change>, NoMemory>
-    requires owner { registration_of host.now.workers.rows worker ≡ Some registration }
+    requires claimant { option_map {U = ℕ × Bool} (λ row. (row.registration, is_active row.state))
+        (worker_at worker host.now.workers.rows) ≡ Some (registration, true) }
     ensures { IfOk result (λ changes. changes.items
         ≡ (pages.told_by (PageAct.Claim registration worker) (state_of host.now)).changes) }
 {

@@ -1,6 +1,5 @@
 use Rattle.std.proofs.Common.{◌≡◌, subst, sym}
 use Rattle.std.specs.Prelude.{IfOk}
-use Rattle.sw_prepare.proofs.Changing.{claimant_owned}
 use Rattle.sw_pages.specs.Acts.{told_by}
 use Rattle.sw_pages.specs.Fits.{FitsPage}
 use Rattle.sw_pages.specs.declared.worked.PageAct.{PageAct}
@@ -10,8 +9,7 @@ use Rattle.sw_prepare.proofs.telling.page_changes.Goals as goal
 pub claim_changes-requires : goal.claim_changes-requires
 claim_changes-requires c =
     let host = c.args.host.now in
-    let fits = subst (λ (a : PageAct). FitsPage a host.workers host.registrations host.clients host.queues) c.in-Claim.is c.requires in
-    record { owner = claimant_owned host.workers.rows c.in-Claim.worker c.in-Claim.registration fits }
+    record { claimant = subst (λ (a : PageAct). FitsPage a host.workers host.registrations host.clients host.queues) c.in-Claim.is c.requires }
 
 pub returns-in-Close : goal.returns-in-Close
 returns-in-Close c =
