@@ -1,7 +1,14 @@
-pub mod Claiming
+pub mod Activating
+pub mod Claimants
+pub mod Counting
 pub mod Ended
-pub mod Pending
+pub mod Leaving
 pub mod Names
+pub mod OneByOne
 pub mod Owing
+pub mod Pending
+pub mod Rows
+pub mod Shown
+pub mod Steps
 pub mod Unloading
 pub mod Unregistering

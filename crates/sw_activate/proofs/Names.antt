@@ -1,9 +1,8 @@
 -- Try Clear, Try Activate and a client that leaves keep the names of all rows.
-use Rattle.std.proofs.Common.{◌≡◌, ◌∙◌, ◌==◌, ◌||◌, ℕ, Bool, true, false, List, [], ◌∷◌, map, Option, Some, None, option_map, option_and_then, is_some, refl, sym, ap, subst, arith, if◌then◌else◌}
+use Rattle.std.proofs.Common.{◌≡◌, ◌∙◌, ◌==◌, ◌||◌, ℕ, Bool, true, false, List, [], ◌∷◌, map, Option, Some, None, option_map, option_and_then, refl, sym, ap, subst, arith, if◌then◌else◌}
 use Rattle.std.specs.Prelude.{find, IfSome}
 use Rattle.sw_client.specs.Table as clients
 use Rattle.sw_data.specs.declared.rows.ClientRow.{ClientRow}
-use Rattle.sw_data.specs.declared.rows.RegistrationRow.{RegistrationRow}
 use Rattle.sw_data.specs.declared.rows.WorkerRow.{WorkerRow}
 use Rattle.sw_data.specs.declared.workers.WorkerState.{WorkerState}
 use Rattle.sw_data.specs.declared.workers.WorkerState.TheVariants as worker_state
@@ -35,11 +34,11 @@ pub seen_same : {X Y : Type 0} (seen : X → Y) (test : X → Bool) (f : X → X
 seen_same seen test f same [] = refl
 seen_same seen test f same (x ∷ xs) = grind (arith, same x, seen_same seen test f same xs)
 
-map_map : {X Y Z : Type 0} (g : Y → Z) (f : X → Y) (xs : List X) → map g (map f xs) ≡ map (λ x. g (f x)) xs
+pub map_map : {X Y Z : Type 0} (g : Y → Z) (f : X → Y) (xs : List X) → map g (map f xs) ≡ map (λ x. g (f x)) xs
 map_map g f [] = refl
 map_map g f (x ∷ xs) = grind (arith, map_map g f xs)
 
-promoted : (state : WorkerState) (row : Worker) → of_worker (promote (record row { state = state })) ≡ of_worker row
+pub promoted : (state : WorkerState) (row : Worker) → of_worker (promote (record row { state = state })) ≡ of_worker row
 promoted worker_state.Parsed row = refl
 promoted worker_state.Installing row = refl
 promoted worker_state.Installed row = refl
@@ -131,21 +130,7 @@ module _ (w0 w1 w2 : workers.Table) (r0 r1 r2 : registrations.Table) (c0 c1 c2 :
 
 -- ---- what is found by its name
 
-some_map : {X Y : Type 0} (f : X → Y) (o : Option X) → is_some (option_map f o) ≡ is_some o
-some_map f None = refl
-some_map f (Some x) = refl
-
-named : (number : ℕ) (rows : List RegistrationRow) → registrations.is_there number rows ≡ is_some (find (λ n. n == number) (map (λ row. row.number) rows))
-named number rows =
-    sym (ap is_some (find_map (λ n. n == number) (λ (row : RegistrationRow). row.number) rows)
-    ∙ some_map (λ (row : RegistrationRow). row.number) (registrations.registration_at number rows))
-
-pub still_there : (number : ℕ) (old new : List RegistrationRow) → map (λ row. row.number) new ≡ map (λ row. row.number) old
-    → registrations.is_there number old ≡ true → registrations.is_there number new ≡ true
-still_there number old new are was =
-    named number new ∙ (ap (λ (numbers : List ℕ). is_some (find (λ n. n == number) numbers)) are ∙ (sym (named number old) ∙ was))
-
-abbrev owner_in : ℕ → List (ℕ × ℕ) → Option ℕ
+abbrev pub owner_in : ℕ → List (ℕ × ℕ) → Option ℕ
 owner_in number pairs = option_map (λ pair. pair.1) (find (λ pair. pair.0 == number) pairs)
 
 owned : (number : ℕ) (rows : List WorkerRow) → registration_of rows number ≡ owner_in number (map numbers rows)

@@ -1,3 +1,5 @@
 pub mod Answers
+pub mod Claiming
+pub mod Counting
 pub mod Names
 pub mod Running

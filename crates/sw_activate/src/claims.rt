@@ -224,7 +224,7 @@ pub fn claim(
 }
 
 // Whether a worker in this state is the active one.
-fn is_active(state: WorkerState) -> bool
+pub(crate) fn is_active(state: WorkerState) -> bool
     ensures { result ≡ rows_of.is_active state }
 {
     matches!(state, WorkerState::Activating | WorkerState::Activated)

@@ -2,6 +2,7 @@
 #![tactic(auto)]
 
 mod checks;
+mod claiming;
 mod claims;
 mod clients;
 mod events;
@@ -9,6 +10,7 @@ mod handler;
 mod owed;
 mod unregister;
 
+pub use claiming::claimed;
 pub use claims::{claim, claims_client};
 pub use clients::unload;
 pub use events::{end_event, skip_waiting};

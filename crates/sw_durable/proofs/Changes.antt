@@ -14,12 +14,12 @@ use Rattle.sw_rules.specs.Rows.{has_pending_worker, is_event, is_mapped, is_regi
 use Rattle.sw_rules.specs.State.{State, Registration}
 use Rattle.sw_rules.specs.Told.{Told, Outcome, followed, is_kept, kept_change, quiet}
 use Rattle.sw_tables.proofs.Rows.{at_changed}
-use Rattle.sw_durable.specs.Kept.{activation_changes, kept_registration}
+use Rattle.sw_durable.specs.Kept.{activation_changes, active_change, kept_registration}
 
 -- ---- Try Activate, and what comes before it
 
 -- a Try Activate tells the change of the registration's active worker
-pub tried : (state : State) (registration : ℕ) → (rules.try_activate state registration).changes ≡ activation_changes state registration
+tried : (state : State) (registration : ℕ) → (rules.try_activate state registration).changes ≡ activation_changes state registration
 unfolding rules.try_activate rules.activate
 tried state registration = by (rules.chosen state registration)
   where
@@ -35,16 +35,20 @@ any_mapped registration [] none = refl
 any_mapped registration (x ∷ xs) none = grind (arith, none, any_mapped registration xs)
 
 -- of a registration that isn't mapped nothing is told
-pub unmapped : (state : State) (registration : ℕ) → is_mapped state registration ≡ false → activation_changes state registration ≡ []
-unmapped state registration none =
-    by (registration_row state registration) (any_mapped registration state.registrations none)
-    (is_some (rules.chosen state registration))
+pub unmapped : (state : State) (registration : ℕ) → is_mapped state registration ≡ false → active_change state registration ≡ []
+unmapped state registration none = by (registration_row state registration) (any_mapped registration state.registrations none)
   where
-    by : (o : Option Registration) → option_map_or (λ (row : Registration). row.mapped) o false ≡ false → (b : Bool)
-        → (if b then option_map_or (λ row. if is_kept state row then change.Active row.key row.scope ∷ [] else []) o [] else []) ≡ []
-    by o not_mapped false = refl
-    by None not_mapped true = refl
-    by (Some row) not_mapped true = cc not_mapped
+    by : (o : Option Registration) → option_map_or (λ (row : Registration). row.mapped) o false ≡ false
+        → option_map_or (λ row. if is_kept state row then change.Active row.key row.scope ∷ [] else []) o [] ≡ []
+    by None not_mapped = refl
+    by (Some row) not_mapped = cc not_mapped
+
+pub unmapped_activation : (state : State) (registration : ℕ) → is_mapped state registration ≡ false → activation_changes state registration ≡ []
+unmapped_activation state registration none = by (is_some (rules.chosen state registration))
+  where
+    by : (b : Bool) → (if b then active_change state registration else []) ≡ []
+    by true = unmapped state registration none
+    by false = refl
 
 -- Try Clear changes no registration
 try_cleared : (state : State) (registration : ℕ) → is_mapped state registration ≡ false
@@ -54,10 +58,10 @@ try_cleared state registration none = by (is_used state registration || has_pend
   where
     by : (b : Bool) → activation_changes (if b then quiet state else rules.clear state registration).state registration ≡ activation_changes state registration
     by true = refl
-    by false = unmapped (rules.clear state registration).state registration none ∙ sym (unmapped state registration none)
+    by false = unmapped_activation (rules.clear state registration).state registration none ∙ sym (unmapped_activation state registration none)
 
 -- and tells no change
-pub clears_quietly : (state : State) (registration : ℕ) → (rules.try_clear state registration).changes ≡ []
+clears_quietly : (state : State) (registration : ℕ) → (rules.try_clear state registration).changes ≡ []
 unfolding rules.try_clear rules.clear
 clears_quietly state registration = by (is_used state registration || has_pending_worker state registration)
   where
@@ -100,7 +104,7 @@ released left registration = by (is_used left registration)
     by true = refl
     by false = rechecked left registration
 
-unloaded : (state : State) (client : ℕ) (o : Option ℕ) → rules.used_registration state client ≡ o
+pub unloaded : (state : State) (client : ℕ) (o : Option ℕ) → rules.used_registration state client ≡ o
     → (rules.unload state client).changes
     ≡ (elim o [ None ↦ [] | Some registration ↦ left_changes (rules.left_by client state) registration (is_used (rules.left_by client state) registration) ])
 unfolding rules.unload followed

@@ -1,329 +1,188 @@
--- Clients that are claimed, one after another: the durable changes are those that the state before tells.
-use Rattle.std.proofs.Common.{◌≡◌, ◌∙◌, ◌<◌, ◌-◌, ◌==◌, ◌||◌, nat_lt, nat_eq, ℕ, Bool, true, false, List, [], ◌∷◌, ◌++◌, map, find, Option, Some, None, option_and_then, refl, sym, ap, subst, arith, ◌⊎◌, inl, inr, ⊎_elim, if◌then◌else◌}
-use Rattle.std.specs.List.{list_any, IsDistinct}
+-- Clients that are claimed, one after another: the durable changes are those of the registrations that are activated.
+use Rattle.std.proofs.Common.{◌≡◌, ◌∙◌, ◌&&◌, ◌||◌, ℕ, Bool, true, false, List, [], ◌∷◌, ◌++◌, map, find, is_some, Option, Some, None, option_map, refl, sym, ap, if◌then◌else◌}
+use Rattle.std.specs.List.{flat_map, IsDistinct}
 use Rattle.std.specs.Option.{option_map_or}
-use Rattle.std.proofs.lemmas.Bool.Decides.{nat_tests}
-use Rattle.std.proofs.lemmas.List.{append-nil, append_assoc}
-use Rattle.std.proofs.lemmas.List.Folds.{list_any-append}
+use Rattle.std.specs.Prelude.{nat_eq}
+use Rattle.std.proofs.lemmas.List.{append-nil}
+use Rattle.std.proofs.lemmas.Grind.{flat_map-append}
+use Rattle.sw_activate.proofs.Activating.{Goes, begins, loyal_left, one_step, used_there}
+use Rattle.sw_activate.proofs.Claimants.{claimed_by}
+use Rattle.sw_activate.proofs.Leaving.{IsOwned, activated_where, not_activated, same_mapped, same_slot, workers_of}
+use Rattle.sw_activate.proofs.Names.{registration_shown}
+use Rattle.sw_activate.proofs.Shown.{all_owned}
+use Rattle.sw_activate.specs.Claiming.{activated_by_claim, activated_by_claims, activated_by_release, activated_by_unload, claimed}
+use Rattle.sw_activate.specs.Counting.{Users, step_users, used_by, users_in}
+use Rattle.sw_activate.specs.Names.{numbers_of}
+use Rattle.sw_client.specs.Table as clients
 use Rattle.sw_data.specs.declared.rows.ClientRow.{ClientRow}
+use Rattle.sw_data.specs.declared.rows.WorkerRow.{WorkerRow}
+use Rattle.sw_data.specs.declared.storage.Change.{Change}
+use Rattle.sw_data.specs.declared.storage.Change.TheVariants as change
+use Rattle.sw_data.specs.declared.workers.Slot.{Slot}
+use Rattle.sw_data.specs.declared.workers.Slot.TheVariants as place
+use Rattle.sw_reg.specs.Table as registrations
 use Rattle.sw_rules.specs.Clients.{claim_client, claim_clients, claims, take_control}
-use Rattle.sw_rules.specs.Registrations.{controlled_by, left_by, release, unload, used_registration}
-use Rattle.sw_rules.specs.Rows.{changed, client_row, is_client, is_number, is_used, registration_of}
+use Rattle.sw_rules.specs.Registrations.{chosen, left_by, try_clear, unload, used_registration}
+use Rattle.sw_rules.specs.Rows.{client_row, is_active, is_mapped, is_registration, is_used, registration_of, registration_row, slot_worker}
 use Rattle.sw_rules.specs.State.{State, Registration}
-use Rattle.sw_rules.specs.Told.{Told, followed, quiet}
-use Rattle.sw_durable.specs.Claiming.{Users, emptied, emptied_changes, moved, step_changes, step_users, steps_changes, used_by, users_in}
-use Rattle.sw_durable.proofs.Leaving.{IsOwned, SameNames, not_released, released_changes, released_keeps, same_owner, used_is, workers_of}
-use Rattle.sw_durable.proofs.Steps.{claimed_changes, claimed_users, passed_changes, passed_users}
-use Rattle.sw_durable.proofs.Rows.{changed_there, count_least, count_replaced, count_two, found_there, numbers_same}
+use Rattle.sw_rules.specs.Told.{Told, followed, is_kept, quiet}
+use Rattle.sw_scope.specs.Scopes.{Scopes}
+use Rattle.sw_tables.proofs.Rows.{found_number}
+use Rattle.sw_tables.specs.Lent.{Rest, lent}
+use Rattle.sw_tables.specs.Linked.{Linked}
+use Rattle.sw_worker.specs.Table as workers
+use Rattle.sw_worker.specs.Table.{worker_at}
+use Rattle.sw_durable.specs.Kept.{activation_changes, active_change}
+use Rattle.sw_durable.proofs.Changes.{left_changes, unloaded, unmapped, unmapped_activation}
 
--- what a claim asks of a client is asked of the registrations alone
-claims_same : (old new : State) → new.registrations ≡ old.registrations → (worker registration : ℕ) (client : ClientRow)
-    → claims new worker registration client ≡ claims old worker registration client
-claims_same old new same worker registration client =
-    ap (λ (rows : List Registration). claims (record old { registrations = rows }) worker registration client) same
+-- ---- a registration whose workers are as before
 
--- a client that has no controller
-abbrev freed : ClientRow → ClientRow
-freed row = record row { controller = None }
+module _ (old new : State) (registration : ℕ) (rows : new.registrations ≡ old.registrations) (same : workers_of registration new.workers ≡ workers_of registration old.workers) where
+  same_kept : (row : Registration) → row.number ≡ registration → is_kept new row ≡ is_kept old row
+  same_kept row own = λ i. row.mapped && (is_some (slot_of place.Waiting i) || is_some (slot_of place.Active i))
+    where
+      slot_of : (p : Slot) → slot_worker new p row.number ≡ slot_worker old p row.number
+      slot_of p = ap (slot_worker new p) own ∙ (same_slot old new registration same p ∙ ap (slot_worker old p) (sym own))
 
-is_one : (o : Option ℕ) (n : ℕ) → is_number o n ≡ true → o ≡ Some n
-is_one None n is = absurd cc
-is_one (Some m) n is = ap (λ (k : ℕ). Some k) (grind (arith, nat_tests, is))
+  abbrev kept_with : State → Option Registration → List Change
+  kept_with state o = option_map_or (λ row. if is_kept state row then change.Active row.key row.scope ∷ [] else []) o []
 
-not_both : (a b : ℕ) → is_number (Some a) b ≡ true → (b ≡ a → ⊥) → ⊥
-not_both a b is other = other (grind (arith, nat_tests, is))
+  same_change : active_change new registration ≡ active_change old registration
+  same_change =
+      ap (λ (registrations : List Registration). kept_with new (find (is_registration registration) registrations)) rows ∙ by (registration_row old registration) refl
+    where
+      by : (o : Option Registration) → registration_row old registration ≡ o → kept_with new o ≡ kept_with old o
+      by None is = refl
+      by (Some row) is =
+          ap (λ (b : Bool). if b then change.Active row.key row.scope ∷ [] else [])
+          (same_kept row (found_number (λ (r : Registration). r.number) registration old.registrations row is))
 
-own_number : (n : ℕ) → is_number (Some n) n ≡ true
-own_number n = grind (arith, nat_tests)
+-- ---- a registration that no client uses any more
+
+module _ (first left : State) (registration : ℕ) (rows : left.registrations ≡ first.registrations) (same : workers_of registration left.workers ≡ workers_of registration first.workers)
+    (unused : is_used left registration ≡ false) where
+  none_told : is_mapped left registration ≡ false → (b : Bool) → [] ≡ flat_map (active_change first) (if b then registration ∷ [] else [])
+  none_told none true = sym (append-nil (active_change first registration) ∙ unmapped first registration (sym (same_mapped first left registration rows) ∙ none))
+  none_told none false = refl
+
+  one_told : (b : Bool) → (if b then active_change left registration else []) ≡ flat_map (active_change first) (if b then registration ∷ [] else [])
+  one_told true = same_change first left registration rows same ∙ sym (append-nil (active_change first registration))
+  one_told false = refl
+
+  activation_told : activation_changes left registration ≡ flat_map (active_change first) (activated_by_release left registration)
+  activation_told = by (is_mapped left registration) refl
+    where
+      by : (b : Bool) → is_mapped left registration ≡ b → activation_changes left registration ≡ flat_map (active_change first) (activated_by_release left registration)
+      by true mapped =
+          one_told (is_some (chosen left registration))
+          ∙ sym (ap (λ (used : Bool). flat_map (active_change first) (activated_where left registration used (is_mapped left registration))) unused
+          ∙ ap (λ (b : Bool). flat_map (active_change first) (activated_where left registration false b)) mapped)
+      by false none =
+          unmapped_activation left registration none
+          ∙ (none_told none (is_some (chosen (try_clear left registration).state registration))
+          ∙ sym (ap (λ (used : Bool). flat_map (active_change first) (activated_where left registration used (is_mapped left registration))) unused
+          ∙ ap (λ (b : Bool). flat_map (active_change first) (activated_where left registration false b)) none))
+
+-- ---- clients that are claimed
 
 module _ (first : State) (is_owned : IsOwned first) (worker registration : ℕ) (owner : registration_of first worker ≡ Some registration) where
-  abbrev uses_it : ℕ → ClientRow → Bool
-  uses_it q client = is_number (used_by first client) q
+  abbrev told_of : List ℕ → List Change
+  told_of = flat_map (active_change first)
 
-  abbrev held : ClientRow → Bool
-  held client = is_number client.controller worker
-
-  -- a client of the claiming worker uses its registration
-  held_uses : (client : ClientRow) → held client ≡ true → uses_it registration client ≡ true
-  held_uses client is =
-      ap (λ (o : Option ℕ). is_number (option_and_then (registration_of first) o) registration) (is_one client.controller worker is)
-      ∙ (ap (λ (o : Option ℕ). is_number o registration) owner ∙ own_number registration)
-
-  -- own: a state after some clients were handled, with the users of each registration, the clients handled, and those to come. The workers
-  -- of a registration that has users are as before; those of the claiming one until a client is claimed, and then it has users for good
-  pub record Goes (state : State) (users : Users) (done rows : List ClientRow) : Type 0 where
-    pub registrations : state.registrations ≡ first.registrations
-    pub events : state.fetch_events ≡ first.fetch_events
-    pub names : SameNames first state
-    pub clients : state.clients ≡ done ++ rows
-    pub apart : IsDistinct nat_eq (map (λ (row : ClientRow). row.number) (done ++ rows))
-    pub counted : (q : ℕ) → users q ≡ users_in first (done ++ rows) q
-    pub others : (q : ℕ) → (q ≡ registration → ⊥) → 0 < users q → workers_of q state.workers ≡ workers_of q first.workers
-    pub own : (workers_of registration state.workers ≡ workers_of registration first.workers) ⊎ (list_any held done ≡ true)
-
-  pub begins : IsDistinct nat_eq (map (λ (row : ClientRow). row.number) first.clients) → Goes first (users_in first first.clients) [] first.clients
-  begins apart = record {
-    registrations = refl;
-    events = refl;
-    names = refl;
-    clients = refl;
-    apart = apart;
-    counted = λ q. refl;
-    others = λ q other used. refl;
-    own = inl refl;
-  }
-
-  -- ---- one client
-
-  module _ (state : State) (users : Users) (done : List ClientRow) (row : ClientRow) (rows : List ClientRow) (goes : Goes state users done (row ∷ rows)) where
-    abbrev used : Option ℕ
-    used = used_by first row
-
-    found : client_row state row.number ≡ Some row
-    found = ap (find (is_client row.number)) goes.clients ∙ found_there (λ (r : ClientRow). r.number) done row rows goes.apart
-
-    used_there : used_registration state row.number ≡ used
-    used_there =
-        ap (λ (o : Option ClientRow). option_and_then (registration_of state) (option_and_then (λ (r : ClientRow). r.controller) o)) found
-        ∙ by row.controller
-      where
-        by : (o : Option ℕ) → option_and_then (registration_of state) o ≡ option_and_then (registration_of first) o
-        by None = refl
-        by (Some number) = same_owner first state goes.names number
-
+  module _ (state : State) (users : Users) (done : List ClientRow) (row : ClientRow) (rows : List ClientRow) (goes : Goes first is_owned worker registration owner state users done (row ∷ rows)) where
     abbrev left : State
     left = left_by row.number state
 
-    left_clients : left.clients ≡ done ++ freed row ∷ rows
-    left_clients =
-        ap (changed (is_client row.number) freed) goes.clients
-        ∙ changed_there (λ (r : ClientRow). r.number) freed done row rows goes.apart
+    used_is : used_registration state row.number ≡ used_by first row
+    used_is = used_there first is_owned worker registration owner state users done row rows goes
 
-    -- the users that are left
-    left_users : (q : ℕ) → used ≡ Some q → users_in first left.clients q ≡ users q - 1
-    left_users q is =
-        let counted = count_replaced (uses_it q) done row (freed row) rows in
-        let passes : uses_it q row ≡ true = ap (λ (o : Option ℕ). is_number o q) is ∙ own_number q in
-        let now = goes.counted q in
-        ap (λ (clients : List ClientRow). users_in first clients q) left_clients ∙ grind (arith, counted, passes, now)
-
-    left_used : (q : ℕ) → used ≡ Some q → is_used left q ≡ nat_lt 0 (users q - 1)
-    left_used q is = used_is first is_owned left goes.names q ∙ ap (nat_lt 0) (left_users q is)
-
-    -- where the last user leaves a registration, its workers are as before
-    loyal : (q : ℕ) → used ≡ Some q → (users q - 1 == 0) ≡ true → workers_of q state.workers ≡ workers_of q first.workers
-    loyal q is last = by (q == registration) refl
+    release_told : (q : ℕ) → used_by first row ≡ Some q → left_changes left q (is_used left q) ≡ told_of (activated_by_release left q)
+    release_told q is = by (is_used left q) refl
       where
-        passes : uses_it q row ≡ true
-        passes = ap (λ (o : Option ℕ). is_number o q) is ∙ own_number q
+        by : (b : Bool) → is_used left q ≡ b → left_changes left q (is_used left q) ≡ told_of (activated_by_release left q)
+        by true used = ap (left_changes left q) used ∙ sym (ap told_of (not_activated left q used))
+        by false unused =
+            ap (left_changes left q) unused
+            ∙ activation_told first left q goes.registrations (loyal_left first is_owned worker registration owner state users done row rows goes q is unused) unused
 
-        at_least : 0 < users q
-        at_least = let one = count_least (uses_it q) done row rows in let now = goes.counted q in grind (arith, one, passes, now)
+    abbrev left_told : Option ℕ → List Change
+    left_told o = elim o [ None ↦ [] | Some q ↦ left_changes left q (is_used left q) ]
 
-        held_before : q ≡ registration → list_any held done ≡ true → ⊥
-        held_before own some =
-            let implies = λ (client : ClientRow) (is_held : held client ≡ true). ap (λ (n : ℕ). uses_it n client) own ∙ held_uses client is_held in
-            let two = count_two held (uses_it q) implies done row rows some passes in
-            let now = goes.counted q in
-            grind (arith, nat_tests, two, now, last)
+    abbrev left_activated : Option ℕ → List ℕ
+    left_activated o = elim o [ None ↦ [] | Some q ↦ activated_by_release left q ]
 
-        by : (b : Bool) → (q == registration) ≡ b → workers_of q state.workers ≡ workers_of q first.workers
-        by true here =
-            let own : q ≡ registration = grind (arith, nat_tests, here) in
-            ⊎_elim
-            (λ same. subst (λ (n : ℕ). workers_of n state.workers ≡ workers_of n first.workers) (sym own) same)
-            (λ some. absurd (held_before own some)) goes.own
-        by false here = goes.others q (λ own. grind (arith, nat_tests, here, own)) at_least
+    left_by_used : (o : Option ℕ) → used_by first row ≡ o → left_told o ≡ told_of (left_activated o)
+    left_by_used None is = refl
+    left_by_used (Some q) is = release_told q is
 
-    -- own: what is left where the client has left its registration, before it gets its controller
-    record Left (told : Told) : Type 0 where
-      registrations : told.state.registrations ≡ first.registrations
-      events : told.state.fetch_events ≡ first.fetch_events
-      names : SameNames first told.state
-      clients : changed (is_client row.number) (controlled_by worker) told.state.clients ≡ done ++ controlled_by worker row ∷ rows
-      others : (q : ℕ) → (is_number used q ≡ true → (users q - 1 == 0) ≡ true → ⊥) → workers_of q told.state.workers ≡ workers_of q state.workers
-      changes : told.changes ≡ emptied_changes first (emptied users used)
+    unload_told : (unload state row.number).changes ≡ told_of (activated_by_unload state row.number)
+    unload_told =
+        unloaded state row.number (used_by first row) used_is
+        ∙ (left_by_used (used_by first row) refl ∙ sym (ap (λ (o : Option ℕ). told_of (left_activated o)) used_is))
 
-    given : (next : State) → next.clients ≡ left.clients → changed (is_client row.number) (controlled_by worker) next.clients ≡ done ++ controlled_by worker row ∷ rows
-    given next same =
-        ap (changed (is_client row.number) (controlled_by worker)) (same ∙ left_clients)
-        ∙ changed_there (λ (r : ClientRow). r.number) (controlled_by worker) done (freed row) rows
-        (subst (IsDistinct nat_eq) (numbers_same (λ (r : ClientRow). r.number) done row (freed row) rows refl) goes.apart)
-
-    abbrev released : Option ℕ → Told
-    released o = elim o [ None ↦ quiet state | Some q ↦ followed (quiet left) (λ next. release next q) ]
-
-    abbrev is_last : ℕ → Bool → Option ℕ
-    is_last q last = if last then Some q else None
-
-    released_left : (o : Option ℕ) → used ≡ o → Left (released o)
-    unfolding followed
-    released_left None none = record {
-      registrations = goes.registrations;
-      events = goes.events;
-      names = goes.names;
-      clients = ap (changed (is_client row.number) (controlled_by worker)) goes.clients ∙ changed_there (λ (r : ClientRow). r.number) (controlled_by worker) done row rows goes.apart;
-      others = λ q not_last. refl;
-      changes = sym (ap (λ (o : Option ℕ). emptied_changes first (emptied users o)) none);
-    }
-    released_left (Some q) is = by (users q - 1 == 0) refl
-      where
-        unused : (users q - 1 == 0) ≡ true → is_used left q ≡ false
-        unused last = left_used q is ∙ grind (arith, nat_tests, last)
-
-        by : (b : Bool) → (users q - 1 == 0) ≡ b → Left (followed (quiet left) (λ next. release next q))
-        by true last =
-            let keeps = released_keeps first left is_owned q goes.registrations goes.events goes.names (loyal q is last) (unused last) in record {
-              registrations = keeps.registrations ∙ goes.registrations;
-              events = keeps.events ∙ goes.events;
-              names = keeps.names ∙ goes.names;
-              clients = given (release left q).state keeps.clients;
-              others = λ p not_last. keeps.others p
-                  (λ same. not_last (ap (λ (o : Option ℕ). is_number o p) is ∙ (ap (is_number (Some q)) same ∙ own_number q))
-                  (ap (λ (n : ℕ). users n - 1 == 0) same ∙ last));
-              changes =
-                  released_changes first left is_owned q goes.registrations goes.events goes.names (loyal q is last) (unused last)
-                  ∙ sym (ap (λ (o : Option ℕ). emptied_changes first (emptied users o)) is ∙ ap (λ (b : Bool). emptied_changes first (is_last q b)) last);
-            }
-        by false last =
-            let quietly : release left q ≡ quiet left = not_released left q (left_used q is ∙ grind (arith, nat_tests, last)) in
-            subst (λ (told : Told). Left (followed (quiet left) (λ next. told))) (sym quietly) (record {
-              registrations = goes.registrations;
-              events = goes.events;
-              names = goes.names;
-              clients = given left refl;
-              others = λ p not_last. refl;
-              changes = sym (ap (λ (o : Option ℕ). emptied_changes first (emptied users o)) is ∙ ap (λ (b : Bool). emptied_changes first (is_last q b)) last);
-            })
-
-    unloaded : Left (unload state row.number)
-    unfolding unload
-    unloaded = subst (λ (o : Option ℕ). Left (released o)) (sym used_there) (released_left used refl)
-
-    -- ---- the client gets its controller
-
-    abbrev taken : ClientRow
-    taken = controlled_by worker row
-
-    taken_users : (q : ℕ) → moved used registration users q ≡ users_in first (done ++ taken ∷ rows) q
-    taken_users q =
-        let replaced = count_replaced (uses_it q) done row taken rows in
-        let now = ap {B = ℕ} (λ (o : Option ℕ). if is_number o q then 1 else 0) owner in
-        let least = count_least (uses_it q) done row rows in
-        let before = goes.counted q in
-        omega (arith, replaced, now, least, before)
-
-    not_it : (q : ℕ) → (q ≡ registration → ⊥) → is_number (Some registration) q ≡ false
-    not_it q other = by (is_number (Some registration) q) refl
-      where
-        by : (b : Bool) → is_number (Some registration) q ≡ b → is_number (Some registration) q ≡ false
-        by true is = absurd (other (grind (arith, nat_tests, is)))
-        by false is = is
-
-    moved_elsewhere : (q : ℕ) → (q ≡ registration → ⊥) → moved used registration users q ≡ users q - (if is_number used q then 1 else 0)
-    moved_elsewhere q other =
-        let none = ap {B = ℕ} (λ (b : Bool). if b then 1 else 0) (not_it q other) in
-        omega (arith, none)
-
-    last_gone : (q : ℕ) → (q ≡ registration → ⊥) → 0 < moved used registration users q → is_number used q ≡ true → (users q - 1 == 0) ≡ true → ⊥
-    last_gone q other some passes last =
-        let elsewhere = moved_elsewhere q other in
-        grind (arith, nat_tests, elsewhere, some, passes, last)
-
-    some_before : (q : ℕ) → (q ≡ registration → ⊥) → 0 < moved used registration users q → 0 < users q
-    some_before q other some = let elsewhere = moved_elsewhere q other in omega (arith, elsewhere, some)
-
-    taken_held : list_any held (done ++ taken ∷ []) ≡ true
-    taken_held =
-        let parts = list_any-append held done (taken ∷ []) in
-        let own = own_number worker in
-        by (list_any held done) parts own
-      where
-        by : (b : Bool) → list_any held (done ++ taken ∷ []) ≡ (b || (is_number (Some worker) worker || false)) → is_number (Some worker) worker ≡ true → list_any held (done ++ taken ∷ []) ≡ true
-        by true parts own = parts
-        by false parts own = parts ∙ ap (λ (b : Bool). b || false) own
-
-    taken_goes : (told : Told) → Left told → Goes (take_control told.state worker row.number).state (moved used registration users) (done ++ taken ∷ []) rows
-    unfolding take_control
-    taken_goes told left_it = record {
-      registrations = left_it.registrations;
-      events = left_it.events;
-      names = left_it.names;
-      clients = left_it.clients ∙ sym (append_assoc done (taken ∷ []) rows);
-      apart =
-          subst (λ (clients : List ClientRow). IsDistinct nat_eq (map (λ (r : ClientRow). r.number) clients)) (sym (append_assoc done (taken ∷ []) rows))
-          (subst (IsDistinct nat_eq) (numbers_same (λ (r : ClientRow). r.number) done row taken rows refl) goes.apart);
-      counted = λ q. taken_users q ∙ ap (λ (clients : List ClientRow). users_in first clients q) (sym (append_assoc done (taken ∷ []) rows));
-      others = λ q other some. left_it.others q (last_gone q other some) ∙ goes.others q other (some_before q other some);
-      own = inr taken_held;
-    }
-
-    passed_held : list_any held done ≡ true → list_any held (done ++ row ∷ []) ≡ true
-    passed_held some = list_any-append held done (row ∷ []) ∙ ap (λ (b : Bool). b || list_any held (row ∷ [])) some
-
-    passed_goes : Goes state users (done ++ row ∷ []) rows
-    passed_goes = record {
-      registrations = goes.registrations;
-      events = goes.events;
-      names = goes.names;
-      clients = goes.clients ∙ sym (append_assoc done (row ∷ []) rows);
-      apart = subst (λ (clients : List ClientRow). IsDistinct nat_eq (map (λ (r : ClientRow). r.number) clients)) (sym (append_assoc done (row ∷ []) rows)) goes.apart;
-      counted = λ q. goes.counted q ∙ ap (λ (clients : List ClientRow). users_in first clients q) (sym (append_assoc done (row ∷ []) rows));
-      others = goes.others;
-      own = ⊎_elim (λ same. inl same) (λ some. inr (passed_held some)) goes.own;
-    }
-
-    -- own: one client was handled
-    record Stepped (told : Told) : Type 0 where
-      changes : told.changes ≡ step_changes first worker registration users row
-      next : ClientRow
-      goes_on : Goes told.state (step_users first worker registration users row) (done ++ next ∷ []) rows
-
-    abbrev is_claimed : Bool
-    is_claimed = claims first worker registration row
-
-    asked : option_map_or (claims state worker registration) (client_row state row.number) false ≡ is_claimed
-    asked =
-        ap (λ (o : Option ClientRow). option_map_or (claims state worker registration) o false) found
-        ∙ claims_same first state goes.registrations worker registration row
-
-    abbrev claimed : Bool → Told
-    claimed b = if b then followed (unload state row.number) (λ next. take_control next worker row.number) else quiet state
-
-    one_step : Stepped (claim_client state worker registration row.number)
+    claim_told : (claim_client state worker registration row.number).changes ≡ told_of (activated_by_claim state worker registration row.number)
     unfolding claim_client followed take_control
-    one_step = subst (λ (b : Bool). Stepped (claimed b)) (sym asked) (by is_claimed refl)
+    claim_told = by (option_map_or (claims state worker registration) (client_row state row.number) false)
       where
-        by : (b : Bool) → is_claimed ≡ b → Stepped (claimed b)
-        by true is = record {
-          changes = append-nil (unload state row.number).changes ∙ (unloaded.changes ∙ sym (claimed_changes first worker registration users row is));
-          next = taken;
-          goes_on =
-              subst (λ (now : Users). Goes (take_control (unload state row.number).state worker row.number).state now (done ++ taken ∷ []) rows)
-              (sym (claimed_users first worker registration users row is))
-              (taken_goes (unload state row.number) unloaded);
-        }
-        by false is = record {
-          changes = sym (passed_changes first worker registration users row is);
-          next = row;
-          goes_on =
-              subst (λ (now : Users). Goes state now (done ++ row ∷ []) rows)
-              (sym (passed_users first worker registration users row is))
-              passed_goes;
-        }
+        by : (b : Bool) → (let told : Told = if b then followed (unload state row.number) (λ next. take_control next worker row.number) else quiet state in told.changes)
+            ≡ told_of (if b then activated_by_unload state row.number else [])
+        by true = append-nil (unload state row.number).changes ∙ unload_told
+        by false = refl
 
-  -- ---- one client after another
-
-  pub all_steps : (rows : List ClientRow) (state : State) (users : Users) (done : List ClientRow) → Goes state users done rows
-      → (claim_clients state worker registration (map (λ (row : ClientRow). row.number) rows)).changes ≡ steps_changes first worker registration users rows
+  all_told : (rows : List ClientRow) (state : State) (users : Users) (done : List ClientRow) → Goes first is_owned worker registration owner state users done rows
+      → (claim_clients state worker registration (map (λ (row : ClientRow). row.number) rows)).changes
+      ≡ told_of (activated_by_claims state worker registration (map (λ (row : ClientRow). row.number) rows))
   unfolding claim_clients followed
-  all_steps [] state users done goes = refl
-  all_steps (row ∷ rows) state users done goes =
-      let step = one_step state users done row rows goes in
-      let later = all_steps rows (claim_client state worker registration row.number).state (step_users first worker registration users row) (done ++ step.next ∷ []) step.goes_on in
-      λ i. step.changes i ++ later i
+  all_told [] state users done goes = refl
+  all_told (row ∷ rows) state users done goes =
+      let step = one_step first is_owned worker registration owner state users done row rows goes in
+      let after = (claim_client state worker registration row.number).state in
+      let here = claim_told state users done row rows goes in
+      let later = all_told rows after (step_users first worker registration users row) (done ++ step.next ∷ []) step.goes_on in
+      (λ i. here i ++ later i)
+      ∙ sym (flat_map-append (active_change first) (activated_by_claim state worker registration row.number) (activated_by_claims after worker registration (map (λ (r : ClientRow). r.number) rows)))
 
-  pub claim_told : IsDistinct nat_eq (map (λ (row : ClientRow). row.number) first.clients)
+  claims_told : IsDistinct nat_eq (map (λ (row : ClientRow). row.number) first.clients)
       → (claim_clients first worker registration (map (λ (row : ClientRow). row.number) first.clients)).changes
-      ≡ steps_changes first worker registration (users_in first first.clients) first.clients
-  claim_told apart = all_steps first.clients first (users_in first first.clients) [] (begins apart)
+      ≡ told_of (activated_by_claims first worker registration (map (λ (row : ClientRow). row.number) first.clients))
+  claims_told apart = all_told first.clients first (users_in first first.clients) [] (begins first is_owned worker registration owner apart)
+
+-- ---- the worker that claims
+
+abbrev claimant : List WorkerRow → ℕ → Option (ℕ × Bool)
+claimant rows worker = option_map {U = ℕ × Bool} (λ row. (row.registration, is_active row.state)) (worker_at worker rows)
+
+-- own: an active worker of a registration is there
+record IsClaimant (rows : List WorkerRow) (worker registration : ℕ) : Type 0 where
+  row : WorkerRow
+  there : worker_at worker rows ≡ Some row
+  owner : row.registration ≡ registration
+  active : is_active row.state ≡ true
+
+is_claimant : (rows : List WorkerRow) (worker registration : ℕ) → claimant rows worker ≡ Some (registration, true) → IsClaimant rows worker registration
+is_claimant rows worker registration is = by (worker_at worker rows) refl is
+  where
+    by : (o : Option WorkerRow) → worker_at worker rows ≡ o → option_map {U = ℕ × Bool} (λ row. (row.registration, is_active row.state)) o ≡ Some (registration, true) → IsClaimant rows worker registration
+    by None here is = absurd cc
+    by (Some row) here is =
+        let pair : (row.registration, is_active row.state) ≡ (registration, true) = cc is in record {
+          row = row;
+          there = here;
+          owner = ap (λ (p : ℕ × Bool). p.0) pair;
+          active = ap (λ (p : ℕ × Bool). p.1) pair;
+        }
+
+pub changes_told : (scopes : Scopes) (of_workers : workers.Table) (of : registrations.Table) (of_clients : clients.Table) (rest : Rest) → Linked scopes of_workers of of_clients
+    → IsDistinct nat_eq (numbers_of of_clients) → (worker registration : ℕ) → claimant of_workers.rows worker ≡ Some (registration, true)
+    → flat_map (active_change (lent scopes of_workers of of_clients rest)) (claimed (lent scopes of_workers of of_clients rest) worker)
+    ≡ (claim_clients (lent scopes of_workers of of_clients rest) worker registration (numbers_of of_clients)).changes
+changes_told scopes of_workers of of_clients rest linked apart worker registration is =
+    let found = is_claimant of_workers.rows worker registration is in
+    let state : State = lent scopes of_workers of of_clients rest in
+    let owner : registration_of state worker ≡ Some registration =
+    registration_shown scopes of_workers of of_clients rest worker
+    ∙ (ap (option_map (λ (row : WorkerRow). row.registration)) found.there ∙ ap (λ (n : ℕ). Some n) found.owner) in
+    ap (flat_map (active_change state))
+    (claimed_by scopes of_workers of of_clients rest worker found.row found.there true found.active
+    ∙ ap (λ (n : ℕ). activated_by_claims state worker n (numbers_of of_clients)) found.owner)
+    ∙ sym (claims_told state (all_owned scopes of_workers of of_clients linked rest) worker registration owner apart)

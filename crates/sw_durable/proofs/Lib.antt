@@ -1,12 +1,7 @@
 pub mod Changes
 pub mod Claims
-pub mod Counting
 pub mod Ending
 pub mod JobChanges
 pub mod KeptRows
-pub mod Leaving
 pub mod Registers
-pub mod Rows
-pub mod Shown
-pub mod Steps
 pub mod Taking

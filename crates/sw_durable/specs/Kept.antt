@@ -17,12 +17,14 @@ abbrev pub kept_registration : State → ℕ → Option Registration
 kept_registration state number =
     option_and_then (λ row. if is_kept state row then Some row else None) (registration_row state number)
 
+-- the durable change where the waiting worker of a registration becomes the active one (own)
+abbrev pub active_change : State → ℕ → List Change
+active_change state registration = kept_change state registration (λ row. change.Active row.key row.scope)
+
 -- the durable changes of a Try Activate (own)
 abbrev pub activation_changes : State → ℕ → List Change
 activation_changes state registration =
-    if is_some (chosen state registration)
-    then kept_change state registration (λ row. change.Active row.key row.scope)
-    else []
+    if is_some (chosen state registration) then active_change state registration else []
 
 -- a row of the table is kept: the map has it under its key and scope, and it has a waiting or an active worker (own)
 abbrev pub is_kept_row : Scopes → RegistrationRow → Bool

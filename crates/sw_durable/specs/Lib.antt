@@ -1,4 +1,3 @@
-pub mod Claiming
 pub mod Kept
 pub mod Laws
 pub mod OfJobs

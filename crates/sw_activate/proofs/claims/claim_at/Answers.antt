@@ -3,7 +3,7 @@ use Rattle.sw_client.specs.Table.{clients_of}
 use Rattle.sw_rules.specs.Clients as rules
 use Rattle.sw_rules.specs.Noticing.{Did}
 use Rattle.sw_tables.specs.Lent.{lent}
-use Rattle.sw_activate.proofs.Claiming.{not_past, number_at}
+use Rattle.sw_activate.proofs.OneByOne.{not_past, number_at}
 use Rattle.sw_activate.proofs.claims.claim_at.Goals as goal
 
 pub returns-in-Some-clause-did : goal.returns-in-Some-clause-did

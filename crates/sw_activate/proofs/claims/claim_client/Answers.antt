@@ -1,6 +1,6 @@
 use Rattle.std.proofs.Common.{◌∙◌, sym}
 use Rattle.sw_tables.specs.Lent.{lent}
-use Rattle.sw_activate.proofs.Claiming.{known_owner, take_control_alike}
+use Rattle.sw_activate.proofs.OneByOne.{known_owner, take_control_alike}
 use Rattle.sw_activate.proofs.Names.{empty_rest, kept, still_owned, then_keeps}
 use Rattle.sw_activate.proofs.Unloading.{claimed, not_claimed}
 use Rattle.sw_activate.proofs.claims.claim_client.Goals as goal

@@ -7,7 +7,7 @@ use Rattle.sw_rules.specs.Told.{quiet}
 use Rattle.sw_tables.proofs.Chain.{did_quietly}
 use Rattle.sw_tables.specs.Lent.{lent}
 use Rattle.sw_activate.specs.Names.{numbers_of}
-use Rattle.sw_activate.proofs.Claiming.{below_numbers, claimed_next}
+use Rattle.sw_activate.proofs.OneByOne.{below_numbers, claimed_next}
 use Rattle.sw_activate.proofs.Names.{keeps_all, still_owned, then_keeps}
 use Rattle.sw_activate.proofs.claims.claim_clients.Goals as goal
 

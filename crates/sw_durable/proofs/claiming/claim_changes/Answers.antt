@@ -1,42 +1,18 @@
-use Rattle.std.proofs.Common.{◌≡◌, ◌∙◌, List, map, IfOk, sym, ap, subst, arith}
-use Rattle.sw_activate.proofs.Names.{owner_there, registration_shown}
-use Rattle.sw_client.specs.Table.{clients_of, users_of}
+use Rattle.std.proofs.Common.{◌≡◌, ◌∙◌, List, IfOk, ap, subst}
+use Rattle.std.specs.List.{flat_map}
+use Rattle.sw_activate.specs.Claiming.{claimed}
 use Rattle.sw_data.specs.declared.storage.Change.{Change}
 use Rattle.sw_rules.specs.State.{State}
 use Rattle.sw_tables.specs.Lent.{lent}
-use Rattle.sw_durable.specs.Claiming.{Users, counted, steps_changes, users_in}
-use Rattle.sw_durable.proofs.Claims.{claim_told}
-use Rattle.sw_durable.proofs.Shown.{all_owned, below, counted_users, counts_begin, counts_len, users_shown}
+use Rattle.sw_durable.specs.Kept.{active_change}
+use Rattle.sw_durable.proofs.Claims.{changes_told}
 use Rattle.sw_durable.proofs.claiming.claim_changes.Goals as goal
-
-pub claim_all-requires-clause-there : goal.claim_all-requires-clause-there
-claim_all-requires-clause-there c =
-    let are : c.in_ok-users.users.items ≡ map (λ row. users_of row.number c.args.clients.now.rows) c.args.registrations.now.rows =
-    grind (arith, c.count_users.ensures, c.in_ok-users.was) in
-    let linked = c.requires.linked in
-    let long = counts_len c.args.map.now c.args.workers.now c.args.registrations.now c.args.clients.now linked c.in_ok-users.users.items are in
-    let low = below c.args.map.now c.args.workers.now c.args.registrations.now c.args.clients.now linked c.args.registration
-    (owner_there c.args.workers.now c.args.registrations.now linked.slots c.args.worker c.args.registration c.requires.owner) in
-    omega (arith, long, low, c.in_ok-users.users.ok)
-
-pub claim_all-requires-clause-counts : goal.claim_all-requires-clause-counts
-claim_all-requires-clause-counts c =
-    let are : c.in_ok-users.users.items ≡ map (λ row. users_of row.number c.args.clients.now.rows) c.args.registrations.now.rows =
-    grind (arith, c.count_users.ensures, c.in_ok-users.was) in
-    counts_begin c.args.map.now c.args.workers.now c.args.registrations.now c.args.clients.now c.requires.linked c.in_ok-users.users.items are
 
 pub returns : goal.returns
 returns c = λ rest.
-    let are : c.in_ok-users.users.items ≡ map (λ row. users_of row.number c.args.clients.now.rows) c.args.registrations.now.rows =
-    grind (arith, c.count_users.ensures, c.in_ok-users.was) in
-    let linked = c.requires.linked in
     let state : State = lent c.args.map.now c.args.workers.now c.args.registrations.now c.args.clients.now rest in
-    let users : counted c.in_ok-users.users.items ≡ users_in state (clients_of c.args.clients.now) =
-    λ i q. (counted_users c.args.map.now c.args.workers.now c.args.registrations.now c.args.clients.now linked c.in_ok-users.users.items are q
-    ∙ sym (users_shown c.args.map.now c.args.workers.now c.args.registrations.now c.args.clients.now linked rest q)) i in
-    subst (λ (told : List Change). IfOk c.claim_all.result (λ changes. changes.items ≡ told))
-    (ap (λ (now : Users). steps_changes state c.args.worker c.args.registration now (clients_of c.args.clients.now)) users
-    ∙ sym (claim_told state (all_owned c.args.map.now c.args.workers.now c.args.registrations.now c.args.clients.now linked rest) c.args.worker c.args.registration
-    (registration_shown c.args.map.now c.args.workers.now c.args.registrations.now c.args.clients.now rest c.args.worker ∙ c.requires.owner)
-    c.are_apart.ensures))
-    (c.claim_all.ensures rest)
+    let are : c.deref.result.now ≡ claimed state c.args.worker = c.deref.ensures.value ∙ c.in_ok-numbers.ensures rest in
+    subst (λ (told : List Change). IfOk c.active_changes.result (λ changes. changes.items ≡ told))
+    (ap (flat_map (active_change state)) are
+    ∙ changes_told c.args.map.now c.args.workers.now c.args.registrations.now c.args.clients.now rest c.requires.linked c.are_apart.ensures c.args.worker c.args.registration c.requires.claimant)
+    (c.active_changes.ensures c.args.workers.now c.args.clients.now rest c.requires.linked.slots)

@@ -3,8 +3,8 @@ use Rattle.sw_client.specs.declared.OpenClient.{OpenClient}
 use Rattle.sw_rules.specs.Registrations.{chosen}
 use Rattle.sw_rules.specs.State.{State}
 use Rattle.sw_tables.specs.Lent.{lent}
-use Rattle.sw_durable.proofs.Shown.{none_noted}
-use Rattle.sw_durable.proofs.claiming.may_activate.Goals as goal
+use Rattle.sw_activate.proofs.Shown.{none_noted}
+use Rattle.sw_activate.proofs.claiming.is_ready.Goals as goal
 
 pub returns : goal.returns
 returns c = λ scopes of_clients rest.

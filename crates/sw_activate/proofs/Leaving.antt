@@ -1,33 +1,26 @@
--- A registration that its last client has left, in a state that has gone on: what is to be kept, and what stays.
-use Rattle.std.proofs.Common.{◌≡◌, ◌∙◌, ◌==◌, ◌&&◌, ◌||◌, not, nat_lt, ℕ, Bool, true, false, List, [], ◌∷◌, ◌++◌, map, find, is_some, Option, Some, None, option_map, option_and_then, refl, sym, ap, subst, if◌then◌else◌}
+-- A registration that its last client has left, in a state that has gone on: whether a worker becomes the active one, and what stays.
+use Rattle.std.proofs.Common.{◌≡◌, ◌∙◌, ◌==◌, ◌&&◌, ◌||◌, not, nat_lt, ℕ, Bool, true, false, List, [], ◌∷◌, map, find, is_some, Option, Some, None, option_map, option_and_then, refl, sym, ap, subst, if◌then◌else◌}
 use Rattle.std.specs.List.{list_any}
-use Rattle.std.specs.Option.{option_map_or}
-use Rattle.sw_activate.proofs.Names.{activate_alike, clear_alike, of_worker}
 use Rattle.sw_data.specs.declared.rows.ClientRow.{ClientRow}
-use Rattle.sw_data.specs.declared.storage.Change.{Change}
-use Rattle.sw_data.specs.declared.storage.Change.TheVariants as change
 use Rattle.sw_data.specs.declared.workers.Slot.{Slot}
 use Rattle.sw_data.specs.declared.workers.Slot.TheVariants as place
 use Rattle.sw_data.specs.declared.workers.WorkerState.{WorkerState}
 use Rattle.sw_data.specs.declared.workers.WorkerState.TheVariants as worker_state
-use Rattle.sw_rules.specs.Registrations.{activate, chosen, clear, clear_state, controlled_by, may_replace, promote, recheck, release, try_activate, try_clear}
-use Rattle.sw_rules.specs.Rows.{has_pending_worker, has_worker, in_slot, is_activating, is_mapped, is_number, is_registration, is_used, is_worker, registration_of, registration_row, slot_worker, uses}
+use Rattle.sw_rules.specs.Registrations.{activate, chosen, clear, clear_state, controlled_by, may_replace, promote, recheck, release, shift, try_activate, try_clear}
+use Rattle.sw_rules.specs.Rows.{has_pending, has_pending_worker, has_worker, in_slot, is_activating, is_mapped, is_number, is_used, is_worker, registration_of, slot_worker, uses}
 use Rattle.sw_rules.specs.State.{State, FetchEvent, Registration, Worker}
-use Rattle.sw_rules.specs.Told.{Told, followed, is_kept, kept_change, quiet}
+use Rattle.sw_rules.specs.Told.{Told, followed, quiet}
 use Rattle.sw_tables.proofs.Pending.{any_map}
-use Rattle.sw_tables.proofs.Rows.{find_map, found_number}
-use Rattle.sw_durable.specs.Claiming.{used_by, users_in}
-use Rattle.sw_durable.specs.Kept.{activation_changes}
-use Rattle.sw_durable.proofs.Changes.{clears_quietly, tried, unmapped}
-use Rattle.sw_durable.proofs.Rows.{any_counted, find_of, of_owner, others_kept, unchanged}
+use Rattle.sw_tables.proofs.Rows.{find_map}
+use Rattle.sw_activate.specs.Claiming.{activated_by_release}
+use Rattle.sw_activate.specs.Counting.{may_activate, used_by, users_in}
+use Rattle.sw_activate.proofs.Names as names_of
+use Rattle.sw_activate.proofs.Names.{activate_alike, clear_alike, of_worker, owner_in}
+use Rattle.sw_activate.proofs.Rows.{any_counted, any_of, find_of, of_owner, others_kept, unchanged}
 
 -- the workers of a registration
 abbrev pub workers_of : ℕ → List Worker → List Worker
 workers_of = of_owner (λ (row : Worker). row.registration)
-
--- a Try Activate's durable change
-abbrev pub to_active : Registration → Change
-to_active row = change.Active row.key row.scope
 
 -- own: what stays where one registration is rechecked
 pub record Keeps (registration : ℕ) (old new : State) : Type 0 where
@@ -49,22 +42,14 @@ keeps_then registration one two three a b = record {
   others = λ other not_it. b.others other not_it ∙ a.others other not_it;
 }
 
-promoted : (state : WorkerState) (row : Worker) → (promote (record row { state = state })).registration ≡ row.registration
-promoted worker_state.Parsed row = refl
-promoted worker_state.Installing row = refl
-promoted worker_state.Installed row = refl
-promoted worker_state.Activating row = refl
-promoted worker_state.Activated row = refl
-promoted worker_state.Redundant row = refl
+promoted : (row : Worker) → (promote row).registration ≡ row.registration
+promoted row = ap (λ (pair : ℕ × ℕ). pair.1) (names_of.promoted row.state row)
 
 -- ---- names
 
 -- own: two states name the same workers
 abbrev pub SameNames : State → State → Type 0
 SameNames old new = map of_worker new.workers ≡ map of_worker old.workers
-
-abbrev owner_in : ℕ → List (ℕ × ℕ) → Option ℕ
-owner_in number pairs = option_map (λ pair. pair.1) (find (λ pair. pair.0 == number) pairs)
 
 owned : (number : ℕ) (state : State) → registration_of state number ≡ owner_in number (map of_worker state.workers)
 owned number state =
@@ -112,7 +97,7 @@ activate_keeps state registration worker unused = record {
   events = refl;
   names = (activate_alike state registration worker).workers;
   clients = unchanged (uses state.workers registration) (controlled_by worker) state.clients unused;
-  others = λ other not_it. others_kept (λ (row : Worker). row.registration) promote (λ row. promoted row.state row) other registration not_it state.workers;
+  others = λ other not_it. others_kept (λ (row : Worker). row.registration) promote promoted other registration not_it state.workers;
 }
 
 try_keeps : (state : State) (registration : ℕ) → is_used state registration ≡ false → Keeps registration state (try_activate state registration).state
@@ -125,13 +110,14 @@ try_keeps state registration unused = by (chosen state registration)
 
 -- ---- what a Try Activate asks, in a state that has gone on
 
-module _ (old new : State) (registration : ℕ) (rows : new.registrations ≡ old.registrations) (events : new.fetch_events ≡ old.fetch_events)
-    (same : workers_of registration new.workers ≡ workers_of registration old.workers) (unused : is_used new registration ≡ false) (unused_before : is_used old registration ≡ false) where
-  slots : (p : Slot) → slot_worker new p registration ≡ slot_worker old p registration
-  slots p =
-      find_of (λ (row : Worker). row.registration) registration (λ row. in_slot p row.state) new.workers
-      ∙ (ap (find (λ (row : Worker). in_slot p row.state)) same ∙ sym (find_of (λ (row : Worker). row.registration) registration (λ row. in_slot p row.state) old.workers))
+pub same_slot : (old new : State) (registration : ℕ) → workers_of registration new.workers ≡ workers_of registration old.workers
+    → (p : Slot) → slot_worker new p registration ≡ slot_worker old p registration
+same_slot old new registration same p =
+    find_of (λ (row : Worker). row.registration) registration (λ row. in_slot p row.state) new.workers
+    ∙ (ap (find (λ (row : Worker). in_slot p row.state)) same ∙ sym (find_of (λ (row : Worker). row.registration) registration (λ row. in_slot p row.state) old.workers))
 
+module _ (old new : State) (registration : ℕ) (events : new.fetch_events ≡ old.fetch_events)
+    (same : workers_of registration new.workers ≡ workers_of registration old.workers) (unused : is_used new registration ≡ false) (unused_before : is_used old registration ≡ false) where
   replaces : (waiting : Worker) (o : Option Worker) → may_replace new registration waiting o ≡ may_replace old registration waiting o
   replaces waiting None = refl
   replaces waiting (Some active) =
@@ -141,34 +127,12 @@ module _ (old new : State) (registration : ℕ) (rows : new.registrations ≡ ol
   abbrev pick : State → Option Worker → Worker → Option ℕ
   pick state active waiting = if may_replace state registration waiting active then Some waiting.number else None
 
-  pub same_choice : chosen new registration ≡ chosen old registration
+  same_choice : chosen new registration ≡ chosen old registration
   same_choice =
-      ap (λ (o : Option Worker). option_and_then (pick new o) (slot_worker new place.Waiting registration)) (slots place.Active)
+      ap (λ (o : Option Worker). option_and_then (pick new o) (slot_worker new place.Waiting registration)) (same_slot old new registration same place.Active)
       ∙ (ap (λ (pick_it : Worker → Option ℕ). option_and_then pick_it (slot_worker new place.Waiting registration))
       (λ i waiting. if replaces waiting (slot_worker old place.Active registration) i then Some waiting.number else None)
-      ∙ ap (option_and_then (pick old (slot_worker old place.Active registration))) (slots place.Waiting))
-
-  same_kept : (row : Registration) → row.number ≡ registration → is_kept new row ≡ is_kept old row
-  same_kept row own = λ i. row.mapped && (is_some (slot_of place.Waiting i) || is_some (slot_of place.Active i))
-    where
-      slot_of : (p : Slot) → slot_worker new p row.number ≡ slot_worker old p row.number
-      slot_of p = ap (slot_worker new p) own ∙ (slots p ∙ ap (slot_worker old p) (sym own))
-
-  abbrev kept_with : State → Option Registration → List Change
-  kept_with state o = option_map_or (λ row. if is_kept state row then to_active row ∷ [] else []) o []
-
-  pub same_change : kept_change new registration to_active ≡ kept_change old registration to_active
-  same_change =
-      ap (λ (registrations : List Registration). kept_with new (find (is_registration registration) registrations)) rows ∙ by (registration_row old registration) refl
-    where
-      by : (o : Option Registration) → registration_row old registration ≡ o → kept_with new o ≡ kept_with old o
-      by None is = refl
-      by (Some row) is =
-          ap (λ (b : Bool). if b then to_active row ∷ [] else [])
-          (same_kept row (found_number (λ (r : Registration). r.number) registration old.registrations row is))
-
-  pub same_activation : activation_changes new registration ≡ activation_changes old registration
-  same_activation = λ i. if is_some (same_choice i) then same_change i else []
+      ∙ ap (option_and_then (pick old (slot_worker old place.Active registration))) (same_slot old new registration same place.Waiting))
 
 -- ---- Try Clear
 
@@ -190,18 +154,88 @@ try_clear_keeps state registration = by (is_used state registration || has_pendi
     by true = keeps_all registration state
     by false = clear_keeps state registration
 
+-- whether a registration is mapped
+pub same_mapped : (old new : State) (registration : ℕ) → new.registrations ≡ old.registrations → is_mapped new registration ≡ is_mapped old registration
+same_mapped old new registration rows = ap (list_any (λ (row : Registration). row.number == registration && row.mapped)) rows
+
+-- whether a worker of a registration has a pending event
+same_pending : (old new : State) (registration : ℕ) → new.fetch_events ≡ old.fetch_events → workers_of registration new.workers ≡ workers_of registration old.workers
+    → has_pending_worker new registration ≡ has_pending_worker old registration
+same_pending old new registration events same =
+    any_of (λ (row : Worker). row.registration) registration (has_pending new) new.workers
+    ∙ ((λ i. list_any (λ (row : Worker). is_some row.handler || list_any (λ (event : FetchEvent). event.worker == row.number) (events i)) (same i))
+    ∙ sym (any_of (λ (row : Worker). row.registration) registration (has_pending old) old.workers))
+
+and_true : (b : Bool) → b ≡ (b && true)
+and_true true = refl
+and_true false = refl
+
+and_false : (b : Bool) → false ≡ (b && false)
+and_false true = refl
+and_false false = refl
+
+-- no worker waits in a registration that was cleared
+abbrev waits : ℕ → Worker → Bool
+waits registration row = row.registration == registration && in_slot place.Waiting row.state
+
+abbrev cleared_row : Worker → Worker
+cleared_row row = record row { state = clear_state row.state }
+
+not_waiting : (state : WorkerState) → in_slot place.Waiting (clear_state state) ≡ false
+not_waiting worker_state.Parsed = refl
+not_waiting worker_state.Installing = refl
+not_waiting worker_state.Installed = refl
+not_waiting worker_state.Activating = refl
+not_waiting worker_state.Activated = refl
+not_waiting worker_state.Redundant = refl
+
+none_waits : (registration : ℕ) (rows : List Worker) → find (waits registration) (shift registration clear_state rows) ≡ None
+none_waits registration [] = refl
+none_waits registration (row ∷ rows) = by (row.registration == registration) refl (none_waits registration rows)
+  where
+    by : (b : Bool) → (row.registration == registration) ≡ b → find (waits registration) (shift registration clear_state rows) ≡ None
+        → find (waits registration) ((if b then cleared_row row else row) ∷ shift registration clear_state rows) ≡ None
+    by true is later =
+        ap (λ (b : Bool). if b then Some (cleared_row row) else find (waits registration) (shift registration clear_state rows))
+        (ap (λ (b : Bool). b && in_slot place.Waiting (clear_state row.state)) is ∙ not_waiting row.state)
+        ∙ later
+    by false is later =
+        ap (λ (b : Bool). if b then Some row else find (waits registration) (shift registration clear_state rows)) (ap (λ (b : Bool). b && in_slot place.Waiting row.state) is)
+        ∙ later
+
+abbrev cleared_state : State → ℕ → State
+cleared_state state registration = record state { workers = shift registration clear_state state.workers }
+
+abbrev chosen_of : State → ℕ → Option Worker → Option ℕ
+chosen_of state registration o =
+    option_and_then (λ waiting. if may_replace state registration waiting (slot_worker state place.Active registration) then Some waiting.number else None) o
+
+none_chosen : (state : State) (registration : ℕ) → chosen (clear state registration).state registration ≡ None
+unfolding clear
+none_chosen state registration = ap (chosen_of (cleared_state state registration) registration) (none_waits registration state.workers)
+
 -- ---- a registration that no client uses any more
+
+-- what is activated, by whether it is used and whether it is mapped
+abbrev pub activated_where : State → ℕ → Bool → Bool → List ℕ
+activated_where state registration used mapped =
+    if used then []
+    else if is_some (chosen (if mapped then state else (try_clear state registration).state) registration)
+    then registration ∷ []
+    else []
 
 -- a registration that another client uses isn't rechecked
 pub not_released : (state : State) (registration : ℕ) → is_used state registration ≡ true → release state registration ≡ quiet state
 unfolding release
 not_released state registration is = ap (λ (b : Bool). if b then quiet state else recheck state registration) is
 
+-- and not activated
+pub not_activated : (state : State) (registration : ℕ) → is_used state registration ≡ true → activated_by_release state registration ≡ []
+not_activated state registration is =
+    ap (λ (used : Bool). activated_where state registration used (is_mapped state registration)) is
+
 module _ (first state : State) (is_owned : IsOwned first) (registration : ℕ) (rows : state.registrations ≡ first.registrations) (events : state.fetch_events ≡ first.fetch_events)
     (names : SameNames first state) (same : workers_of registration state.workers ≡ workers_of registration first.workers) (unused : is_used state registration ≡ false) where
-  abbrev alone : State
-  alone = record first { clients = [] }
-
   -- still unused after a Try Clear
   still_unused : (next : State) → Keeps registration state next → is_used next registration ≡ false
   still_unused next keeps =
@@ -225,27 +259,38 @@ module _ (first state : State) (is_owned : IsOwned first) (registration : ℕ) (
       keeps_then registration state (cleared mapped).state (try_activate (cleared mapped).state registration).state
       (cleared_keeps mapped) (try_keeps (cleared mapped).state registration (still_unused (cleared mapped).state (cleared_keeps mapped)))
 
-  rechecked_changes : (mapped : Bool) → is_mapped state registration ≡ mapped → (rechecked mapped).changes ≡ activation_changes alone registration
-  unfolding followed
-  rechecked_changes true is =
-      tried state registration
-      ∙ same_activation alone state registration rows events same unused refl
-  rechecked_changes false is =
-      let next = (try_clear state registration).state in
-      let keeps = try_clear_keeps state registration in
-      let none : is_mapped next registration ≡ false = ap (list_any (λ (row : Registration). row.number == registration && row.mapped)) keeps.registrations ∙ is in
-      let before : is_mapped alone registration ≡ false = ap (list_any (λ (row : Registration). row.number == registration && row.mapped)) (sym rows) ∙ is in
-      ap (λ (changes : List Change). changes ++ (try_activate next registration).changes) (clears_quietly state registration)
-      ∙ (tried next registration ∙ (unmapped next registration none ∙ sym (unmapped alone registration before)))
-
   pub released_keeps : Keeps registration state (release state registration).state
   unfolding release recheck
   released_keeps =
       subst (λ (b : Bool). Keeps registration state (if b then quiet state else recheck state registration).state) (sym unused)
       (rechecked_keeps (is_mapped state registration))
 
-  pub released_changes : (release state registration).changes ≡ activation_changes alone registration
-  unfolding release recheck
-  released_changes =
-      ap (λ (b : Bool). (if b then quiet state else recheck state registration).changes) unused
-      ∙ rechecked_changes (is_mapped state registration) refl
+  -- ---- whether a worker of it becomes the active one
+
+  abbrev alone : State
+  alone = record first { clients = [] }
+
+  same_chosen : is_some (chosen state registration) ≡ is_some (chosen alone registration)
+  same_chosen = ap is_some (same_choice alone state registration events same unused refl)
+
+  abbrev takes_over : Bool → Bool
+  takes_over mapped = is_some (chosen (if mapped then state else (try_clear state registration).state) registration)
+
+  by_mapped : (mapped : Bool) → takes_over mapped ≡ (is_some (chosen alone registration) && (mapped || has_pending_worker first registration))
+  unfolding try_clear
+  by_mapped true = same_chosen ∙ and_true (is_some (chosen alone registration))
+  by_mapped false =
+      ap (λ (used : Bool). is_some (chosen (if used || has_pending_worker state registration then quiet state else clear state registration).state registration)) unused
+      ∙ (ap (λ (pending : Bool). is_some (chosen (if pending then quiet state else clear state registration).state registration)) (same_pending first state registration events same)
+      ∙ by (has_pending_worker first registration))
+    where
+      by : (pending : Bool) → is_some (chosen (if pending then quiet state else clear state registration).state registration) ≡ (is_some (chosen alone registration) && pending)
+      by true = same_chosen ∙ and_true (is_some (chosen alone registration))
+      by false = ap is_some (none_chosen state registration) ∙ and_false (is_some (chosen alone registration))
+
+  pub released_activated : activated_by_release state registration ≡ (if may_activate first registration then registration ∷ [] else [])
+  released_activated =
+      ap (λ (used : Bool). activated_where state registration used (is_mapped state registration)) unused
+      ∙ (ap (λ (b : Bool). if b then registration ∷ [] else [])
+      (by_mapped (is_mapped state registration)
+      ∙ ap (λ (mapped : Bool). is_some (chosen alone registration) && (mapped || has_pending_worker first registration)) (same_mapped first state registration rows)))

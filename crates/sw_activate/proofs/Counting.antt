@@ -1,13 +1,13 @@
 -- The counts of users, from one client to the next.
 use Rattle.std.proofs.Common.{◌≡◌, ◌∙◌, ◌<◌, ◌≤◌, ◌+◌, ◌-◌, ℕ, Bool, true, false, List, ◌∷◌, ◌++◌, map, drop, length, Option, Some, None, IfSome, refl, sym, ap, subst, arith, if◌then◌else◌}
+use Rattle.std.specs.Prelude.{option_to_list}
 use Rattle.std.proofs.lemmas.Bool.Decides.{nat_tests}
 use Rattle.sw_client.specs.Table.{users_of, uses}
 use Rattle.sw_client.specs.declared.OpenClient.{OpenClient}
-use Rattle.sw_data.specs.declared.storage.Change.{Change}
 use Rattle.sw_rules.specs.Clients.{claims}
 use Rattle.sw_rules.specs.Rows.{is_number}
 use Rattle.sw_rules.specs.State.{State}
-use Rattle.sw_durable.specs.Claiming.{Counts, Users, clients_from, moved, step_changes, step_users, steps_changes, used_by}
+use Rattle.sw_activate.specs.Counting.{Counts, Users, clients_from, moved, step_activated, step_users, steps_activated, used_by}
 
 module _ (place : ℕ) (rows : List OpenClient) (users : Users) (counts : Counts place rows users) (row : OpenClient) (from : drop place rows ≡ row ∷ drop (place + 1) rows) where
   abbrev later : List OpenClient
@@ -60,11 +60,12 @@ module _ (place : ℕ) (rows : List OpenClient) (users : Users) (counts : Counts
         by true = subst (λ (o : Option ℕ). Counts (place + 1) rows (moved o registration users)) (sym is) moved_on
         by false = stayed
 
-    -- and what is told of it, before what is told of the later ones
-    pub told_on : (state : State) (worker : ℕ) (after : Users) → after ≡ step_users state worker registration users row.client
-        → (changes : List Change) → changes ≡ step_changes state worker registration users row.client
-        → changes ++ steps_changes state worker registration after (clients_from (place + 1) rows) ≡ steps_changes state worker registration users (clients_from place rows)
-    told_on state worker after is changes told =
-        ap (λ (now : Users). changes ++ steps_changes state worker registration now (clients_from (place + 1) rows)) is
-        ∙ (ap (λ (some : List Change). some ++ steps_changes state worker registration (step_users state worker registration users row.client) (clients_from (place + 1) rows)) told
-        ∙ sym (ap (λ (xs : List OpenClient). steps_changes state worker registration users (map (λ (r : OpenClient). r.client) xs)) from))
+    -- and the registration that it activates, before those of the later ones
+    pub activated_on : (state : State) (worker : ℕ) (after : Users) → after ≡ step_users state worker registration users row.client
+        → (one : Option ℕ) → one ≡ step_activated state worker registration users row.client
+        → option_to_list one ++ steps_activated state worker registration after (clients_from (place + 1) rows)
+        ≡ steps_activated state worker registration users (clients_from place rows)
+    activated_on state worker after is one told =
+        ap (λ (now : Users). option_to_list one ++ steps_activated state worker registration now (clients_from (place + 1) rows)) is
+        ∙ (ap (λ (o : Option ℕ). option_to_list o ++ steps_activated state worker registration (step_users state worker registration users row.client) (clients_from (place + 1) rows)) told
+        ∙ sym (ap (λ (xs : List OpenClient). steps_activated state worker registration users (map (λ (r : OpenClient). r.client) xs)) from))

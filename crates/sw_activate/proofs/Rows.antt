@@ -1,5 +1,5 @@
 -- Rows of lists: one that stands alone under its number, those of a registration, and how many pass a test.
-use Rattle.std.proofs.Common.{◌≡◌, ◌<◌, ◌≤◌, ◌+◌, ◌==◌, ◌&&◌, nat_lt, nat_eq, ℕ, Bool, true, false, List, [], ◌∷◌, ◌++◌, map, filter, find, length, Some, refl, ap, arith, if◌then◌else◌}
+use Rattle.std.proofs.Common.{◌≡◌, ◌<◌, ◌≤◌, ◌+◌, ◌==◌, ◌&&◌, ◌||◌, nat_lt, nat_eq, ℕ, Bool, true, false, List, [], ◌∷◌, ◌++◌, map, filter, find, length, Some, refl, ap, arith, if◌then◌else◌}
 use Rattle.std.specs.List.{list_any, AllByRecursion, IsDistinct}
 use Rattle.std.proofs.lemmas.Bool.Decides.{nat_tests}
 use Rattle.sw_rules.specs.Rows.{changed}
@@ -76,6 +76,16 @@ module _ {X : Type 0} (owner : X → ℕ) where
   pub find_of : (n : ℕ) (test : X → Bool) (xs : List X) → find (λ row. owner row == n && test row) xs ≡ find test (of_owner n xs)
   find_of n test [] = refl
   find_of n test (x ∷ xs) = grind (arith, find_of n test xs)
+
+  -- and some row of an owner passes where one of those does
+  pub any_of : (n : ℕ) (test : X → Bool) (xs : List X) → list_any (λ row. owner row == n && test row) xs ≡ list_any test (of_owner n xs)
+  any_of n test [] = refl
+  any_of n test (x ∷ xs) = by (owner x == n) (any_of n test xs)
+    where
+      by : (b : Bool) → list_any (λ row. owner row == n && test row) xs ≡ list_any test (of_owner n xs)
+          → ((b && test x) || list_any (λ row. owner row == n && test row) xs) ≡ list_any test (if b then x ∷ of_owner n xs else of_owner n xs)
+      by true later = ap (λ (rest : Bool). test x || rest) later
+      by false later = later
 
   -- a change of the rows of one owner doesn't touch those of another
   pub others_kept : (f : X → X) → ((x : X) → owner (f x) ≡ owner x) → (n m : ℕ) → (n ≡ m → ⊥) → (xs : List X) → of_owner n (changed (λ row. owner row == m) f xs) ≡ of_owner n xs

@@ -8,7 +8,6 @@ use Rattle.std.proofs.lemmas.List.{drop_more, length-map, take-append-drop}
 use Rattle.std.proofs.lemmas.List.Elements.{All-head, All-nil, All-tail}
 use Rattle.std.proofs.lemmas.List.FromFn.{get_or-map-range_with_len}
 use Rattle.std.proofs.lemmas.Option.{slice_get-get_or, slice_get-map, slice_get_within}
-use Rattle.sw_activate.proofs.Names.{owner_there, registration_shown}
 use Rattle.sw_client.proofs.KeyedRows.{count_within}
 use Rattle.sw_client.proofs.OfClients.{found_client}
 use Rattle.sw_client.specs.Table as clients
@@ -27,13 +26,10 @@ use Rattle.sw_tables.proofs.Rows.{any_at, within}
 use Rattle.sw_tables.specs.Lent.{Rest, lent, shown_worker}
 use Rattle.sw_tables.specs.Linked.{ArePlaces, IsNoted, Linked, registration_of}
 use Rattle.sw_worker.specs.Table as workers
-use Rattle.sw_durable.specs.Claiming.{Counts, counted, used_by, users_in}
-use Rattle.sw_durable.proofs.Leaving.{IsOwned}
-use Rattle.sw_durable.proofs.Rows.{found_there}
-
-map_map : {X Y Z : Type 0} (g : Y → Z) (f : X → Y) (xs : List X) → map g (map f xs) ≡ map (λ x. g (f x)) xs
-map_map g f [] = refl
-map_map {Z = Z} g f (x ∷ xs) = ap (λ (ys : List Z). g (f x) ∷ ys) (map_map g f xs)
+use Rattle.sw_activate.specs.Counting.{Counts, counted, used_by, users_in}
+use Rattle.sw_activate.proofs.Leaving.{IsOwned}
+use Rattle.sw_activate.proofs.Names.{map_map, owner_there, registration_shown}
+use Rattle.sw_activate.proofs.Rows.{found_there}
 
 -- the client of a number
 pub noted_row : (of_workers : workers.Table) (number : ℕ) (rows : List OpenClient) (row : OpenClient) → All (IsNoted of_workers) rows → find (is_open number) rows ≡ Some row → IsNoted of_workers row

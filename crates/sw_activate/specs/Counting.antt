@@ -1,13 +1,12 @@
--- The durable changes of a claim, told from the state before it.
-use Rattle.std.specs.Prelude.{ℕ, ◌≤◌, ◌+◌, ◌-◌, ◌==◌, List, [], ◌++◌, ◌∷◌, map, filter, drop, length, slice_index_or, Option, Some, None, option_and_then, if◌then◌else◌}
+-- The registrations that a claim activates, told from the state before it by how many clients use each.
+use Rattle.std.specs.Prelude.{ℕ, Bool, ◌≤◌, ◌+◌, ◌-◌, ◌==◌, ◌&&◌, ◌||◌, List, [], ◌++◌, ◌∷◌, map, filter, drop, is_some, length, slice_index_or, Option, Some, None, option_and_then, option_to_list, if◌then◌else◌}
 use Rattle.sw_client.specs.Table.{users_of}
 use Rattle.sw_client.specs.declared.OpenClient.{OpenClient}
 use Rattle.sw_data.specs.declared.rows.ClientRow.{ClientRow}
-use Rattle.sw_data.specs.declared.storage.Change.{Change}
 use Rattle.sw_rules.specs.Clients.{claims}
-use Rattle.sw_rules.specs.Rows.{is_number, registration_of}
+use Rattle.sw_rules.specs.Registrations.{chosen}
+use Rattle.sw_rules.specs.Rows.{has_pending_worker, is_mapped, is_number, registration_of}
 use Rattle.sw_rules.specs.State.{State}
-use Rattle.sw_durable.specs.Kept.{activation_changes}
 
 -- own: how many clients use each registration
 abbrev pub Users : Type 0
@@ -31,27 +30,34 @@ abbrev pub emptied : Users → Option ℕ → Option ℕ
 emptied users None = None
 emptied users (Some registration) = if users registration - 1 == 0 then Some registration else None
 
--- own: the durable changes where the last client has left a registration: no client uses it, whatever the others use
-abbrev pub emptied_changes : State → Option ℕ → List Change
-emptied_changes state None = []
-emptied_changes state (Some registration) = activation_changes (record state { clients = [] }) registration
+-- own: whether the waiting worker of a registration becomes the active one where the last client has left it, whatever the
+-- others use: a registration that isn't mapped and has no pending event is cleared first
+abbrev pub may_activate : State → ℕ → Bool
+may_activate state registration =
+    is_some (chosen (record state { clients = [] }) registration)
+    && (is_mapped state registration || has_pending_worker state registration)
 
--- own: the durable changes of one client's claim, by the users of each registration before it
-abbrev pub step_changes : State → ℕ → ℕ → Users → ClientRow → List Change
-step_changes state worker registration users client =
-    if claims state worker registration client then emptied_changes state (emptied users (used_by state client)) else []
+-- own: the registration that the last client has left, if its waiting worker becomes the active one
+abbrev pub activated : State → Option ℕ → Option ℕ
+activated state None = None
+activated state (Some registration) = if may_activate state registration then Some registration else None
+
+-- own: the registration that one client's claim activates, by the users of each registration before it
+abbrev pub step_activated : State → ℕ → ℕ → Users → ClientRow → Option ℕ
+step_activated state worker registration users client =
+    if claims state worker registration client then activated state (emptied users (used_by state client)) else None
 
 -- own: the users of each registration after it
 abbrev pub step_users : State → ℕ → ℕ → Users → ClientRow → Users
 step_users state worker registration users client =
     if claims state worker registration client then moved (used_by state client) registration users else users
 
--- own: the durable changes of the claims of these clients, one after another
-abbrev pub steps_changes : State → ℕ → ℕ → Users → List ClientRow → List Change
-steps_changes state worker registration users [] = []
-steps_changes state worker registration users (client ∷ rest) =
-    step_changes state worker registration users client
-    ++ steps_changes state worker registration (step_users state worker registration users client) rest
+-- own: the registrations that the claims of these clients activate, one after another
+abbrev pub steps_activated : State → ℕ → ℕ → Users → List ClientRow → List ℕ
+steps_activated state worker registration users [] = []
+steps_activated state worker registration users (client ∷ rest) =
+    option_to_list (step_activated state worker registration users client)
+    ++ steps_activated state worker registration (step_users state worker registration users client) rest
 
 -- ---- the counts as a list
 
