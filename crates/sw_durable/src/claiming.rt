@@ -40,21 +40,20 @@ fn active_changes(
     Ok(changes)
 }
 
-/// The durable changes of a claim, in time linear in the clients and the registrations: those of the registrations that it
-/// activates.
+/// The durable changes of a claim by an active worker of a registration, in time linear in the clients and the
+/// registrations: those of the registrations that it activates.
 pub fn claim_changes(
     alloc: Global,
     worker: u32,
-    registration: u32,
     map: &ScopeMap,
     workers: &Workers,
     registrations: &Registrations,
     clients: &Clients,
 ) -> Result<Vec<Change>, NoMemory>
     requires linked { Linked map.now workers.now registrations.now clients.now }
-    requires claimant { option_map {U = ℕ × Bool} (λ row. (row.registration, is_active row.state))
-        (worker_at worker workers.now.rows) ≡ Some (registration, true) }
-    ensures { (rest : Rest) → IfOk result (λ changes. changes.items ≡ (claim_clients
+    ensures { (rest : Rest) (registration : ℕ) → option_map {U = ℕ × Bool}
+        (λ row. (row.registration, is_active row.state)) (worker_at worker workers.now.rows)
+        ≡ Some (registration, true) → IfOk result (λ changes. changes.items ≡ (claim_clients
         (lent map.now workers.now registrations.now clients.now rest) worker registration
         (numbers_of clients.now)).changes) }
 {

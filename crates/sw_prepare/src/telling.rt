@@ -102,7 +102,6 @@ fn claim_changes(
     sw_durable::claim_changes(
         alloc,
         worker,
-        registration,
         &host.map,
         &host.workers,
         &host.registrations,

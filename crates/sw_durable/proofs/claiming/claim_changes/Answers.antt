@@ -9,10 +9,10 @@ use Rattle.sw_durable.proofs.Claims.{changes_told}
 use Rattle.sw_durable.proofs.claiming.claim_changes.Goals as goal
 
 pub returns : goal.returns
-returns c = λ rest.
+returns c = λ rest registration claimant.
     let state : State = lent c.args.map.now c.args.workers.now c.args.registrations.now c.args.clients.now rest in
     let are : c.deref.result.now ≡ claimed state c.args.worker = c.deref.ensures.value ∙ c.in_ok-numbers.ensures rest in
     subst (λ (told : List Change). IfOk c.active_changes.result (λ changes. changes.items ≡ told))
     (ap (flat_map (active_change state)) are
-    ∙ changes_told c.args.map.now c.args.workers.now c.args.registrations.now c.args.clients.now rest c.requires.linked c.are_apart.ensures c.args.worker c.args.registration c.requires.claimant)
+    ∙ changes_told c.args.map.now c.args.workers.now c.args.registrations.now c.args.clients.now rest c.requires.linked c.are_apart.ensures c.args.worker registration claimant)
     (c.active_changes.ensures c.args.workers.now c.args.clients.now rest c.requires.linked.slots)
