@@ -18,8 +18,8 @@ use std::alloc::Global;
 use sw_copy::copy_handlers;
 use sw_data::header::same_name;
 use sw_data::{
-    Bytes, Cause, Fault, FetchLine, Fetched, Header, Job, JobRow, NoMemory,
-    SecurityCause, Text, WorkerRow, is_javascript,
+    Bytes, Cause, Fault, FetchLine, Fetched, Header, Job, JobRow, NoMemory, SecurityCause, Text,
+    WorkerRow, is_javascript,
 };
 use sw_install::FetchOutcome;
 use sw_reg::Registrations;
