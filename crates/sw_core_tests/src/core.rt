@@ -34,7 +34,7 @@ fn opening(alloc: Global) -> Result<Event, NoMemory> {
 
 // How many caches a host keeps.
 fn kept_caches(alloc: Global, core: &Core) -> Result<usize, NoMemory> {
-    Ok(core.kept(alloc)?.caches.len())
+    Ok(core.kept(alloc)?.caches.as_slice().len())
 }
 
 // Works an event out, and then does it: how many durable changes it has, and how many caches are kept before it and after it.
