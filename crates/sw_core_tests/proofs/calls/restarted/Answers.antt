@@ -3,7 +3,7 @@ use Rattle.std.proofs.lemmas.Result.{IfOk-weaker}
 use Rattle.sw_laws.specs.Coherent.{Coherent}
 use Rattle.sw_rules.specs.Restart.{restart}
 use Rattle.sw_work.specs.Hosted.{state_of}
-use Rattle.sw_core_tests.proofs.core.restarted.Goals as goal
+use Rattle.sw_core_tests.proofs.calls.restarted.Goals as goal
 
 pub restart-requires : goal.restart-requires
 restart-requires c = record { made = ([], c.new.ensures) }
