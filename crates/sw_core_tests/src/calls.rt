@@ -57,25 +57,28 @@ fn worked_out(
     Ok(Some((changes?.len(), before?, kept_caches(alloc, core)?)))
 }
 
-#[test]
-fn an_event_is_worked_out_before_it_is_done(rt: HostRuntime) -> Result<(), Fail> {
-    let alloc = rt.alloc();
-    let mut core = restarted(alloc)?;
-    let event = opening(alloc)?;
-    assert_eq!(rt; worked_out(alloc, &mut core, &event)?, Some((1, 0, 1)));
-    Ok(())
+// What is picked while nothing is in flight.
+fn picked(core: &Core, lanes: &Lanes) -> Pick {
+    lanes.pick(&CoreBoard { core, flights: &[] })
+}
+
+// No lanes.
+fn no_lanes(alloc: Global) -> Result<Lanes, NoMemory> {
+    Lanes::new(alloc, Items::new(alloc))
+}
+
+// Whether the end is picked on a host, without lanes.
+fn is_done(alloc: Global, core: &Core) -> Result<bool, NoMemory> {
+    let lanes = no_lanes(alloc)?;
+    Ok(matches!(picked(core, &lanes), Pick::Done))
 }
 
 #[test]
-fn without_lanes_nothing_is_picked(rt: HostRuntime) -> Result<(), Fail> {
+fn a_host_from_nothing_works_out_an_event(rt: HostRuntime) -> Result<(), Fail> {
     let alloc = rt.alloc();
-    let core = restarted(alloc)?;
-    let lanes = Lanes::new(alloc, Items::new(alloc))?;
-    let flights = [None];
-    let board = CoreBoard {
-        core: &core,
-        flights: &flights,
-    };
-    assert_eq!(rt; lanes.pick(&board), Pick::Done);
+    let mut core = restarted(alloc)?;
+    assert!(rt; is_done(alloc, &core)?);
+    let event = opening(alloc)?;
+    assert_eq!(rt; worked_out(alloc, &mut core, &event)?, Some((1, 0, 1)));
     Ok(())
 }
