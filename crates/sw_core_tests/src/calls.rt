@@ -37,8 +37,8 @@ fn kept_caches(alloc: Global, core: &Core) -> Result<usize, NoMemory> {
     Ok(core.kept(alloc)?.caches.as_slice().len())
 }
 
-// Works an event out, and then does it: how many durable changes it has, and how many caches are kept before it and after it.
-// None where it isn't enabled.
+// Works an event out, and then does it: how many durable changes it has, and how many caches are kept before it and
+// after it. None where it isn't enabled.
 #[tactic(auto, using(sw_core::proofs::Applying::worked))]
 fn worked_out(
     alloc: Global,
