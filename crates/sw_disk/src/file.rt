@@ -11,16 +11,21 @@ use sw_data::Failed;
 /// A disk over three files, of which any may be missing: a call on a missing part fails, and so does a sync.
 ///
 /// No contract says what a file holds, so it tells nothing. That real files behave as the disk rule says is a premise.
-/// One call of a file is made for each call, and a write is repeated for what is left of it.
+/// One call of a file is made for each call, and a write is repeated for what is left of it. A sync calls those files
+/// alone that were written or cut since they were last synced, as it changes nothing of another; at first that may be
+/// all of them, by what an earlier run left. It asks for the bytes and the length, and for no other metadata.
 #[derive(Drop)]
 pub struct FileDisk {
     files: Parts<Option<File>>,
+    // Whether a part may have been written or cut since it was last synced.
+    pending: Parts<bool>,
     clock: u64,
     faults: u64,
 }
 
 impl FileDisk {
-    ghost use Rattle.sw_disk.specs.Files.{has_file};
+    ghost use Rattle.sw_disk.specs.Files.{has_file, is_pending};
+    ghost use Rattle.sw_disk.specs.declared.part.Part.{Part};
     ghost use Rattle.sw_disk.specs.declared.part.Part.TheVariants.{Root, Left, Right};
 
     /// A disk over these files. Its clock and its count are 0.
@@ -30,22 +35,30 @@ impl FileDisk {
         ensures root { has_file Root result ≡ is_some root }
         ensures left { has_file Left result ≡ is_some left }
         ensures right { has_file Right result ≡ is_some right }
+        ensures pending { (part : Part) → IsTrue (is_pending part result) }
     {
         FileDisk {
             files: Parts { root, left, right },
+            pending: Parts {
+                root: true,
+                left: true,
+                right: true,
+            },
             clock: 0,
             faults: 0,
         }
     }
 
-    fn sync_files(&self) -> Option<()>
-        ensures root { IsSome result → IsTrue (has_file Root self.now) }
-        ensures left { IsSome result → IsTrue (has_file Left self.now) }
-        ensures right { IsSome result → IsTrue (has_file Right self.now) }
+    fn sync_files(&mut self) -> Option<()>
+        ensures root { IsSome result → IsTrue (has_file Root self.old) }
+        ensures left { IsSome result → IsTrue (has_file Left self.old) }
+        ensures right { IsSome result → IsTrue (has_file Right self.old) }
+        ensures clock { self.new.clock ≡ self.old.clock }
+        ensures faults { self.new.faults ≡ self.old.faults }
     {
-        sync_file(self.files.root.as_ref())?;
-        sync_file(self.files.left.as_ref())?;
-        sync_file(self.files.right.as_ref())
+        sync_file(self.files.root.as_ref(), &mut self.pending.root)?;
+        sync_file(self.files.left.as_ref(), &mut self.pending.left)?;
+        sync_file(self.files.right.as_ref(), &mut self.pending.right)
     }
 
     fn file(&self, part: Part) -> Option<&File>
@@ -80,17 +93,22 @@ fn cut_file(file: Option<&File>, len: u64) -> Option<()>
     file?.set_len(len).ok()
 }
 
-fn sync_file(file: Option<&File>) -> Option<()>
+fn sync_file(file: Option<&File>, pending: &mut bool) -> Option<()>
     ensures { IsSome result → IsTrue (is_some file.entry) }
 {
-    file?.sync_all().ok()
+    let file = file?;
+    if *pending {
+        file.sync_data().ok()?;
+        *pending = false;
+    }
+    Some(())
 }
 
 impl Disk for FileDisk {
     ghost use Rattle.std.specs.Prelude.{◌≡◌, ◌≤◌, None, IfOk, IsOk, IsTrue, length};
     ghost use Rattle.sw_disk.specs.DiskRule.{HasCause, Elapses};
     ghost use Rattle.sw_disk.specs.declared.part.Part.{Part};
-    ghost use Rattle.sw_disk.specs.Files.{files, has_file};
+    ghost use Rattle.sw_disk.specs.Files.{files, has_file, is_pending};
 
     ghost seen = { λ d. None };
 
@@ -145,8 +163,10 @@ impl Disk for FileDisk {
         ensures present { IsOk result → IsTrue (has_file part self.old) }
         ensures time { Elapses files.clock files.left_since files.may_leave self.old self.new }
         ensures cause { HasCause self.old.faults self.new.faults result }
+        ensures pending { IsTrue (is_pending part self.new) }
     {
         self.clock = self.clock.saturating_add(1);
+        *self.pending.get_mut(part) = true;
         match write(self.file(part), at, bytes) {
             Some(()) => Ok(()),
             None => {
@@ -160,8 +180,10 @@ impl Disk for FileDisk {
         ensures present { IsOk result → IsTrue (has_file part self.old) }
         ensures time { Elapses files.clock files.left_since files.may_leave self.old self.new }
         ensures cause { HasCause self.old.faults self.new.faults result }
+        ensures pending { IsTrue (is_pending part self.new) }
     {
         self.clock = self.clock.saturating_add(1);
+        *self.pending.get_mut(part) = true;
         match cut_file(self.file(part), len) {
             Some(()) => Ok(()),
             None => {

@@ -126,6 +126,7 @@ impl Journal {
     /// Makes room for putting together a record whose payload has this length.
     pub fn reserve(&mut self, length: u64) -> Result<(), NoMemory>
         ensures room { OnOk result (length ≤ self.new.spare) }
+        ensures small { OnOk result (needed_length self.new.format length < 2 ^ 64) }
         ensures same { self.new ≡ record self.old { spare = self.new.spare } }
         ensures kept { self.old.spare ≤ self.new.spare }
     {

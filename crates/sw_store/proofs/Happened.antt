@@ -6,7 +6,6 @@ use Rattle.sw_codec.specs.Spelling.{spelled_all}
 use Rattle.sw_data.specs.declared.events.Event.{Event}
 use Rattle.sw_data.specs.declared.histories.Entry.{Entry}
 use Rattle.sw_data.specs.declared.storage.Change.{Change}
-use Rattle.sw_disk.specs.DiskRule.{capped}
 use Rattle.sw_journal.specs.Format.{format_2, needed_length}
 use Rattle.sw_laws.specs.Laws.{changes_along}
 use Rattle.sw_rules.proofs.HistoryLemmas.{after_entries-snoc}
@@ -48,13 +47,13 @@ no_room_is (first ∷ rest) happened from need told full no_room refused is =
 -- a record of this length is too long
 pub too_long : (changes : List Change) (more before payload : List ℕ) (twin : TwinState) → spelled_all changes ≡ Some more → twin.journal.format ≡ format_2 → (test : Bool) → test ≡ nat_eq (length more) 0 → test ≡ false
     → before ≡ payload
-    → twin.journal.limit < twin.journal.gate + 1 + capped (needed_length twin.journal.format (length before + length more))
-    → IsTooLong changes payload twin (capped (needed_length twin.journal.format (length before + length more)))
+    → twin.journal.limit < twin.journal.gate + 1 + needed_length twin.journal.format (length before + length more)
+    → IsTooLong changes payload twin (needed_length twin.journal.format (length before + length more))
 too_long changes more before payload twin spelled format test is not_empty same passes = record {
   more = more;
   spelled = spelled;
   some = some_byte more test is not_empty;
-  needs = λ i. capped (needed_length (format i) ((ap (λ (l : List ℕ). length l + length more) same ∙ sym (length-append payload more)) i));
+  needs = λ i. needed_length (format i) ((ap (λ (l : List ℕ). length l + length more) same ∙ sym (length-append payload more)) i);
   passes = passes;
 }
 
@@ -64,7 +63,7 @@ too_long_before changes before payload old new needed same is long = record {
   more = long.more;
   spelled = long.spelled;
   some = long.some;
-  needs = long.needs ∙ ap (λ (l : List ℕ). capped (needed_length format_2 (length (l ++ long.more)))) same;
+  needs = long.needs ∙ ap (λ (l : List ℕ). needed_length format_2 (length (l ++ long.more))) same;
   passes = omega (arith, long.passes, ap (λ (t : TwinState). t.journal.limit) is, ap (λ (t : TwinState). t.journal.gate) is);
 }
 

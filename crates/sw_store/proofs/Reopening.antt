@@ -16,7 +16,7 @@ use Rattle.sw_kept.specs.Keeping.{KeepsNow, LeavesEither, Spell, StaysTold}
 use Rattle.sw_kept.specs.Stored.{HasKept}
 use Rattle.sw_store.specs.declared.errors.OpenError.{OpenError}
 use Rattle.sw_store.specs.declared.errors.OpenError.TheVariants as error
-use Rattle.sw_store.specs.Opened.{HasNoRoom, HasOpened, IsContentTooLong, IsLeft, IsOpened, IsRestartTooLong, IsUnopened, kept_restarted}
+use Rattle.sw_store.specs.Opened.{HasNoRoom, HasNoted, HasNotedOn, HasOpened, IsContentTooLong, IsLeft, IsOpened, IsRestartTooLong, IsUnopened, kept_restarted}
 use Rattle.sw_store.specs.Stores.{StoreState}
 use Rattle.sw_twin.specs.Twin.{StandsFor, StandsIn, TwinState}
 
@@ -95,11 +95,18 @@ module _ {D : Type 0} (disk : Ghosts D) (old mid new : D) (kept : Kept) (quiet :
     is_unopened = record { any_moment = left_always; first = λ past. left_since_first called first }
 
     -- the store that goes on
-    pub has_opened : (result : Result StoreState OpenError) → IfOk result (λ store. store.base ≡ kept) → IfOk result (λ store. KeepsNow store.twin (kept_restarted kept) disk new)
+    pub has_opened : (twin : TwinState) → StandsFor twin disk mid → (result : Result StoreState OpenError) → IfOk result (λ store. store.base ≡ kept)
+        → IfOk result (λ store. HasNoted kept twin store.twin) → IfOk result (λ store. KeepsNow store.twin (kept_restarted kept) disk new)
         → OnOk result (ForTold (disk.seen mid) (λ image. Since disk new new (HasKept (kept_restarted kept)))) → OnOk result (StaysTold disk mid new)
         → OnOk result (capped (disk.clock mid + 4) ≤ disk.clock new) → disk.clock mid ≤ disk.clock new → disk.faults mid ≤ disk.faults new → IfOk result (HasOpened disk old new)
-    has_opened (Ok store) base keeps acknowledged told calls later count = record {
+    has_opened twin stands (Ok store) base noted keeps acknowledged told calls later count = record {
       kept = subst (λ (k : Kept). ForTold (disk.seen old) (HasKept k)) (sym base) has;
+      noted =
+          told_some (disk.seen old) (HasNotedOn store.base store.twin) (λ image is. record {
+            before = twin;
+            stands = (told_at (disk.seen mid) (λ image. StandsIn twin image × ((c : Image) → disk.may_leave mid c → StandsIn twin c)) image (quiet.same ∙ is) stands).0;
+            noted = subst (λ (k : Kept). HasNoted k twin store.twin) (sym base) noted;
+          });
       keeps = subst (λ (k : Kept). KeepsNow store.twin (kept_restarted k) disk new) (sym base) keeps;
       acknowledged = subst (λ (k : Kept). ForTold (disk.seen old) (λ image. Since disk new new (HasKept (kept_restarted k)))) (sym base)
           (subst (λ (seen : Option Image). ForTold seen (λ image. Since disk new new (HasKept (kept_restarted kept)))) quiet.same acknowledged);
@@ -110,4 +117,4 @@ module _ {D : Type 0} (disk : Ghosts D) (old mid new : D) (kept : Kept) (quiet :
       later = omega (arith, later, quiet.moments.later);
       faults = omega (arith, quiet.count, count);
     }
-    has_opened (Err why) base keeps acknowledged told calls later count = tt
+    has_opened twin stands (Err why) base noted keeps acknowledged told calls later count = tt

@@ -5,7 +5,6 @@ use Rattle.sw_data.specs.declared.events.Event.{Event}
 use Rattle.sw_data.specs.declared.histories.Entry.{Entry}
 use Rattle.sw_data.specs.declared.storage.Change.{Change}
 use Rattle.sw_data.specs.Events.{who_of}
-use Rattle.sw_disk.specs.DiskRule.{capped}
 use Rattle.sw_journal.specs.Format.{format_2, needed_length}
 use Rattle.sw_laws.specs.Coherent.{Coherent}
 use Rattle.sw_laws.specs.Laws.{changes_along}
@@ -56,7 +55,7 @@ pub record IsTooLong (changes : List Change) (payload : List ℕ) (twin : TwinSt
   pub more : List ℕ
   pub spelled : spelled_all changes ≡ Some more
   pub some : more ≢ []
-  pub needs : needed ≡ capped (needed_length format_2 (length (payload ++ more)))
+  pub needs : needed ≡ needed_length format_2 (length (payload ++ more))
   pub passes : twin.journal.limit < twin.journal.gate + 1 + needed
 
 -- own: what waits began at this state: its entries lead to the state now, and the payload spells their changes

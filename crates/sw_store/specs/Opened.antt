@@ -2,6 +2,7 @@
 use Rattle.std.specs.Prelude.{◌≡◌, ◌≢◌, ◌⊎◌, ◌<◌, ◌≤◌, ◌+◌, ◌-◌, ◌^◌, ℕ, List, [], ◌∷◌, length, Result, Ok, Err}
 use Rattle.sw_data.specs.declared.storage.Change.TheVariants as change
 use Rattle.sw_data.specs.declared.storage.Kept.{Kept}
+use Rattle.sw_data.specs.Faults.{Rose}
 use Rattle.sw_disk.specs.declared.disk.Disk.{Ghosts}
 use Rattle.sw_disk.specs.DiskRule.{ForTold, capped}
 use Rattle.sw_disk.specs.Image.{Image}
@@ -16,7 +17,7 @@ use Rattle.sw_rules.specs.Storage.{IsMade, kept_after}
 use Rattle.sw_store.specs.declared.errors.OpenError.{OpenError}
 use Rattle.sw_store.specs.declared.errors.OpenError.TheVariants as error
 use Rattle.sw_store.specs.Stores.{IsQuiet, StoreState}
-use Rattle.sw_twin.specs.Twin.{IsPastFirst, TwinState}
+use Rattle.sw_twin.specs.Twin.{IsPastFirst, StandsIn, TwinState}
 use Rattle.sw_work.specs.Hosted.{state_of}
 
 -- the content that a restart makes of a content
@@ -35,10 +36,26 @@ pub record IsFresh (limit : ℕ) (store : StoreState) : Type 0 where
 abbrev pub IsLeft : Image → Image → Type 0
 IsLeft image c = (c ≡ image) ⊎ ((kept : Kept) × HasKept kept image × (HasKept kept c ⊎ HasKept (kept_restarted kept) c))
 
+-- own: a restart from this content was noted: behind a part in the newer format its record alone, in the same part; a part in the
+-- older one was written anew first; and it is within the limit
+pub record HasNoted (base : Kept) (before after : TwinState) : Type 0 where
+  pub appended : before.journal.format ≡ format_2
+      → (after.ones ≡ before.ones) × (after.journal.gate ≡ before.journal.gate + needed_length format_2 1)
+  pub anew : before.journal.format ≢ format_2
+      → (contents : List ℕ) × IsContents base contents × (after.journal.gate + 1 ≡ length contents + needed_length format_2 1)
+  pub fits : after.journal.gate + 1 ≤ after.journal.limit
+
+-- own: the restart was noted on what this image has
+pub record HasNotedOn (base : Kept) (after : TwinState) (image : Image) : Type 0 where
+  pub before : TwinState
+  pub stands : StandsIn before image
+  pub noted : HasNoted base before after
+
 -- own: a disk was opened: the store's base is what it kept, it keeps that restarted, and a crash leaves one of these; but for
 -- moments before the first call was over, when it may leave what it might have left before
 pub record HasOpened {D : Type 0} (disk : Ghosts D) (old new : D) (store : StoreState) : Type 0 where
   pub kept : ForTold (disk.seen old) (HasKept store.base)
+  pub noted : ForTold (disk.seen old) (HasNotedOn store.base store.twin)
   pub keeps : KeepsNow store.twin (kept_restarted store.base) disk new
   pub acknowledged : ForTold (disk.seen old) (λ image. Since disk new new (HasKept (kept_restarted store.base)))
   pub told : StaysTold disk old new
@@ -50,11 +67,11 @@ pub record HasOpened {D : Type 0} (disk : Ghosts D) (old new : D) (store : Store
   pub faults : disk.faults old ≤ disk.faults new
 
 -- own: what a crash leaves where a disk was not opened to its end: at every moment what it might have left before, or what keeps
--- the same content, as it is or restarted; since one call after the entry nothing but the latter, where a call was made
--- after the first
+-- the same content, as it is or restarted; since one call after the entry nothing but the latter, where the first call didn't
+-- fail: no fault was counted, or a call was made after it
 pub record IsUnopened {D : Type 0} (disk : Ghosts D) (old new : D) : Type 0 where
   pub any_moment : ForTold (disk.seen old) (λ image. LeavesOnly disk old new (λ c. disk.may_leave old c ⊎ IsLeft image c))
-  pub first : IsPastFirst disk old new → ForTold (disk.seen old)
+  pub first : (Rose (disk.faults old) (disk.faults new) → IsPastFirst disk old new) → ForTold (disk.seen old)
       (λ image. disk.clock old + 1 < 2 ^ 64 - 1 → (c : Image) → disk.left_since new (disk.clock old + 1) c → IsLeft image c)
 
 -- own: the record of a restart needs so much behind the next free offset that it passes the limit

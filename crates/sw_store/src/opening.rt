@@ -1,19 +1,20 @@
 //! A disk is opened, and its host restarted.
 
-ghost use Rattle.std.specs.Prelude.{◌≡◌, ◌≤◌, ◌^◌, ◌+◌, ◌↔◌, ℕ, IfOk, IsErrOf, OnOk};
+ghost use Rattle.std.specs.Prelude.{◌≡◌, ◌≢◌, ◌≤◌, ◌^◌, ◌+◌, ◌↔◌, ℕ, List, length, IfOk, IsErrOf, OnOk};
 ghost use Rattle.sw_data.specs.declared.storage.Kept as contents;
 ghost use Rattle.sw_data.specs.Faults.{Rose};
 ghost use Rattle.sw_disk.specs.DiskRule.{ForTold, capped};
 ghost use Rattle.sw_disk.specs.Meanings.{LeavesOnly};
-ghost use Rattle.sw_journal.specs.Format.{format_2};
+ghost use Rattle.sw_journal.specs.Format.{format_2, needed_length};
 ghost use Rattle.sw_journal.specs.Journal.{Since};
 ghost use Rattle.sw_journal.specs.Quiet.{IsQuiet};
 ghost use Rattle.sw_kept.specs.declared.opening.OpenError.TheVariants as refused;
 ghost use Rattle.sw_kept.specs.Keeping.{KeepsNow, LeavesEither, StaysTold};
+ghost use Rattle.sw_kept.specs.Spelling.{IsContents};
 ghost use Rattle.sw_kept.specs.Stored.{Bad, HasKept, Unformatted, stored};
 ghost use Rattle.sw_rules.specs.Restart.{restart};
 ghost use Rattle.sw_rules.specs.Storage.{IsMade};
-ghost use Rattle.sw_store.specs.Opened.{HasNoRoom, HasOpened, IsContentTooLong, IsFresh, IsOpened, IsRestartTooLong, IsUnopened, kept_restarted};
+ghost use Rattle.sw_store.specs.Opened.{HasNoRoom, HasNoted, HasOpened, IsContentTooLong, IsFresh, IsOpened, IsRestartTooLong, IsUnopened, kept_restarted};
 ghost use Rattle.sw_twin.specs.Twin.{StandsFor};
 ghost use Rattle.sw_work.specs.Hosted.{state_of};
 
@@ -57,6 +58,9 @@ fn renew<D: Disk>(
     requires keeps { KeepsNow twin.old base.now D.Disk disk.old }
     ensures format { OnOk result (twin.new.journal.format ≡ format_2) }
     ensures limit { twin.new.journal.limit ≡ twin.old.journal.limit }
+    ensures left { twin.old.journal.format ≡ format_2 → OnOk result (twin.new ≡ twin.old) }
+    ensures anew { twin.old.journal.format ≢ format_2 → OnOk result ((contents : List ℕ)
+        × IsContents base.now contents × (twin.new.journal.gate + 1 ≡ length contents)) }
     ensures keeps { OnOk result (KeepsNow twin.new base.now D.Disk disk.new) }
     ensures any_moment { ForTold (D.seen disk.old)
         (λ image. LeavesOnly D.Disk disk.old disk.new (HasKept base.now)) }
@@ -91,6 +95,10 @@ fn note<D: Disk>(twin: &mut Twin, disk: &mut D) -> Result<(), OpenError>
     requires stands { StandsFor twin.old D.Disk disk.old }
     ensures format { twin.new.journal.format ≡ format_2 }
     ensures limit { twin.new.journal.limit ≡ twin.old.journal.limit }
+    ensures ones { twin.new.ones ≡ twin.old.ones }
+    ensures gate { OnOk result
+        (twin.new.journal.gate ≡ twin.old.journal.gate + needed_length format_2 1) }
+    ensures fits { OnOk result (twin.new.journal.gate + 1 ≤ twin.new.journal.limit) }
     ensures keeps { (kept : contents.Kept) → KeepsNow twin.old kept D.Disk disk.old
         → OnOk result (KeepsNow twin.new (kept_restarted kept) D.Disk disk.new) }
     ensures any_moment { (kept : contents.Kept) → KeepsNow twin.old kept D.Disk disk.old
@@ -129,6 +137,7 @@ fn go_on<D: Disk>(
     requires keeps { KeepsNow twin.old base.now D.Disk disk.old }
     ensures format { OnOk result (twin.new.journal.format ≡ format_2) }
     ensures limit { twin.new.journal.limit ≡ twin.old.journal.limit }
+    ensures noted { OnOk result (HasNoted base.now twin.old twin.new) }
     ensures keeps { OnOk result (KeepsNow twin.new (kept_restarted base.now) D.Disk disk.new) }
     ensures any_moment { LeavesEither D.Disk disk.old disk.new base.now (kept_restarted base.now) }
     ensures acknowledged { OnOk result (ForTold (D.seen disk.old)
@@ -178,6 +187,7 @@ fn resume<D: Disk>(
     requires keeps { KeepsNow twin content D.Disk disk.old }
     ensures base { IfOk result (λ store. store.base ≡ content) }
     ensures fresh { IfOk result (IsFresh twin.journal.limit) }
+    ensures noted { IfOk result (λ store. HasNoted content twin store.twin) }
     ensures keeps { IfOk result
         (λ store. KeepsNow store.twin (kept_restarted content) D.Disk disk.new) }
     ensures any_moment { LeavesEither D.Disk disk.old disk.new content (kept_restarted content) }

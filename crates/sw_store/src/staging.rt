@@ -1,9 +1,8 @@
 //! Events that happen, and wait for their changes to be written.
 
-ghost use Rattle.std.specs.Prelude.{◌≡◌, ◌≢◌, ◌≤◌, ◌<◌, ◌+◌, ◌++◌, ◌↔◌, [], ℕ, List, true, false, length, IfOk, IsErrOf, OnErr, OnOk, Some};
+ghost use Rattle.std.specs.Prelude.{◌≡◌, ◌≢◌, ◌≤◌, ◌<◌, ◌^◌, ◌+◌, ◌++◌, ◌↔◌, [], ℕ, List, true, false, length, IfOk, IsErrOf, OnErr, OnOk, Some};
 ghost use Rattle.sw_codec.specs.Spelling.{spelled_all};
 ghost use Rattle.sw_data.specs.declared.events.Event as events;
-ghost use Rattle.sw_disk.specs.DiskRule.{capped};
 ghost use Rattle.sw_journal.specs.Format.{format_2, needed_length};
 ghost use Rattle.sw_laws.specs.Coherent.{Coherent};
 ghost use Rattle.sw_rules.specs.State.{State};
@@ -51,8 +50,9 @@ fn undone(event: Event, plan: Plan) -> StageError
 
 // The record of this length is too long.
 fn too_long(event: Event, plan: Plan, group: &Group, twin: &Twin, length: u64) -> StageError
+    requires small { needed_length twin.now.journal.format length < 2 ^ 64 }
     ensures full { group.now.entries ≡ [] → result ≡ StageError.Full event
-        (twin.now.journal.gate + 1) (capped (needed_length twin.now.journal.format length)) }
+        (twin.now.journal.gate + 1) (needed_length twin.now.journal.format length) }
     ensures no_room { group.now.entries ≢ [] → result ≡ StageError.NoRoom event }
 {
     drop(plan);
@@ -70,8 +70,9 @@ fn too_long(event: Event, plan: Plan, group: &Group, twin: &Twin, length: u64) -
 
 // Whether a record whose payload has this length passes the limit.
 fn passes(twin: &Twin, length: u64) -> bool
+    requires small { needed_length twin.now.journal.format length < 2 ^ 64 }
     ensures long { result ≡ true → twin.now.journal.limit
-        < twin.now.journal.gate + 1 + capped (needed_length twin.now.journal.format length) }
+        < twin.now.journal.gate + 1 + needed_length twin.now.journal.format length }
     ensures short { result ≡ false → twin.now.journal.gate + 1
         + needed_length twin.now.journal.format length ≤ twin.now.journal.limit }
 {
@@ -125,6 +126,8 @@ fn spell(
     ensures twin { twin.new ≡ record twin.old {
       journal = record twin.old.journal { spare = twin.new.journal.spare };
     } }
+    ensures small { IfOk result (λ more.
+        needed_length twin.new.journal.format (length (group.old.payload ++ more)) < 2 ^ 64) }
     ensures kept { twin.old.journal.spare ≤ twin.new.journal.spare }
 {
     let changes = core.changes(alloc, event, plan)?;
@@ -153,6 +156,8 @@ fn place(
     requires format { twin.now.journal.format ≡ format_2 }
     requires entry_room { 0 < group.old.entry_room }
     requires payload_room { length more.now ≤ group.old.payload_room }
+    requires small { needed_length twin.now.journal.format (length (group.old.payload ++ more.now))
+        < 2 ^ 64 }
     ensures happened { OnOk result (IsPlaced event pass (state_of core.old) group.old more.now
         group.new (state_of core.new)) }
     ensures fits { OnOk result (more.now ≢ []

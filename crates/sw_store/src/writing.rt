@@ -114,6 +114,8 @@ impl Store {
         // Each refusal has its cause.
         ensures broken { (since : ℕ) → IsErrOf result (CommitError.Broken since)
             ↔ (self.old.since ≡ Some since) }
+        ensures stays { (since : ℕ) → IsErrOf result (CommitError.Broken since)
+            → (self.new ≡ self.old) × (disk.new ≡ disk.old) }
         ensures fault { (refused : Vec entries_of.Entry Global)
             → IsErrOf result (CommitError.DiskFault refused)
             → (refused.items ≡ all_stamped (D.clock disk.new) self.old.staged)

@@ -132,6 +132,7 @@ impl Twin {
     /// Makes room for putting together a record whose payload has this length.
     pub fn reserve(&mut self, length: u64) -> Result<(), NoMemory>
         ensures room { OnOk result (length ≤ self.new.journal.spare) }
+        ensures small { OnOk result (needed_length self.new.journal.format length < 2 ^ 64) }
         ensures same { self.new ≡ record self.old {
           journal = record self.old.journal { spare = self.new.journal.spare };
         } }

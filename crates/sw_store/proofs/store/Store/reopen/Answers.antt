@@ -8,7 +8,7 @@ returns-in-Ok-clause-opened g c =
     let was = c.in-Ok.ensures in
     let on = c.resume.ensures in
     has_opened g.D.Disk c.args.disk.now c.open.new.disk c.resume.new.disk c.in-Ok.content was.quiet was.kept on.any_moment was.first_call (was.first (λ is. absurd cc))
-    c.resume.result on.base on.keeps on.acknowledged on.told on.calls on.later on.count
+    c.in-Ok.twin was.keeps.stands c.resume.result on.base on.noted on.keeps on.acknowledged on.told on.calls on.later on.count
 
 pub returns-in-Ok-clause-unopened : goal.returns-in-Ok-clause-unopened
 returns-in-Ok-clause-unopened g c =
