@@ -6,6 +6,7 @@
 mod actions;
 mod clients;
 mod lanes;
+pub mod laws;
 mod reading;
 mod recording;
 

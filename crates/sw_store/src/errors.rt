@@ -56,6 +56,25 @@ pub enum CommitError {
     Broken { since: u64 },
 }
 
+/// Why an event didn't happen, or its answer is not handed out.
+#[derive(Drop)]
+pub enum ApplyError {
+    NoMemory,
+    /// The event, which is handed back, has changes whose record needs so much behind the next free offset that it passes
+    /// the limit.
+    Full {
+        event: Event,
+        length: u64,
+        needed: u64,
+    },
+    /// The disk's count of faults rose, or stands at its type's end. The entry of the event is handed back.
+    DiskFault(Entry),
+    /// An earlier call met a fault of the disk, at this clock.
+    Broken {
+        since: u64,
+    },
+}
+
 /// Why what is kept was not written anew.
 #[derive(Debug, Clone, Copy, PartialEq, Eq)]
 pub enum TendError {

@@ -2,6 +2,7 @@
 //! are handed out; and from time to time what is kept is written anew.
 #![tactic(auto)]
 
+mod applying;
 mod errors;
 mod group;
 mod limits;
@@ -10,5 +11,5 @@ mod staging;
 mod store;
 mod writing;
 
-pub use errors::{CommitError, OpenError, StageError, TendError};
+pub use errors::{ApplyError, CommitError, OpenError, StageError, TendError};
 pub use store::Store;
