@@ -1,5 +1,5 @@
 -- What is found in a list, at a place of it, and among the numbers below a length.
-use Rattle.std.proofs.Common.{◌≡◌, ℕ, ◌+◌, ◌<◌, ◌≤◌, suc, zero, Bool, true, false, List, [], ◌∷◌, Option, Some, None, drop, set, slice_get, refl, ap, arith}
+use Rattle.std.proofs.Common.{◌≡◌, ℕ, ◌+◌, ◌<◌, ◌≤◌, suc, zero, Bool, true, false, List, [], ◌∷◌, Option, Some, None, drop, set, slice_get, refl, sym, ap, arith}
 use Rattle.std.specs.Prelude.{option_and_then}
 use Rattle.std.specs.List.{find, filter_map, range_with_len}
 use Rattle.std.specs.Option.{option_map_or}
@@ -60,3 +60,8 @@ set_there (x ∷ xs) zero zero new apart = absurd (apart refl)
 set_there (x ∷ xs) zero (suc j) new apart = refl
 set_there (x ∷ xs) (suc i) zero new apart = refl
 set_there (x ∷ xs) (suc i) (suc j) new apart = set_there xs i j new (λ same. apart (ap suc same))
+
+pub set_same : {X : Type 0} (xs : List X) (i : ℕ) (x : X) → slice_get xs i ≡ Some x → set xs i x ≡ xs
+set_same [] i x is = refl
+set_same (y ∷ ys) zero x is = let same : y ≡ x = cc in ap (λ (first : _). first ∷ ys) (sym same)
+set_same (y ∷ ys) (suc i) x is = ap (λ (rest : List _). y ∷ rest) (set_same ys i x is)

@@ -1,11 +1,11 @@
 -- The lanes follow the history: what comes next, and what an entry leaves.
-use Rattle.std.proofs.Common.{◌≡◌, ◌∙◌, ℕ, ◌+◌, Bool, true, false, List, [], ◌∷◌, ◌++◌, Option, Some, None, drop, length, map, option_map, slice_get, set, refl, sym, subst, ap, arith, ◌==◌, cond}
+use Rattle.std.proofs.Common.{◌≡◌, ◌∙◌, ℕ, ◌+◌, Bool, true, false, List, [], ◌∷◌, ◌++◌, Option, Some, None, drop, get_or, length, map, option_map, slice_get, set, refl, sym, subst, ap, arith, ◌==◌, cond}
 use Rattle.std.specs.Prelude.{option_and_then}
 use Rattle.std.specs.Option.{option_map_or}
 use Rattle.std.specs.List.{range_with_len}
 use Rattle.std.proofs.lemmas.Bool.Decides.{nat_tests}
-use Rattle.std.proofs.lemmas.List.{drop-drop, length-map, length-set}
-use Rattle.std.proofs.lemmas.Option.{slice_get-map}
+use Rattle.std.proofs.lemmas.List.{drop-drop, get_or-set_same, length-map, length-set, set-set}
+use Rattle.std.proofs.lemmas.Option.{slice_get-map, slice_get_within}
 use Rattle.std.proofs.lemmas.List.Sums.{sum_by_push}
 use Rattle.sw_data.specs.declared.events.Who.{Who}
 use Rattle.sw_data.specs.declared.histories.Entry.{Entry}
@@ -16,10 +16,10 @@ use Rattle.sw_data.specs.Events.{event_of_action, is_lane}
 use Rattle.sw_rules.specs.Picks.{first_enabled, is_of_lane, made_by, next_action}
 use Rattle.sw_rules.specs.State.{State}
 use Rattle.sw_rules.specs.Step.{enabled}
-use Rattle.sw_lane.specs.Left.{Left, begun, moved, taken}
+use Rattle.sw_lane.specs.Left.{Left, action_of, begun, moved, taken}
 use Rattle.sw_lane.specs.Picked.{event_left, ready_lane}
 use Rattle.sw_lane.specs.Recorded.{AreLanesOf, left_after}
-use Rattle.sw_lane.proofs.Finding.{find_given, front_of, set_here, set_there}
+use Rattle.sw_lane.proofs.Finding.{find_given, front_of, set_here, set_same, set_there}
 
 -- the next action of one lane
 one_next : (history : List Entry) (number : ℕ) (actions : Option (List Action)) (left : Option Left)
@@ -129,3 +129,20 @@ goes_on recording history lanes number new entry at moves ours is = rw moves (re
         ∙ ours.each other
         ∙ left_alike history (history ++ entry ∷ []) other (slice_get recording.lanes other)
         (made_same other history entry (mine other false tested))
+
+-- an action that is put back is where it was
+pub returned : (before lanes : List Left) (number : ℕ) (action : Action) (was new : Left) (got : Option Left) → slice_get before number ≡ got
+    → taken number before ≡ lanes → action_of before number ≡ Some action → was ≡ get_or lanes number was
+    → ((left : Left) → moved left ≡ was → slice_get left.actions 0 ≡ Some action → new ≡ left) → set lanes number new ≡ before
+returned before lanes number action was new None is took acts now back =
+    let none : None ≡ Some action = sym (ap (option_and_then (λ (lane : Left). slice_get lane.actions 0)) is) ∙ acts in
+    absurd cc
+returned before lanes number action was new (Some left) is took acts now back =
+    let are : lanes ≡ set before number (moved left) =
+    sym took ∙ ap (λ (o : Option Left). option_map_or (λ lane. set before number (moved lane)) o before) is in
+    let was_is : was ≡ moved left =
+    now ∙ ap (λ (all : List Left). get_or all number was) are ∙ get_or-set_same before number (moved left) was (slice_get_within before number left is) in
+    let new_is : new ≡ left =
+    back left (sym was_is) (sym (ap (option_and_then (λ (lane : Left). slice_get lane.actions 0)) is) ∙ acts) in
+    ap (λ (all : List Left). set all number new) are ∙ set-set before number (moved left) new
+    ∙ ap (set before number) new_is ∙ set_same before number left is

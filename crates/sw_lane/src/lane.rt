@@ -1,7 +1,7 @@
 //! One lane.
 
 ghost use Rattle.std.specs.Prelude.{◌≡◌, ◌^◌, ◌<◌, ◌+◌, true, length, is_some, Some, option_map, slice_get, IfSome};
-ghost use Rattle.sw_lane.specs.Left.{begun, moved};
+ghost use Rattle.sw_lane.specs.Left.{Left, begun, moved};
 
 use std::collections::VecDeque;
 use std::marker::Model;
@@ -15,14 +15,17 @@ pub(crate) struct Lane {
 }
 
 impl Model for Lane {
-    ghost use Rattle.std.specs.Prelude.{◌<◌, ◌^◌, ◌+◌, length};
+    ghost use Rattle.std.specs.Prelude.{◌<◌, ◌≤◌, ◌^◌, ◌+◌, length};
+    ghost use Rattle.std.specs.VecDeque.{deque_capacity};
     ghost use Rattle.sw_lane.specs.Left.{Left};
 
     ghost Value = { Left };
 
     ghost view = { λ lane. record { at = lane.at; actions = lane.left.items } };
 
-    ghost invariant = { λ lane. lane.at + length lane.left.items < 2 ^ 32 };
+    // There is room for each action that was taken.
+    ghost invariant = { λ lane. (lane.at + length lane.left.items < 2 ^ 32)
+        × (lane.at + length lane.left.items ≤ deque_capacity lane.left) };
 }
 
 impl Lane {
@@ -36,7 +39,7 @@ impl Lane {
         }
         Some(Lane {
             at: 0,
-            left: VecDeque::from(actions),
+            left: VecDeque::from_vec(actions),
         })
     }
 
@@ -67,5 +70,15 @@ impl Lane {
             }
             None => unreachable!(),
         }
+    }
+
+    // Puts back the action that was taken last; it takes no memory.
+    pub(crate) fn put_back(&mut self, action: Action)
+        requires { (before : Left) × (moved before ≡ self.old) × (slice_get before.actions 0 ≡ Some action) }
+        ensures { (before : Left) → moved before ≡ self.old
+            → slice_get before.actions 0 ≡ Some action → self.new ≡ before }
+    {
+        self.at -= 1;
+        self.left.push_front_reserved(action);
     }
 }

@@ -4,7 +4,7 @@ ghost use Rattle.std.specs.Prelude.{◌≡◌, ◌++◌, ◌∷◌, [], ℕ, Lis
 ghost use Rattle.sw_data.specs.declared.events.Who.TheVariants as who;
 ghost use Rattle.sw_data.specs.declared.histories.Entry.{Entry};
 ghost use Rattle.sw_data.specs.declared.recordings.Recording.{Recording};
-ghost use Rattle.sw_lane.specs.Left.{begun, at_of, action_of, taken};
+ghost use Rattle.sw_lane.specs.Left.{Left, begun, at_of, action_of, taken};
 ghost use Rattle.sw_lane.specs.Recorded.{AreLanesOf, Says};
 ghost use Rattle.sw_lane.specs.Picked.{picked, is_ready, ready_lane, lane_left, at_rest};
 
@@ -87,6 +87,16 @@ impl Lanes {
         ensures moved { self.new ≡ taken lane self.old }
     {
         self.lanes[lane as usize].take()
+    }
+
+    /// Puts back the action of a lane that was taken last; it takes no memory.
+    pub fn put_back(&mut self, lane: u32, action: Action)
+        requires { (before : List Left) × (taken lane before ≡ self.old)
+            × (action_of before lane ≡ Some action) }
+        ensures { (before : List Left) → taken lane before ≡ self.old
+            → action_of before lane ≡ Some action → self.new ≡ before }
+    {
+        self.lanes[lane as usize].put_back(action);
     }
 
     // The position of a lane.
