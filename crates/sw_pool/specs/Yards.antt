@@ -9,7 +9,8 @@ use Rattle.sw_pool.specs.declared.ends.Brief.TheVariants as brief
 use Rattle.sw_pool.specs.declared.ends.Turned.{Turned}
 use Rattle.sw_pool.specs.declared.ends.Turned.TheVariants as turned
 use Rattle.sw_turns.specs.Ends.{Ended, IsKept}
-use Rattle.sw_turns.specs.Turns.{IsAtRest, IsGoing, IsTurn}
+use Rattle.sw_turns.specs.Settling.{IsOneRecord}
+use Rattle.sw_turns.specs.Turns.{IsAtRest, IsGoing, IsOneGroup, IsTurn}
 use Rattle.sw_turns.specs.declared.ends.DriveEnd.{DriveEnd}
 use Rattle.sw_turns.specs.declared.ends.DriveEnd.TheVariants as drive_end
 use Rattle.sw_turns.specs.declared.ends.Turn.{Turn}
@@ -80,7 +81,7 @@ shown (turn.Fetch flown fetches) = turned.Fetch flown fetches
 shown turn.Idle = turned.Idle
 
 -- own: one step of a pass, of the same run: an end that is kept stays and is the answer; else the step is a turn, or ends the run
--- and answers how
+-- and answers how; what it adds goes by the pick order, and is one record
 pub record HasStepped {D : Type 0} (disk : Ghosts D) (before : YardState D) (pass : ℕ) (after : YardState D) (out : Turned) : Type 0 where
   pub stands : IsYard disk after
   pub origin : after.origin ≡ before.origin
@@ -89,6 +90,8 @@ pub record HasStepped {D : Type 0} (disk : Ghosts D) (before : YardState D) (pas
   pub ends : (ended : DriveEnd) → before.end ≡ None → after.end ≡ Some ended → out ≡ turned.Ended (brief_of ended)
   pub turns : before.end ≡ None → after.end ≡ None
       → (made : Turn) × IsTurn pass before.progress after.progress made × (out ≡ shown made)
+  pub group : before.end ≡ None → IsOneGroup pass before.progress after.progress
+  pub calls : before.end ≡ None → IsOneRecord (disk.clock before.disk) (disk.clock after.disk) after.progress.store
 
 -- own: a pass that has seen this history was answered the end that is kept in a value of the run, which stands
 pub record IsEndSeen {D : Type 0} (disk : Ghosts D) (origin : Origin D) (history : List Entry) (said : Brief) : Type 0 where

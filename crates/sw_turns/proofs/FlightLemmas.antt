@@ -3,7 +3,7 @@ use Rattle.std.proofs.Common.{◌≡◌, ◌∙◌, ℕ, zero, suc, ◌<◌, Boo
 use Rattle.std.specs.List.{list_all, list_any}
 use Rattle.std.specs.Prelude.{option_and_then}
 use Rattle.std.proofs.lemmas.Bool.Decides.{nat_tests}
-use Rattle.std.proofs.lemmas.List.{length-set}
+use Rattle.std.proofs.lemmas.List.{length-set, set-set}
 use Rattle.std.proofs.lemmas.Option.{slice_get_within}
 use Rattle.sw_data.specs.declared.events.Event.{Event}
 use Rattle.sw_data.specs.declared.events.Event.TheVariants as event
@@ -55,6 +55,10 @@ module _ {X : Type 0} where
   set_else (y ∷ ys) zero (suc j) x apart = refl
   set_else (y ∷ ys) (suc i) zero x apart = refl
   set_else (y ∷ ys) (suc i) (suc j) x apart = set_else ys i j x (λ same. apart (ap suc same))
+
+  -- what was put at a place is taken off again
+  pub set_back : (xs : List X) (i : ℕ) (old new : X) → slice_get xs i ≡ Some old → slice_set (slice_set xs i new) i old ≡ xs
+  set_back xs i old new is = set-set xs i new old ∙ set_same xs i old is
 
 -- one place alone
 pub only_place : {X : Type 0} (xs : List X) (i : ℕ) (x : X) → length xs ≡ 1 → slice_get xs i ≡ Some x → i ≡ 0

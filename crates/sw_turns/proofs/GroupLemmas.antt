@@ -1,5 +1,5 @@
 -- Events that join a group.
-use Rattle.std.proofs.Common.{◌≡◌, ◌∙◌, ℕ, ◌+◌, ◌<◌, List, [], ◌∷◌, ◌++◌, length, length-append, append_assoc, Option, Some, Result, Ok, Err, OnOk, slice_get, refl, sym, ap, subst, arith}
+use Rattle.std.proofs.Common.{◌≡◌, ◌≢◌, ◌∙◌, ℕ, ◌+◌, ◌<◌, List, [], ◌∷◌, ◌++◌, length, length-append, append_assoc, Option, Some, None, Result, Ok, Err, OnOk, slice_get, refl, sym, ap, subst, arith}
 use Rattle.std.specs.Option.{option_map_or}
 use Rattle.std.proofs.lemmas.List.{append-nil, map_push}
 use Rattle.std.proofs.lemmas.List.Elements.{All-append, All-nil, All-push}
@@ -20,8 +20,13 @@ use Rattle.sw_laws.specs.Laws.{changes_along}
 use Rattle.sw_laws.proofs.LawProofs.{is_always_coherent}
 use Rattle.sw_lock.specs.Entries.{ThenOwn}
 use Rattle.sw_turns.specs.Flights.{AreInFlight, Spares}
-use Rattle.sw_turns.specs.Groups.{IsHeld, IsRefused, IsUnderWay}
+use Rattle.sw_turns.specs.Coming.{HasNoRoom, IsPickedNext}
+use Rattle.sw_turns.specs.Groups.{HasSome, IsBarren, IsByPick, IsHeld, IsRefused, IsTaken, IsUnderWay, KeepsLanes, LacksRoom, Leaves, StaysOut, Stops, stop_by}
 use Rattle.sw_turns.specs.Playing.{ComesNext, IsSoFar}
+use Rattle.sw_turns.specs.declared.ends.Refusal.{Refusal}
+use Rattle.sw_turns.specs.declared.ends.Refusal.TheVariants as refusal
+use Rattle.sw_turns.specs.declared.ends.Stop.{Stop}
+use Rattle.sw_turns.specs.declared.ends.Stop.TheVariants as stop
 use Rattle.sw_rules.specs.History.{after, after_entries}
 use Rattle.sw_rules.specs.State.{State}
 use Rattle.sw_turns.proofs.FlightLemmas.{spared_fly}
@@ -41,7 +46,7 @@ module _ (happened : Event) (pass : ℕ) (old new : StoreState) (has : IsStaged 
   one_more_waits : length new.staged ≡ length old.staged + 1
   one_more_waits = ap length staged_is ∙ length-append old.staged (has.entry ∷ [])
 
-  leaves_state : state_after (state_of old.core) happened ≡ state_of new.core
+  pub leaves_state : state_after (state_of old.core) happened ≡ state_of new.core
   leaves_state = ap (λ (r : Option Outcome). option_map_or (λ outcome. outcome.told.state) r (state_of old.core)) has.is_entry.step.1
 
   -- the state that the event leaves is coherent
@@ -120,7 +125,7 @@ module _ (old new : StoreState) (same : IsSame old new) where
   same_own pass = ([], same_staged ∙ sym (append-nil old.staged), All-nil (λ (entry : Entry). entry.pass ≡ pass))
 
   module _ (workers : ℕ) (recording : Recording) (base : Kept) (history : List Entry) where
-    stays_under_way : (lanes : List Left) → IsUnderWay workers recording base history lanes old → IsUnderWay workers recording base history lanes new
+    pub stays_under_way : (lanes : List Left) → IsUnderWay workers recording base history lanes old → IsUnderWay workers recording base history lanes new
     stays_under_way lanes goes = record {
       so_far = λ clock.
           subst (λ (staged : List Entry). IsSoFar workers recording base (history ++ all_stamped clock staged) lanes (state_of new.core)) (sym same_staged)
@@ -135,16 +140,12 @@ module _ (old new : StoreState) (same : IsSame old new) where
     }
 
     -- the event comes next all the same
-    pub stays_held : (lanes : List Left) (happened : Event) → IsHeld workers recording base history lanes old happened → IsHeld workers recording base history lanes new happened
+    stays_held : (lanes : List Left) (happened : Event) → IsHeld workers recording base history lanes old happened → IsHeld workers recording base history lanes new happened
     stays_held lanes happened held = record {
       before = held.before;
       under_way = stays_under_way held.before held.under_way;
       next = subst (λ (state : State). ComesNext workers recording.fetches held.before lanes state happened) (sym same.state) held.next;
     }
-
-    -- the group goes on, though there was no memory for the event
-    pub no_memory : (lanes : List Left) (happened : Event) → IsHeld workers recording base history lanes old happened → (before : List Left) × IsUnderWay workers recording base history before new
-    no_memory lanes happened held = (held.before, stays_under_way held.before held.under_way)
 
     -- the event has no room, though nothing waits
     pub is_refused : (lanes : List Left) (happened : Event) (from needed : ℕ) → IsHeld workers recording base history lanes old happened → old.staged ≡ []
@@ -165,6 +166,12 @@ module _ (old new : StoreState) (same : IsSame old new) where
 
 -- ---- what the calls answer
 
+-- an event comes next behind what waits
+pub holds : (workers : ℕ) (recording : Recording) (base : Kept) (history : List Entry) (before lanes : List Left) (store : StoreState) (happened : Event)
+    → IsUnderWay workers recording base history before store → ComesNext workers recording.fetches before lanes (state_of store.core) happened
+    → IsHeld workers recording base history lanes store happened
+holds workers recording base history before lanes store happened way next = record { before = before; under_way = way; next = next }
+
 -- the event that comes next has joined the group
 pub joined : (happened : Event) (pass : ℕ) (old new : StoreState) → IsStaged happened pass old new → length old.staged < 16
     → ((begun : State) → IsGroup begun old → IsGroup begun new)
@@ -173,14 +180,133 @@ pub joined : (happened : Event) (pass : ℕ) (old new : StoreState) → IsStaged
 joined happened pass old new has few group workers recording base history lanes below held =
     goes_on_with happened pass old new has workers below recording base history lanes held few (group (after base history) held.under_way.group)
 
--- the event of what was picked comes next behind what waits
-pub taken_up : (workers : ℕ) (lines : List FetchLine) (lanes left : List Left) (store : StoreState) (happened : Event) → ComesNext workers lines lanes left (state_of store.core) happened
-    → (recording : Recording) (base : Kept) (history : List Entry) → recording.fetches ≡ lines → IsUnderWay workers recording base history lanes store
-    → IsHeld workers recording base history left store happened
-taken_up workers lines lanes left store happened next recording base history same goes = record {
-  before = lanes;
-  under_way = goes;
-  next = subst (λ (all : List FetchLine). ComesNext workers all lanes left (state_of store.core) happened) (sym same) next;
+-- the event of what was picked comes next, of whatever recording with these fetch lines
+pub next_of : (workers : ℕ) (lines : List FetchLine) (lanes left : List Left) (host now : Hosted) (happened : Event) → host ≡ now → ComesNext workers lines lanes left (state_of host) happened
+    → (recording : Recording) → recording.fetches ≡ lines → ComesNext workers recording.fetches lanes left (state_of now) happened
+next_of workers lines lanes left host now happened same next recording gives =
+    subst (λ (all : List FetchLine). ComesNext workers all lanes left (state_of now) happened) (sym gives)
+    (subst (λ (h : Hosted). ComesNext workers lines lanes left (state_of h) happened) same next)
+
+-- and is that of what the pick order has next
+pub next_pick : (lines : List FetchLine) (flights : List (Option Task)) (lanes left : List Left) (host now : Hosted) (happened : Event) → host ≡ now
+    → IsPickedNext lines (state_of host) flights lanes happened left → IsPickedNext lines (state_of now) flights lanes happened left
+next_pick lines flights lanes left host now happened same next =
+    subst (λ (h : Hosted). IsPickedNext lines (state_of h) flights lanes happened left) same next
+
+-- ---- an event that didn't join
+
+-- why a group stops then
+module _ (stopped : Stop) (why : Refusal) (is : stopped ≡ stop_by why) where
+  by_why : (P : Stop → Type 0) → P (stop_by why) → P stopped
+  by_why P holds = subst P (sym is) holds
+
+  pub stop_picks : IsByPick stopped
+  stop_picks = by_why IsByPick (each why)
+    where
+      each : (why : Refusal) → IsByPick (stop_by why)
+      each (refusal.NoRoom kept) = tt
+      each (refusal.Full kept from needed) = tt
+      each refusal.NoMemory = tt
+
+  pub stop_takes : (pass : ℕ) (flights : List (Option Task)) → IsTaken pass flights flights stopped
+  stop_takes pass flights = by_why (IsTaken pass flights flights) (each why)
+    where
+      each : (why : Refusal) → IsTaken pass flights flights (stop_by why)
+      each (refusal.NoRoom kept) = refl
+      each (refusal.Full kept from needed) = refl
+      each refusal.NoMemory = refl
+
+  pub stop_leaves : (pass : ℕ) (flights : List (Option Task)) (lanes : List Left) (state : State) → slice_get flights pass ≡ Some None → Leaves pass flights lanes state stopped
+  stop_leaves pass flights lanes state free = by_why (Leaves pass flights lanes state) (each why)
+    where
+      each : (why : Refusal) → Leaves pass flights lanes state (stop_by why)
+      each (refusal.NoRoom kept) = free
+      each (refusal.Full kept from needed) = free
+      each refusal.NoMemory = tt
+
+  pub stop_keeps : (lanes : List Left) → KeepsLanes stopped lanes lanes
+  stop_keeps lanes = by_why (λ s. KeepsLanes s lanes lanes) (each why)
+    where
+      each : (why : Refusal) → KeepsLanes (stop_by why) lanes lanes
+      each (refusal.NoRoom kept) = refl
+      each (refusal.Full kept from needed) = tt
+      each refusal.NoMemory = tt
+
+  pub stop_some : (staged : List Entry) → ((kept : Event) → why ≡ refusal.NoRoom kept → staged ≢ []) → HasSome stopped staged
+  stop_some staged some = by_why (λ s. HasSome s staged) (each why some)
+    where
+      each : (why : Refusal) → ((kept : Event) → why ≡ refusal.NoRoom kept → staged ≢ []) → HasSome (stop_by why) staged
+      each (refusal.NoRoom kept) some = some kept refl
+      each (refusal.Full kept from needed) some = tt
+      each refusal.NoMemory some = tt
+
+  pub stop_lacks : (lines : List FetchLine) (lanes : List Left) (flights : List (Option Task)) (store : StoreState)
+      → ((kept : Event) → why ≡ refusal.NoRoom kept → HasNoRoom lines (state_of store.core) flights lanes store.payload store.twin)
+      → LacksRoom stopped lines lanes flights store
+  stop_lacks lines lanes flights store lacks = by_why (λ s. LacksRoom s lines lanes flights store) (each why lacks)
+    where
+      each : (why : Refusal) → ((kept : Event) → why ≡ refusal.NoRoom kept → HasNoRoom lines (state_of store.core) flights lanes store.payload store.twin)
+          → LacksRoom (stop_by why) lines lanes flights store
+      each (refusal.NoRoom kept) lacks = lacks kept refl
+      each (refusal.Full kept from needed) lacks = tt
+      each refusal.NoMemory lacks = tt
+
+  -- where nothing waited the group is barren
+  pub stop_barren : IsBarren (stop_by why) → IsBarren stopped
+  stop_barren barren = by_why IsBarren barren
+
+  module _ (workers : ℕ) (recording : Recording) (base : Kept) (history : List Entry) (flights : List (Option Task)) (store : StoreState) where
+    -- an event that leaves the lanes as they are
+    pub stop_stays : (lanes : List Left) → StaysOut workers recording base history lanes lanes store why → Stops workers recording base history lanes flights store stopped
+    stop_stays lanes stays = by_why (Stops workers recording base history lanes flights store) (each why stays)
+      where
+        each : (why : Refusal) → StaysOut workers recording base history lanes lanes store why → Stops workers recording base history lanes flights store (stop_by why)
+        each (refusal.NoRoom kept) stays = stays
+        each (refusal.Full kept from needed) stays = stays
+        each refusal.NoMemory stays = (lanes, stays)
+
+  module _ (room : (kept : Event) → why ≡ refusal.NoRoom kept → ⊥) where
+    -- an action that was refused for good
+    pub stop_loses : (before lanes : List Left) → KeepsLanes stopped before lanes
+    stop_loses before lanes = by_why (λ s. KeepsLanes s before lanes) (each why room)
+      where
+        each : (why : Refusal) → ((kept : Event) → why ≡ refusal.NoRoom kept → ⊥) → KeepsLanes (stop_by why) before lanes
+        each (refusal.NoRoom kept) room = absurd (room kept refl)
+        each (refusal.Full kept from needed) room = tt
+        each refusal.NoMemory room = tt
+
+    pub stop_ends : (workers : ℕ) (recording : Recording) (base : Kept) (history : List Entry) (flights : List (Option Task)) (store : StoreState) (before lanes : List Left)
+        → StaysOut workers recording base history before lanes store why → Stops workers recording base history lanes flights store stopped
+    stop_ends workers recording base history flights store before lanes stays = by_why (Stops workers recording base history lanes flights store) (each why room stays)
+      where
+        each : (why : Refusal) → ((kept : Event) → why ≡ refusal.NoRoom kept → ⊥) → StaysOut workers recording base history before lanes store why
+            → Stops workers recording base history lanes flights store (stop_by why)
+        each (refusal.NoRoom kept) room stays = absurd (room kept refl)
+        each (refusal.Full kept from needed) room stays = stays
+        each refusal.NoMemory room stays = (before, stays)
+
+-- a barren group lacks no room
+pub barren_lacks : (stopped : Stop) (lines : List FetchLine) (lanes : List Left) (flights : List (Option Task)) (store : StoreState) → IsBarren stopped → LacksRoom stopped lines lanes flights store
+barren_lacks stop.Whole lines lanes flights store barren = tt
+barren_lacks stop.NoRoom lines lanes flights store barren = absurd barren
+barren_lacks (stop.Fetch flown fetches) lines lanes flights store barren = tt
+barren_lacks stop.Idle lines lanes flights store barren = tt
+barren_lacks stop.Done lines lanes flights store barren = tt
+barren_lacks (stop.Stalled lane) lines lanes flights store barren = tt
+barren_lacks (stop.Full happened from needed) lines lanes flights store barren = tt
+barren_lacks stop.NoMemory lines lanes flights store barren = tt
+
+-- what the pick order has next has no room
+pub no_room : (lines : List FetchLine) (flights : List (Option Task)) (lanes left : List Left) (happened : Event) (old new : StoreState) (needed : ℕ)
+    → IsPickedNext lines (state_of old.core) flights lanes happened left → state_of new.core ≡ state_of old.core
+    → IsTooLong (changes_of (state_of new.core) happened) new.payload new.twin needed
+    → HasNoRoom lines (state_of new.core) flights lanes new.payload new.twin
+no_room lines flights lanes left happened old new needed next still long = record {
+  happened = happened;
+  left = left;
+  next = subst (λ (state : State). IsPickedNext lines state flights lanes happened left) (sym still) next;
+  needed = needed;
+  long = long;
 }
 
 -- what is picked in the state of a store

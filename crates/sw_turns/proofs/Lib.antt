@@ -1,5 +1,6 @@
 pub mod BeginLemmas
 pub mod ChangeLemmas
+pub mod ComingLemmas
 pub mod EndLemmas
 pub mod FetchLemmas
 pub mod FlightLemmas

@@ -23,12 +23,13 @@ use Rattle.sw_lane.specs.declared.picks.Pick.TheVariants as pick
 use Rattle.sw_lane.specs.declared.picks.Work.{Work}
 use Rattle.sw_lane.specs.declared.picks.Work.TheVariants as work
 use Rattle.sw_lane.specs.Left.{Left, action_of, at_of, numbers, taken}
-use Rattle.sw_lane.specs.Picked.{is_ready, is_task, lane_left, picked, ready_lane, task_left}
+use Rattle.sw_lane.specs.Picked.{in_flight, is_fetch, is_ready, is_task, lane_left, picked, ready_lane, task_left}
 use Rattle.sw_lane.specs.Recorded.{AreLanesOf}
 use Rattle.sw_lane.proofs.Following.{goes_on, next_is, stays}
 use Rattle.sw_lane.proofs.Saying.{says}
 use Rattle.sw_laws.specs.Coherent.{Coherent}
 use Rattle.sw_laws.proofs.Lists.{find_passes}
+use Rattle.sw_turns.specs.Coming.{IsPickedNext}
 use Rattle.sw_turns.specs.Machines.{IsEventOf}
 use Rattle.sw_turns.specs.Playing.{ComesNext, IsSoFar}
 use Rattle.sw_turns.proofs.ReadyLemmas.{found_ready, ready_enabled}
@@ -295,3 +296,31 @@ pub performed_on : {E : Type 0} (result : Result Event E) (workers : ℕ) (lines
 performed_on (Err why) workers lines state in_flight lanes ready sound alone is gives = tt
 performed_on (Ok happened) workers lines state in_flight lanes ready sound alone is gives =
     performed workers lines state lanes ready happened sound (picked_task state in_flight lanes ready is) (picked_alone state in_flight lanes ready alone is) gives
+
+-- ---- what the pick order has next
+
+-- the event of an action that was taken is that of what was picked
+pub acted_next : (lines : List FetchLine) (state : State) (flights : List (Option Task)) (lanes left : List Left) (lane at : ℕ) (taking : Action) (happened : Event)
+    → picked state (in_flight flights) lanes ≡ pick.Work (work.Action lane at) → action_of lanes lane ≡ Some taking → left ≡ taken lane lanes
+    → happened ≡ event_of_action (who.Lane lane at) taking → IsPickedNext lines state flights lanes happened left
+acted_next lines state flights lanes left lane at taking happened is got moves same = record {
+  chosen = work.Action lane at;
+  is_next = is;
+  made = (
+    ap (option_map (event_of_action (who.Lane lane (at_of lanes lane)))) got
+        ∙ ap (λ (k : ℕ). Some (event_of_action (who.Lane lane k) taking)) (sym (lane_picked state (in_flight flights) lanes lane at is).1)
+        ∙ ap (λ (e : Event). Some e) (sym same),
+    moves,
+  );
+}
+
+-- so is the event of a ready task, where there is memory for it
+pub performed_next : {E : Type 0} (result : Result Event E) (lines : List FetchLine) (state : State) (flights : List (Option Task)) (lanes : List Left) (ready : Task)
+    → is_fetch ready ≡ false → picked state (in_flight flights) lanes ≡ pick.Work (work.Task ready)
+    → IfOk result (IsEventOf lines state ready) → IfOk result (λ happened. IsPickedNext lines state flights lanes happened lanes)
+performed_next (Err why) lines state flights lanes ready plain is gives = tt
+performed_next (Ok happened) lines state flights lanes ready plain is gives = record {
+  chosen = work.Task ready;
+  is_next = is;
+  made = (plain, gives, refl);
+}

@@ -1,5 +1,5 @@
 -- A group is written, or is refused; and what is kept is written anew.
-use Rattle.std.proofs.Common.{◌≡◌, ◌≢◌, ◌∙◌, ◌⊎◌, ⊎_elim, inl, inr, ℕ, ◌+◌, ◌≤◌, List, [], ◌∷◌, ◌++◌, Option, Some, Vec, Global, refl, sym, ap, subst, arith, append-nil}
+use Rattle.std.proofs.Common.{◌≡◌, ◌≢◌, ◌∙◌, ◌⊎◌, ⊎_elim, inl, inr, ℕ, ◌+◌, ◌≤◌, Bool, true, false, List, [], ◌∷◌, ◌++◌, Option, Some, Vec, Global, refl, sym, ap, subst, arith, append-nil}
 use Rattle.sw_codec.specs.Spelling.{spelled_all}
 use Rattle.sw_data.specs.declared.events.Event.{Event}
 use Rattle.sw_data.specs.declared.histories.Entry.{Entry}
@@ -28,7 +28,7 @@ use Rattle.sw_turns.proofs.SurvivalLemmas.{refused_survives, written_survives}
 use Rattle.sw_turns.specs.Ends.{Ended, GoesOn, IsRunOn}
 use Rattle.sw_turns.specs.Groups.{IsHeld, IsUnderWay, Stops}
 use Rattle.sw_turns.specs.Playing.{ComesNext, IsSoFar}
-use Rattle.sw_turns.specs.Settling.{HasStopped, IsNotFull, Standing}
+use Rattle.sw_turns.specs.Settling.{HasStopped, IsAnew, IsNotFull, IsOneRecord, Standing}
 use Rattle.sw_turns.specs.Surviving.{IsAtWork, Survives, kept_of, latest}
 use Rattle.sw_turns.specs.declared.ends.DriveEnd.TheVariants as drive_end
 use Rattle.sw_turns.specs.declared.ends.Stop.{Stop}
@@ -40,7 +40,7 @@ use Rattle.sw_rules.specs.Step.{changes_of}
 use Rattle.sw_rules.specs.Storage.{IsMade, kept_after}
 use Rattle.sw_store.proofs.Appends.{same_kept}
 use Rattle.sw_store.specs.Groups.{IsTooLong}
-use Rattle.sw_store.specs.Stores.{IsQuiet, IsTended, StoreState, all_stamped}
+use Rattle.sw_store.specs.Stores.{HasGrown, IsQuiet, IsTended, IsWrittenAnew, StoreState, all_stamped}
 use Rattle.sw_twin.specs.Twin.{TwinState}
 use Rattle.sw_work.specs.Hosted.{Hosted, state_of}
 
@@ -50,7 +50,7 @@ use Rattle.sw_work.specs.Hosted.{Hosted, state_of}
 pub under_way : (workers : ℕ) (recording : Recording) (base : Kept) (history : List Entry) (lanes : List Left) (flights : List (Option Task)) (store : StoreState) (stopped : Stop)
     → Stops workers recording base history lanes flights store stopped → (before : List Left) × IsUnderWay workers recording base history before store
 under_way workers recording base history lanes flights store stop.Whole stops = (lanes, stops)
-under_way workers recording base history lanes flights store (stop.NoRoom happened) stops = (stops.before, stops.under_way)
+under_way workers recording base history lanes flights store stop.NoRoom stops = (lanes, stops)
 under_way workers recording base history lanes flights store (stop.Fetch taken fetches) stops = (lanes, stops)
 under_way workers recording base history lanes flights store stop.Idle stops = (lanes, stops.0)
 under_way workers recording base history lanes flights store stop.Done stops = (lanes, stops.0)
@@ -74,7 +74,7 @@ nothing_waits state staged payload none spelled =
 is_room : (workers : ℕ) (recording : Recording) (base : Kept) (history : List Entry) (lanes : List Left) (flights : List (Option Task)) (store : StoreState) (stopped : Stop)
     → Stops workers recording base history lanes flights store stopped → store.payload ≢ [] → IsNotFull stopped
 is_room workers recording base history lanes flights store stop.Whole stops some = tt
-is_room workers recording base history lanes flights store (stop.NoRoom happened) stops some = tt
+is_room workers recording base history lanes flights store stop.NoRoom stops some = tt
 is_room workers recording base history lanes flights store (stop.Fetch taken fetches) stops some = tt
 is_room workers recording base history lanes flights store stop.Idle stops some = tt
 is_room workers recording base history lanes flights store stop.Done stops some = tt
@@ -115,7 +115,7 @@ module _ (workers : ℕ) (recording : Recording) (base : Kept) (history : List E
   stops_on : (lanes : List Left) (flights : List (Option Task)) (stopped : Stop) → ((IsNotFull stopped → ⊥) → store.payload ≡ [] → next.twin ≡ store.twin)
       → Stops workers recording base history lanes flights store stopped → Stops workers recording base (history ++ all_stamped clock store.staged) lanes flights next stopped
   stops_on lanes flights stop.Whole same stops = way_on lanes stops
-  stops_on lanes flights (stop.NoRoom happened) same stops = held_on lanes happened stops
+  stops_on lanes flights stop.NoRoom same stops = way_on lanes stops
   stops_on lanes flights (stop.Fetch taken fetches) same stops = way_on lanes stops
   stops_on lanes flights stop.Idle same stops = (way_on lanes stops.0, rw core stops.1)
   stops_on lanes flights stop.Done same stops = (way_on lanes stops.0, rw core stops.1)
@@ -273,6 +273,22 @@ module _ {D : Type 0} (disk : Ghosts D) (old new : D) (s : Standing) (history : 
   }
 
 -- ---- what is kept is written anew
+
+-- it was written anew, or no call was made
+pub anew_by : {D : Type 0} (disk : Ghosts D) (old new : D) (store next : StoreState) (did : Bool) → next.core ≡ store.core
+    → (did ≡ true → HasGrown store × IsWrittenAnew (durable (state_of store.core)) next)
+    → (did ≡ false → (next ≡ store) × (new ≡ old) × IsTended (durable (state_of store.core)) store)
+    → (new ≡ old) ⊎ IsAnew (disk.clock new) next
+anew_by disk old new store next true core did not = inr (inl (subst (λ (host : Hosted). IsWrittenAnew (durable (state_of host)) next) (sym core) (did refl).1))
+anew_by disk old new store next false core did not = inl (not refl).1
+
+-- a record, and what is kept written anew where that was due
+pub one_record : {D : Type 0} (disk : Ghosts D) (old middle new : D) (next : StoreState) → disk.clock middle ≤ disk.clock old + 4 → disk.clock new ≤ disk.clock middle + 7
+    → (new ≡ middle) ⊎ IsAnew (disk.clock new) next → IsOneRecord (disk.clock old) (disk.clock new) next
+one_record disk old middle new next wrote tended anew = record {
+  most = omega (arith, wrote, tended);
+  few = ⊎_elim (λ same. inl (omega (arith, wrote, ap disk.clock same))) inr anew;
+}
 
 -- what a call makes of a store and a disk that keeps the durable part of the state, written anew or not
 pub record HasTended {D : Type 0} (disk : Ghosts D) (old new : D) (store next : StoreState) : Type 0 where

@@ -10,13 +10,17 @@ use Rattle.sw_data.specs.declared.storage.Kept.{Kept}
 use Rattle.sw_lane.specs.Left.{Left}
 use Rattle.sw_lane.specs.Picked.{in_flight, picked}
 use Rattle.sw_lane.specs.declared.picks.Pick.TheVariants as pick
-use Rattle.sw_turns.specs.Flights.{Flies, Spares}
+use Rattle.sw_lane.specs.declared.picks.Work.TheVariants as work
+use Rattle.sw_turns.specs.Coming.{HasNoRoom}
+use Rattle.sw_turns.specs.Flights.{Flies}
 use Rattle.sw_turns.specs.Machines.{IsEventOf}
 use Rattle.sw_turns.specs.Playing.{ComesNext, IsSoFar}
 use Rattle.sw_turns.specs.declared.ends.DriveEnd.{DriveEnd}
 use Rattle.sw_turns.specs.declared.ends.DriveEnd.TheVariants as drive_end
 use Rattle.sw_turns.specs.declared.ends.Turn.{Turn}
 use Rattle.sw_turns.specs.declared.ends.Turn.TheVariants as turn
+use Rattle.sw_turns.specs.declared.ends.Refusal.{Refusal}
+use Rattle.sw_turns.specs.declared.ends.Refusal.TheVariants as refusal
 use Rattle.sw_turns.specs.declared.ends.Stop.{Stop}
 use Rattle.sw_turns.specs.declared.ends.Stop.TheVariants as stop
 use Rattle.sw_rules.specs.History.{after}
@@ -51,8 +55,8 @@ pub record IsRefused (workers : ℕ) (recording : Recording) (base : Kept) (hist
 abbrev pub Stops : ℕ → Recording → Kept → List Entry → List Left → List (Option Task) → StoreState → Stop → Type 0
 Stops workers recording base history lanes flights store stop.Whole =
     IsUnderWay workers recording base history lanes store
-Stops workers recording base history lanes flights store (stop.NoRoom happened) =
-    IsHeld workers recording base history lanes store happened
+Stops workers recording base history lanes flights store stop.NoRoom =
+    IsUnderWay workers recording base history lanes store
 Stops workers recording base history lanes flights store (stop.Fetch taken fetches) =
     IsUnderWay workers recording base history lanes store
 Stops workers recording base history lanes flights store stop.Idle =
@@ -69,7 +73,25 @@ Stops workers recording base history lanes flights store (stop.Full happened fro
 Stops workers recording base history lanes flights store stop.NoMemory =
     (before : List Left) × IsUnderWay workers recording base history before store
 
--- own: an event has joined a group, or none does any more
+-- own: a group that an event did not join is as it was before
+abbrev pub StaysOut : ℕ → Recording → Kept → List Entry → (before lanes : List Left) → StoreState → Refusal → Type 0
+StaysOut workers recording base history before lanes store (refusal.Full happened from needed) =
+    IsRefused workers recording base history lanes store happened from needed
+StaysOut workers recording base history before lanes store _ = IsUnderWay workers recording base history before store
+
+-- own: an event that leaves this of the lanes has joined a group, or the group is as it was before
+abbrev pub HasJoined : {T : Type 0} → ℕ → Recording → Kept → List Entry → (before lanes : List Left) → StoreState → Result T Refusal → Type 0
+HasJoined workers recording base history before lanes store (Ok value) = IsUnderWay workers recording base history lanes store
+HasJoined workers recording base history before lanes store (Err why) =
+    StaysOut workers recording base history before lanes store why
+
+-- own: why a group stops by an event that doesn't join it
+abbrev pub stop_by : Refusal → Stop
+stop_by (refusal.NoRoom happened) = stop.NoRoom
+stop_by (refusal.Full happened from needed) = stop.Full happened from needed
+stop_by refusal.NoMemory = stop.NoMemory
+
+-- own: what was picked has joined a group, or none does any more
 abbrev pub HasEntered : {T : Type 0} → ℕ → Recording → Kept → List Entry → List Left → List (Option Task) → StoreState → Result T Stop → Type 0
 HasEntered workers recording base history lanes flights store (Ok value) = IsUnderWay workers recording base history lanes store
 HasEntered workers recording base history lanes flights store (Err stopped) =
@@ -80,26 +102,32 @@ abbrev pub IsTaken : ℕ → (old new : List (Option Task)) → Stop → Type 0
 IsTaken pass old new (stop.Fetch flown fetches) = new ≡ slice_set old pass (Some flown)
 IsTaken pass old new _ = new ≡ old
 
--- own: what a pass has taken up once a group has stopped: what it stopped for, with its fetches, and else nothing; an event that
--- is held ends nothing that others have taken up
-abbrev pub Leaves : ℕ → List (Option Task) → State → Stop → Type 0
-Leaves pass flights state (stop.Fetch flown fetches) =
+-- own: what a pass has taken up once a group has stopped: what it stopped for, which is what the pick order has next, with its
+-- fetches; and else nothing
+abbrev pub Leaves : ℕ → List (Option Task) → List Left → State → Stop → Type 0
+Leaves pass flights lanes state (stop.Fetch flown fetches) =
     Flies flights pass flown × (fetches.items ≡ fetches_of state flown)
-Leaves pass flights state (stop.NoRoom happened) = (slice_get flights pass ≡ Some None) × Spares happened flights
-Leaves pass flights state stop.NoMemory = Unit {0}
-Leaves pass flights state _ = slice_get flights pass ≡ Some None
+    × (picked state (in_flight (slice_set flights pass None)) lanes ≡ pick.Work (work.Task flown))
+Leaves pass flights lanes state stop.NoMemory = Unit {0}
+Leaves pass flights lanes state _ = slice_get flights pass ≡ Some None
+
+-- own: where the event of a lane's action was refused for good the lane has lost it, and else it has what the entries left
+abbrev pub KeepsLanes : Stop → (left now : List Left) → Type 0
+KeepsLanes (stop.Full happened from needed) left now = Unit {0}
+KeepsLanes stop.NoMemory left now = Unit {0}
+KeepsLanes _ left now = now ≡ left
 
 -- own: a group that has no room for an event has some, and one that is whole has sixteen
 abbrev pub HasSome : Stop → List Entry → Type 0
-HasSome (stop.NoRoom happened) staged = staged ≢ []
+HasSome stop.NoRoom staged = staged ≢ []
 HasSome stop.Whole staged = length staged ≡ 16
 HasSome _ staged = Unit {0}
 
--- own: with the changes of the event for which a group has no room its record would pass the limit
-abbrev pub LacksRoom : Stop → StoreState → Type 0
-LacksRoom (stop.NoRoom happened) store =
-    (needed : ℕ) × IsTooLong (changes_of (state_of store.core) happened) store.payload store.twin needed
-LacksRoom _ store = Unit {0}
+-- own: with the changes of what comes next, for which a group has no room, its record would pass the limit
+abbrev pub LacksRoom : Stop → List FetchLine → List Left → List (Option Task) → StoreState → Type 0
+LacksRoom stop.NoRoom lines lanes flights store =
+    HasNoRoom lines (state_of store.core) flights lanes store.payload store.twin
+LacksRoom _ lines lanes flights store = Unit {0}
 
 -- own: there was no memory for an event, or no room on the disk for its changes alone
 abbrev pub IsBarren : Stop → Type 0
@@ -109,7 +137,7 @@ IsBarren _ = ⊥
 
 -- own: it is what was picked that stopped a group
 abbrev pub IsByPick : Stop → Type 0
-IsByPick (stop.NoRoom happened) = Unit {0}
+IsByPick stop.NoRoom = Unit {0}
 IsByPick (stop.Fetch flown fetches) = Unit {0}
 IsByPick (stop.Full happened from needed) = Unit {0}
 IsByPick stop.NoMemory = Unit {0}
@@ -121,15 +149,10 @@ Begins lines state flown staged stopped =
     IsBarren stopped
     ⊎ ((entry : Entry) × (slice_get staged 0 ≡ Some entry) × IsEventOf lines state flown entry.event)
 
--- own: a group is over for good or for now: it isn't want of room in its record that stopped it
-abbrev pub IsOver : Stop → Type 0
-IsOver (stop.NoRoom happened) = ⊥
-IsOver _ = Unit {0}
-
 -- own: what a stopped group comes to, where it has some events or none
 abbrev pub over_by : Stop → Bool → Result Turn DriveEnd
 over_by stop.Whole some = Ok turn.Entered
-over_by (stop.NoRoom happened) some = Ok turn.Entered
+over_by stop.NoRoom some = Ok turn.Entered
 over_by (stop.Fetch flown fetches) some = Ok (turn.Fetch flown fetches)
 over_by stop.Idle some = if some then Ok turn.Entered else Ok turn.Idle
 over_by stop.Done some = Err drive_end.Done

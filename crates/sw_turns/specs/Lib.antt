@@ -1,3 +1,5 @@
+pub mod Acting
+pub mod Coming
 pub mod Ends
 pub mod Flights
 pub mod Groups

@@ -1,5 +1,5 @@
 -- What stands once a group is written.
-use Rattle.std.specs.Prelude.{◌≡◌, ℕ, List, ◌++◌, Option, Result, Ok, Err}
+use Rattle.std.specs.Prelude.{◌≡◌, ◌⊎◌, ◌≤◌, ◌+◌, ℕ, List, ◌++◌, Option, Some, Result, Ok, Err}
 use Rattle.sw_data.specs.declared.histories.Entry.{Entry}
 use Rattle.sw_data.specs.declared.histories.Task.{Task}
 use Rattle.sw_data.specs.declared.recordings.Recording.{Recording}
@@ -13,8 +13,10 @@ use Rattle.sw_turns.specs.Surviving.{IsAtWork, kept_of}
 use Rattle.sw_turns.specs.declared.ends.DriveEnd.{DriveEnd}
 use Rattle.sw_turns.specs.declared.ends.Stop.{Stop}
 use Rattle.sw_turns.specs.declared.ends.Stop.TheVariants as stop
+use Rattle.sw_rules.specs.Durable.{durable}
 use Rattle.sw_rules.specs.History.{Opens}
-use Rattle.sw_store.specs.Stores.{StoreState, all_stamped}
+use Rattle.sw_store.specs.Stores.{IsWrittenAnew, StoreState, all_stamped}
+use Rattle.sw_work.specs.Hosted.{state_of}
 
 -- own: what a run is of, what is left of its lanes and in flight, and why no further event joins a group
 pub record Standing : Type 0 where
@@ -45,3 +47,13 @@ HasSettled disk start now s history store (Err ended) =
 -- own: what waited is the history's, stamped with one clock
 abbrev pub IsWritten : (before after staged : List Entry) → Type 0
 IsWritten before after staged = (clock : ℕ) × (after ≡ before ++ all_stamped clock staged)
+
+-- own: the current part is nothing but what is kept, written anew; or a call of the disk met a fault at this clock
+abbrev pub IsAnew : ℕ → StoreState → Type 0
+IsAnew clock store = IsWrittenAnew (durable (state_of store.core)) store ⊎ (store.since ≡ Some clock)
+
+-- own: between these clocks the disk was called as one record asks, at most four times; or at most sixteen times, where what is
+-- kept was written anew besides, or a call met a fault
+pub record IsOneRecord (before now : ℕ) (store : StoreState) : Type 0 where
+  pub most : now ≤ before + 16
+  pub few : (now ≤ before + 4) ⊎ IsAnew now store

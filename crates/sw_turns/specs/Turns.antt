@@ -1,5 +1,5 @@
 -- Turns: what stands between them, and what a turn of a pass makes of it.
-use Rattle.std.specs.Prelude.{◌≡◌, ◌≢◌, ◌⊎◌, ◌↔◌, ℕ, List, [], ◌∷◌, ◌++◌, length, Some, None, Result, Ok, Err, slice_get}
+use Rattle.std.specs.Prelude.{◌≡◌, ◌≢◌, ◌⊎◌, ◌↔◌, ◌≤◌, ℕ, List, [], ◌++◌, length, Some, None, Result, Ok, Err, slice_get, slice_set}
 use Rattle.std.specs.declared.alloc.Global.{Global}
 use Rattle.std.specs.Prelude.{Vec}
 use Rattle.sw_codec.specs.Spelling.{spelled_all}
@@ -9,14 +9,14 @@ use Rattle.sw_data.specs.declared.histories.Task.{Task}
 use Rattle.sw_data.specs.declared.recordings.Recording.{Recording}
 use Rattle.sw_data.specs.declared.storage.Kept.{Kept}
 use Rattle.sw_disk.specs.declared.disk.Disk.{Ghosts}
+use Rattle.sw_lane.specs.Left.{Left}
 use Rattle.sw_lane.specs.Picked.{in_flight, picked}
 use Rattle.sw_lane.specs.declared.picks.Pick.TheVariants as pick
+use Rattle.sw_lane.specs.declared.picks.Work.TheVariants as work
 use Rattle.sw_laws.specs.Laws.{changes_along}
-use Rattle.sw_rules.specs.History.{after, after_entries}
-use Rattle.sw_rules.specs.State.{State}
-use Rattle.sw_rules.specs.Step.{changes_of}
-use Rattle.sw_store.specs.Groups.{IsTooLong}
+use Rattle.sw_rules.specs.History.{after}
 use Rattle.sw_store.specs.Stores.{IsQuiet, IsTended}
+use Rattle.sw_turns.specs.Coming.{AreOfTurn, HasNoRoom}
 use Rattle.sw_turns.specs.Ends.{Ended}
 use Rattle.sw_turns.specs.Flights.{AreInFlight, Flies, IsDue}
 use Rattle.sw_turns.specs.Groups.{IsUnderWay}
@@ -29,7 +29,6 @@ use Rattle.sw_turns.specs.declared.ends.Stop.{Stop}
 use Rattle.sw_turns.specs.declared.ends.Turn.{Turn}
 use Rattle.sw_turns.specs.declared.ends.Turn.TheVariants as turn
 use Rattle.sw_turns.specs.declared.progress.Progress.{Progress}
-use Rattle.sw_twin.specs.Twin.{TwinState}
 use Rattle.sw_work.specs.Hosted.{state_of}
 
 -- own: a recording is under way: nothing waits, the disk keeps what the history makes of the base, and so it stays after a crash
@@ -53,12 +52,6 @@ standing_of recording base p stopped = record {
   stopped = stopped;
 }
 
--- own: only the store and the history differ
-pub record IsSameBeside (before after : Progress) : Type 0 where
-  pub net : after.net ≡ before.net
-  pub lanes : after.lanes ≡ before.lanes
-  pub flights : after.flights ≡ before.flights
-
 -- own: where a run is done, the state of its host is the one that its history leaves
 abbrev pub IsAtRest : DriveEnd → Kept → Progress → Type 0
 IsAtRest drive_end.Done base p = after base p.history.items ≡ state_of p.store.core
@@ -76,19 +69,25 @@ pub record IsLanding (before after : Progress) (flown : Task) : Type 0 where
   pub there : slice_get after.history.items (length before.history.items) ≡ Some entry
   pub event : IsEventOf before.net (state_of before.store.core) flown entry.event
 
--- own: the last of these entries, which were added to a history that left this state, had no room in the record of the others
-pub record HadNoRoom (begun : State) (twin : TwinState) (added : List Entry) : Type 0 where
-  pub others : List Entry
-  pub last : Entry
-  pub payload : List ℕ
-  pub needed : ℕ
-  pub added_is : added ≡ others ++ last ∷ []
-  pub some : others ≢ []
-  pub spelled : spelled_all (changes_along begun others) ≡ Some payload
-  pub long : IsTooLong (changes_of (after_entries begun others) last.event) payload twin needed
+-- own: what a turn adds: at most sixteen entries, which leave this of the lanes
+pub record HasPicked (pass : ℕ) (before after : Progress) (left : List Left) : Type 0 where
+  pub added : List Entry
+  pub history : after.history.items ≡ before.history.items ++ added
+  pub few : length added ≤ 16
+  pub entries : AreOfTurn before.net (state_of before.store.core) before.flights.items before.lanes pass added left
 
--- own: a turn added entries, until there were sixteen, or nothing was ready but what is in flight; but for one that had no room in
--- the record of those before it, which is the last
+-- own: what a turn adds is one group that goes by the pick order, whatever it leaves of the lanes
+abbrev pub IsOneGroup : ℕ → (before after : Progress) → Type 0
+IsOneGroup pass before after = (left : List Left) × HasPicked pass before after left
+
+-- own: what comes next behind these entries, which were added, had no room in their record
+pub record HadNoRoom (before after : Progress) (added : List Entry) : Type 0 where
+  pub payload : List ℕ
+  pub spelled : spelled_all (changes_along (state_of before.store.core) added) ≡ Some payload
+  pub lacks : HasNoRoom before.net (state_of after.store.core) after.flights.items after.lanes payload before.store.twin
+
+-- own: a turn added entries, until there were sixteen, or nothing was ready but what is in flight, or what comes next had no room
+-- in their record
 pub record HasAdded (pass : ℕ) (before after : Progress) : Type 0 where
   pub added : List Entry
   pub some : added ≢ []
@@ -96,15 +95,18 @@ pub record HasAdded (pass : ℕ) (before after : Progress) : Type 0 where
   pub free : slice_get after.flights.items pass ≡ Some None
   pub until : (length added ≡ 16)
       ⊎ ((picked (state_of after.store.core) (in_flight after.flights.items) after.lanes ≡ pick.Idle)
-      ⊎ HadNoRoom (state_of before.store.core) before.store.twin added)
+      ⊎ HadNoRoom before after added)
 
--- own: what a turn makes: a pass that has taken up a fetch makes its event first; it adds entries, takes up a fetch, or is idle
--- exactly where it has taken up none, another is in flight, and nothing is ready but what is in flight
+-- own: what a turn makes: a pass that has taken up a fetch makes its event first; it adds entries, takes up a fetch, which is what
+-- the pick order has next behind them, or is idle exactly where it has taken up none, another is in flight, and nothing is ready
+-- but what is in flight
 pub record IsTurn (pass : ℕ) (before after : Progress) (made : Turn) : Type 0 where
+  pub group : HasPicked pass before after after.lanes
   pub first : (flown : Task) → Flies before.flights.items pass flown → IsLanding before after flown
   pub entered : made ≡ turn.Entered → HasAdded pass before after
   pub fetch : (flown : Task) (fetches : Vec (List ℕ × ℕ) Global) → made ≡ turn.Fetch flown fetches
       → Flies after.flights.items pass flown × (fetches.items ≡ fetches_of (state_of after.store.core) flown)
+      × (picked (state_of after.store.core) (in_flight (slice_set after.flights.items pass None)) after.lanes ≡ pick.Work (work.Task flown))
   pub idle : (made ≡ turn.Idle)
       ↔ ((slice_get before.flights.items pass ≡ Some None)
       × (picked (state_of before.store.core) (in_flight before.flights.items) before.lanes ≡ pick.Idle))

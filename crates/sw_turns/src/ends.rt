@@ -37,13 +37,27 @@ pub enum Turn {
     Idle,
 }
 
+// Why an event joins no group.
+#[derive(Drop)]
+pub(crate) enum Refusal {
+    /// With its changes the record of the group would pass the limit.
+    NoRoom(Event),
+    /// Nothing waits, and the record of its changes would pass the limit.
+    Full {
+        event: Event,
+        length: u64,
+        needed: u64,
+    },
+    NoMemory,
+}
+
 // Why no further event joins a group.
 #[derive(Drop)]
 pub(crate) enum Stop {
-    /// It has sixteen events, or one for which the group before had no room.
+    /// It has sixteen events.
     Whole,
-    /// With the changes of this event, which comes next, the record of the group would pass the limit.
-    NoRoom(Event),
+    /// With the changes of what comes next the record of the group would pass the limit.
+    NoRoom,
     /// The pass has taken up this task; these are the addresses and the drawn numbers of its fetches.
     Fetch {
         task: Task,

@@ -4,6 +4,7 @@ ghost use Rattle.std.specs.Prelude.{◌≡◌, ◌≢◌, ◌↔◌, ◌<◌, �
 ghost use Rattle.sw_data.specs.declared.events.Event as events;
 ghost use Rattle.sw_data.specs.declared.histories.Entry as entries;
 ghost use Rattle.sw_data.specs.declared.histories.Task as tasks;
+ghost use Rattle.sw_data.specs.declared.recordings.FetchLine.{FetchLine};
 ghost use Rattle.sw_data.specs.declared.recordings.Recording.{Recording};
 ghost use Rattle.sw_data.specs.declared.storage.Kept.{Kept};
 ghost use Rattle.sw_lane.specs.Left.{Left};
@@ -12,17 +13,19 @@ ghost use Rattle.sw_lane.specs.declared.picks.Pick.TheVariants as pick;
 ghost use Rattle.sw_lane.specs.declared.picks.Work.TheVariants as work;
 ghost use Rattle.sw_laws.specs.Coherent.{Coherent};
 ghost use Rattle.sw_lock.specs.Entries.{ThenOwn};
-ghost use Rattle.sw_rules.specs.State.{State};
-ghost use Rattle.sw_rules.specs.Step.{changes_of, enabled};
+ghost use Rattle.sw_rules.specs.Step.{changes_of, enabled, state_after};
 ghost use Rattle.sw_store.specs.Groups.{IsTooLong};
 ghost use Rattle.sw_store.specs.Stores.{IsSameTwin};
+ghost use Rattle.sw_turns.specs.Coming.{AreOfTurn, GrowsByPick};
 ghost use Rattle.sw_turns.specs.Flights.{AreInFlight, Flies, IsDue, Spares};
-ghost use Rattle.sw_turns.specs.Groups.{Begins, HasEntered, HasSome, IsBarren, IsByPick, IsHeld, IsTaken, IsUnderWay, LacksRoom, Leaves, Stops};
+ghost use Rattle.sw_turns.specs.Groups.{Begins, HasEntered, HasJoined, HasSome, IsBarren, IsByPick, IsTaken, IsUnderWay, KeepsLanes, LacksRoom, Leaves, Stops, stop_by};
+ghost use Rattle.sw_turns.specs.Playing.{ComesNext};
+ghost use Rattle.sw_turns.specs.declared.ends.Refusal.TheVariants as refused;
 ghost use Rattle.sw_turns.specs.declared.ends.Stop.TheVariants as stopped;
 ghost use Rattle.sw_work.specs.Hosted.{state_of};
 
-use crate::ends::Stop;
-use crate::next::{action_event, landing, ready_event};
+use crate::ends::{Refusal, Stop};
+use crate::next::{action_event, landing, put_back, ready_event};
 use std::alloc::Global;
 use sw_core::{Core, CoreBoard};
 use sw_data::{Event, NoMemory, Task, Text};
@@ -31,18 +34,19 @@ use sw_net::Net;
 use sw_store::{StageError, Store};
 
 // The most events of a group.
-const SIXTEEN: usize = 16;
+pub(crate) const MOST: usize = 16;
 
 // An event that comes next happens, and waits.
-pub(crate) fn enter(alloc: Global, store: &mut Store, event: Event, pass: u32) -> Result<(), Stop>
+fn enter(alloc: Global, store: &mut Store, event: Event, pass: u32) -> Result<(), Refusal>
     requires coherent { Coherent (state_of store.old.core) }
     requires enabled { enabled (state_of store.old.core) event ≡ true }
     requires since { store.old.since ≡ None }
     requires few { length store.old.staged < 16 }
     ensures goes_on { (workers : ℕ) (recording : Recording) (base : Kept)
-        (history : List entries.Entry) (lanes : List Left) (flights : List (Option tasks.Task))
-        → pass < workers → IsHeld workers recording base history lanes store.old event
-        → HasEntered workers recording base history lanes flights store.new result }
+        (history : List entries.Entry) (before lanes : List Left)
+        → pass < workers → IsUnderWay workers recording base history before store.old
+        → ComesNext workers recording.fetches before lanes (state_of store.old.core) event
+        → HasJoined workers recording base history before lanes store.new result }
     ensures flights { (flights : List (Option tasks.Task)) → Spares event flights
         → AreInFlight (state_of store.old.core) flights
         → AreInFlight (state_of store.new.core) flights }
@@ -53,37 +57,54 @@ pub(crate) fn enter(alloc: Global, store: &mut Store, event: Event, pass: u32) -
     ensures own { ThenOwn (λ entry. entry.pass) pass store.old.staged store.new.staged }
     ensures entry { OnOk result ((entry : entries.Entry) × (entry.event ≡ event)
         × (store.new.staged ≡ store.old.staged ++ entry ∷ [])) }
+    ensures state { OnOk result
+        (state_after (state_of store.old.core) event ≡ state_of store.new.core) }
     ensures same { OnErr result (store.new.staged ≡ store.old.staged) }
-    ensures kind { IfErr result IsByPick }
-    ensures alone { store.old.staged ≡ [] → IfErr result IsBarren }
-    ensures no_room { (refused : events.Event) → IsErrOf result (stopped.NoRoom refused)
-        → (refused ≡ event) × ((needed : ℕ)
-        × IsTooLong (changes_of (state_of store.old.core) event) store.old.payload
-        store.old.twin needed) }
-    ensures some { IfErr result (λ stop. HasSome stop store.new.staged) }
-    ensures lacks { IfErr result (λ stop. LacksRoom stop store.new) }
-    ensures leaves { (state : State) (flights : List (Option tasks.Task))
-        → slice_get flights pass ≡ Some None → Spares event flights
-        → IfErr result (Leaves pass flights state) }
-    ensures taken { (flights : List (Option tasks.Task))
-        → IfErr result (IsTaken pass flights flights) }
+    ensures still { OnErr result (state_of store.new.core ≡ state_of store.old.core) }
+    ensures alone { store.old.staged ≡ [] → IfErr result (λ refusal. IsBarren (stop_by refusal)) }
+    ensures no_room { (kept : events.Event) → IsErrOf result (refused.NoRoom kept)
+        → (kept ≡ event) × (store.new.staged ≢ []) × ((needed : ℕ)
+        × IsTooLong (changes_of (state_of store.new.core) event) store.new.payload
+        store.new.twin needed) }
 {
     match store.stage(alloc, event, pass) {
         Ok(()) => Ok(()),
-        Err(StageError::NoMemory) => Err(Stop::NoMemory),
+        Err(StageError::NoMemory) => Err(Refusal::NoMemory),
         Err(
             StageError::Full {
                 event,
                 length,
                 needed,
             },
-        ) => Err(Stop::Full {
+        ) => Err(Refusal::Full {
             event,
             length,
             needed,
         }),
-        Err(StageError::NoRoom(event)) => Err(Stop::NoRoom(event)),
+        Err(StageError::NoRoom(event)) => Err(Refusal::NoRoom(event)),
         Err(StageError::Broken { .. }) => unreachable!(),
+    }
+}
+
+// Why a group stops by an event that doesn't join it, which is let go where it has no room.
+fn stop_by(refusal: Refusal) -> Stop
+    ensures { result ≡ stop_by refusal }
+{
+    match refusal {
+        Refusal::NoRoom(event) => {
+            drop(event);
+            Stop::NoRoom
+        }
+        Refusal::Full {
+            event,
+            length,
+            needed,
+        } => Stop::Full {
+            event,
+            length,
+            needed,
+        },
+        Refusal::NoMemory => Stop::NoMemory,
     }
 }
 
@@ -103,7 +124,7 @@ fn take_off(
         ≡ pick.Work (work.Task task) }
     ensures flights { AreInFlight (state_of store.now.core) flights.new }
     ensures due { IsDue (state_of store.now.core) lanes.now flights.new }
-    ensures leaves { Leaves pass flights.new (state_of store.now.core) result }
+    ensures leaves { Leaves pass flights.new lanes.now (state_of store.now.core) result }
     ensures taken { IsTaken pass flights.old flights.new result }
     ensures goes_on { (workers : ℕ) (recording : Recording) (base : Kept)
         (history : List entries.Entry)
@@ -111,7 +132,9 @@ fn take_off(
         → Stops workers recording base history lanes.now flights.new store.now result }
     ensures kind { IsByPick result }
     ensures some { HasSome result store.now.staged }
-    ensures lacks { LacksRoom result store.now }
+    ensures lacks { (lines : List FetchLine)
+        → LacksRoom result lines lanes.now flights.new store.now }
+    ensures lanes { KeepsLanes result lanes.now lanes.now }
 {
     match store.core().fetches(alloc, task) {
         Ok(fetches) => {
@@ -119,6 +142,60 @@ fn take_off(
             Stop::Fetch { task, fetches }
         }
         Err(NoMemory) => Stop::NoMemory,
+    }
+}
+
+// The next action of the lane that was picked happens, and waits. Where it has no room it goes back to its lane.
+fn act(
+    alloc: Global,
+    store: &mut Store,
+    lanes: &mut Lanes,
+    flights: &[Option<Task>],
+    net: &Net,
+    pass: u32,
+    lane: u32,
+    at: u32,
+) -> Result<(), Stop>
+    requires coherent { Coherent (state_of store.old.core) }
+    requires free { slice_get flights.now pass ≡ Some None }
+    requires flights { AreInFlight (state_of store.old.core) flights.now }
+    requires picked { picks.picked (state_of store.old.core) (picks.in_flight flights.now) lanes.old
+        ≡ pick.Work (work.Action lane at) }
+    requires since { store.old.since ≡ None }
+    requires few { length store.old.staged < 16 }
+    ensures goes_on { (recording : Recording) (base : Kept) (history : List entries.Entry)
+        → recording.fetches ≡ net.now
+        → IsUnderWay (length flights.now) recording base history lanes.old store.old
+        → HasEntered (length flights.now) recording base history lanes.new flights.now store.new
+        result }
+    ensures flights { AreInFlight (state_of store.new.core) flights.now }
+    ensures coherent { Coherent (state_of store.new.core) }
+    ensures twin { IsSameTwin store.old.twin store.new.twin }
+    ensures mark { store.new.mark ≡ store.old.mark }
+    ensures since { store.new.since ≡ None }
+    ensures own { ThenOwn (λ entry. entry.pass) pass store.old.staged store.new.staged }
+    ensures more { OnOk result (length store.new.staged ≡ length store.old.staged + 1) }
+    ensures grows { OnOk result (GrowsByPick net.now flights.now lanes.old lanes.new
+        store.old store.new) }
+    ensures same { OnErr result (store.new.staged ≡ store.old.staged) }
+    ensures still { OnErr result (state_of store.new.core ≡ state_of store.old.core) }
+    ensures lanes { IfErr result (λ stop. KeepsLanes stop lanes.old lanes.new) }
+    ensures kind { IfErr result IsByPick }
+    ensures some { IfErr result (λ stop. HasSome stop store.new.staged) }
+    ensures lacks { IfErr result (λ stop.
+        LacksRoom stop net.now lanes.new flights.now store.new) }
+    ensures leaves { IfErr result
+        (Leaves pass flights.now lanes.new (state_of store.new.core)) }
+    ensures taken { IfErr result (IsTaken pass flights.now flights.now) }
+{
+    let event = action_event(store.core(), lanes, flights, net, lane, at);
+    match enter(alloc, store, event, pass) {
+        Ok(()) => Ok(()),
+        Err(Refusal::NoRoom(event)) => {
+            put_back(lanes, lane, event);
+            Err(Stop::NoRoom)
+        }
+        Err(refusal) => Err(stop_by(refusal)),
     }
 }
 
@@ -152,15 +229,24 @@ fn perform(
     ensures since { store.new.since ≡ None }
     ensures own { ThenOwn (λ entry. entry.pass) pass store.old.staged store.new.staged }
     ensures more { OnOk result (length store.new.staged ≡ length store.old.staged + 1) }
+    ensures grows { OnOk result (GrowsByPick net.now flights.now lanes.now lanes.now
+        store.old store.new) }
     ensures same { OnErr result (store.new.staged ≡ store.old.staged) }
+    ensures still { OnErr result (state_of store.new.core ≡ state_of store.old.core) }
+    ensures lanes { IfErr result (λ stop. KeepsLanes stop lanes.now lanes.now) }
     ensures kind { IfErr result IsByPick }
     ensures some { IfErr result (λ stop. HasSome stop store.new.staged) }
-    ensures lacks { IfErr result (λ stop. LacksRoom stop store.new) }
-    ensures leaves { IfErr result (Leaves pass flights.now (state_of store.new.core)) }
+    ensures lacks { IfErr result (λ stop.
+        LacksRoom stop net.now lanes.now flights.now store.new) }
+    ensures leaves { IfErr result
+        (Leaves pass flights.now lanes.now (state_of store.new.core)) }
     ensures taken { IfErr result (IsTaken pass flights.now flights.now) }
 {
     match ready_event(alloc, store.core(), lanes, flights, net, task) {
-        Ok(event) => enter(alloc, store, event, pass),
+        Ok(event) => match enter(alloc, store, event, pass) {
+            Ok(()) => Ok(()),
+            Err(refusal) => Err(stop_by(refusal)),
+        },
         Err(NoMemory) => Err(Stop::NoMemory),
     }
 }
@@ -196,18 +282,21 @@ fn take_up(
     ensures own { ThenOwn (λ entry. entry.pass) pass store.old.staged store.new.staged }
     ensures ok { OnOk result (flights.new ≡ flights.old) }
     ensures more { OnOk result (length store.new.staged ≡ length store.old.staged + 1) }
+    ensures grows { OnOk result (GrowsByPick net.now flights.old lanes.old lanes.new
+        store.old store.new) }
     ensures same { OnErr result (store.new.staged ≡ store.old.staged) }
+    ensures still { OnErr result (state_of store.new.core ≡ state_of store.old.core) }
+    ensures lanes { IfErr result (λ stop. KeepsLanes stop lanes.old lanes.new) }
     ensures kind { IfErr result IsByPick }
     ensures some { IfErr result (λ stop. HasSome stop store.new.staged) }
-    ensures lacks { IfErr result (λ stop. LacksRoom stop store.new) }
-    ensures leaves { IfErr result (Leaves pass flights.new (state_of store.new.core)) }
+    ensures lacks { IfErr result (λ stop.
+        LacksRoom stop net.now lanes.new flights.new store.new) }
+    ensures leaves { IfErr result
+        (Leaves pass flights.new lanes.new (state_of store.new.core)) }
     ensures taken { IfErr result (IsTaken pass flights.old flights.new) }
 {
     match picked {
-        Work::Action { lane, at } => {
-            let event = action_event(store.core(), lanes, flights, net, lane, at);
-            enter(alloc, store, event, pass)
-        }
+        Work::Action { lane, at } => act(alloc, store, lanes, flights, net, pass, lane, at),
         Work::Task(task) => match task {
             Task::Fetch(_) | Task::FetchAll(_) => {
                 Err(take_off(alloc, store, lanes, flights, pass, task))
@@ -229,7 +318,8 @@ fn pick(core: &Core, lanes: &Lanes, flights: &[Option<Task>]) -> Pick
     lanes.pick(&CoreBoard { core, flights })
 }
 
-// What comes next happens, and waits, until the group is full, the pass takes up a fetch, or nothing may happen.
+// What comes next happens, and waits, until the group has sixteen events or no room for it, the pass takes up a fetch,
+// or nothing may happen.
 fn fill(
     alloc: Global,
     store: &mut Store,
@@ -256,9 +346,12 @@ fn fill(
     ensures since { store.new.since ≡ None }
     ensures own { ThenOwn (λ entry. entry.pass) pass store.old.staged store.new.staged }
     ensures few { length store.new.staged ≤ 16 }
+    ensures grows { (left : List Left)
+        × GrowsByPick net.now flights.old lanes.old left store.old store.new
+        × KeepsLanes result left lanes.new }
     ensures some { HasSome result store.new.staged }
-    ensures lacks { LacksRoom result store.new }
-    ensures leaves { Leaves pass flights.new (state_of store.new.core) result }
+    ensures lacks { LacksRoom result net.now lanes.new flights.new store.new }
+    ensures leaves { Leaves pass flights.new lanes.new (state_of store.new.core) result }
     ensures taken { IsTaken pass flights.old flights.new result }
 
     // It stops at once where nothing is ready but what is in flight, and only there without an event.
@@ -270,7 +363,7 @@ fn fill(
         → (result ≡ stopped.Idle) × (length store.new.staged ≡ length store.old.staged) }
 {
     'events: loop {
-        if store.waiting() >= SIXTEEN {
+        if store.waiting() >= MOST {
             return Stop::Whole;
         }
         match pick(store.core(), lanes, flights) {
@@ -319,11 +412,14 @@ pub(crate) fn begin(
     ensures since { store.new.since ≡ None }
     ensures own { ThenOwn (λ entry. entry.pass) pass [] store.new.staged }
     ensures few { length store.new.staged ≤ 16 }
+    ensures entries { (left : List Left)
+        × AreOfTurn net.now (state_of store.old.core) flights.old lanes.old pass store.new.staged left
+        × KeepsLanes result left lanes.new }
     ensures some { HasSome result store.new.staged }
-    ensures lacks { LacksRoom result store.new }
+    ensures lacks { LacksRoom result net.now lanes.new flights.new store.new }
     ensures first { (flown : tasks.Task) → Flies flights.old pass flown
         → Begins net.now (state_of store.old.core) flown store.new.staged result }
-    ensures leaves { Leaves pass flights.new (state_of store.new.core) result }
+    ensures leaves { Leaves pass flights.new lanes.new (state_of store.new.core) result }
     ensures idle { ((result ≡ stopped.Idle) × (store.new.staged ≡ []))
         ↔ ((slice_get flights.old pass ≡ Some None)
         × (picks.picked (state_of store.old.core) (picks.in_flight flights.old) lanes.old
@@ -332,7 +428,7 @@ pub(crate) fn begin(
     match landing(alloc, store.core(), lanes, flights, net, pass) {
         Ok(Some(event)) => match enter(alloc, store, event, pass) {
             Ok(()) => fill(alloc, store, lanes, flights, net, pass),
-            Err(stop) => stop,
+            Err(refusal) => stop_by(refusal),
         },
         Ok(None) => fill(alloc, store, lanes, flights, net, pass),
         Err(NoMemory) => Stop::NoMemory,

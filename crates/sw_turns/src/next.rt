@@ -1,17 +1,20 @@
 //! The event that comes next.
 
-ghost use Rattle.std.specs.Prelude.{◌≡◌, ◌≢◌, ◌↔◌, ◌<◌, [], false, length, Some, None, IfOk, IfSome, OnErr, OnOk, slice_get, slice_set};
+ghost use Rattle.std.specs.Prelude.{◌≡◌, ◌≢◌, ◌↔◌, ◌<◌, [], List, false, length, Some, None, IfOk, IfSome, OnErr, OnOk, slice_get, slice_set};
 ghost use Rattle.sw_data.specs.declared.histories.Task as tasks;
+ghost use Rattle.sw_lane.specs.Left.{Left};
 ghost use Rattle.sw_lane.specs.Picked as picks;
 ghost use Rattle.sw_lane.specs.declared.picks.Pick.TheVariants as pick;
 ghost use Rattle.sw_lane.specs.declared.picks.Work.TheVariants as work;
 ghost use Rattle.sw_laws.specs.Coherent.{Coherent};
+ghost use Rattle.sw_turns.specs.Acting.{IsTaking};
+ghost use Rattle.sw_turns.specs.Coming.{IsPickedNext};
 ghost use Rattle.sw_turns.specs.Flights.{AreInFlight, Flies, IsDue, Spares};
 ghost use Rattle.sw_turns.specs.Machines.{IsEventOf};
 ghost use Rattle.sw_turns.specs.Playing.{ComesNext};
 ghost use Rattle.sw_work.specs.Hosted.{state_of};
 
-use crate::acting::event_of_action;
+use crate::acting::{action_of_event, event_of_action};
 use crate::fetching::task_event;
 use std::alloc::Global;
 use sw_core::Core;
@@ -33,10 +36,24 @@ pub(crate) fn action_event(
         ≡ pick.Work (work.Action lane at) }
     ensures next { ComesNext (length flights.now) net.now lanes.old lanes.new (state_of core.now)
         result }
+    ensures picked { IsPickedNext net.now (state_of core.now) flights.now lanes.old result
+        lanes.new }
+    ensures taken { IsTaking lanes.old lane result lanes.new }
     ensures spares { Spares result flights.now }
 {
     let action = lanes.take(lane);
     event_of_action(Who::Lane { lane, at }, action)
+}
+
+// The action of an event that was taken last of a lane goes back to it. It takes no memory.
+pub(crate) fn put_back(lanes: &mut Lanes, lane: u32, event: Event)
+    requires { (before : List Left) × IsTaking before lane event lanes.old }
+    ensures { (before : List Left) → IsTaking before lane event lanes.old → lanes.new ≡ before }
+{
+    match action_of_event(event) {
+        Some(action) => lanes.put_back(lane, action),
+        None => unreachable!(),
+    }
 }
 
 // The event of the first ready task, which is no fetch.
@@ -55,6 +72,8 @@ pub(crate) fn ready_event(
     requires plain { picks.is_fetch task ≡ false }
     ensures next { IfOk result
         (ComesNext (length flights.now) net.now lanes.now lanes.now (state_of core.now)) }
+    ensures picked { IfOk result (λ event.
+        IsPickedNext net.now (state_of core.now) flights.now lanes.now event lanes.now) }
     ensures spares { IfOk result (λ event. Spares event flights.now) }
 {
     task_event(alloc, core, net, task)

@@ -4,7 +4,7 @@ ghost use Rattle.std.specs.Prelude.{◌≡◌, ◌≢◌, ◌⊎◌, ◌≤◌, 
 ghost use Rattle.std.specs.Vec.{vec_capacity, vec_len};
 ghost use Rattle.sw_data.specs.declared.histories.Entry as entries;
 ghost use Rattle.sw_turns.specs.Ends.{IsCutShort};
-ghost use Rattle.sw_turns.specs.Settling.{HasSettled, HasStopped, IsNotFull, IsWritten, Standing};
+ghost use Rattle.sw_turns.specs.Settling.{HasSettled, HasStopped, IsAnew, IsNotFull, IsOneRecord, IsWritten, Standing};
 ghost use Rattle.sw_turns.specs.Surviving.{IsAtWork, kept_of, latest};
 ghost use Rattle.sw_store.specs.Stores.{IsQuiet, IsTended};
 
@@ -55,6 +55,7 @@ fn write_group<D: Disk>(
         (IsWritten history.old.items history.new.items store.old.staged) }
     ensures same { OnErr result (history.new.items ≡ history.old.items) }
     ensures room { vec_capacity history.new ≡ vec_capacity history.old }
+    ensures calls { D.clock disk.new ≤ D.clock disk.old + 4 }
     ensures cut { IfErr result IsCutShort }
 {
     match store.commit(alloc, disk) {
@@ -85,6 +86,8 @@ fn tend<D: Disk>(alloc: Global, store: &mut Store, disk: &mut D) -> Result<(), D
     ensures tended { (s : Standing) (history : List entries.Entry)
         → HasStopped D.Disk disk.old s history store.old
         → OnOk result (IsTended (kept_of s.base history) store.new) }
+    ensures calls { D.clock disk.new ≤ D.clock disk.old + 7 }
+    ensures anew { (disk.new ≡ disk.old) ⊎ IsAnew (D.clock disk.new) store.new }
     ensures cut { IfErr result IsCutShort }
 {
     match store.tend(alloc, disk) {
@@ -125,6 +128,7 @@ pub(crate) fn settle<D: Disk>(
     ensures either { (history.new.items ≡ history.old.items)
         ⊎ IsWritten history.old.items history.new.items store.old.staged }
     ensures room { vec_capacity history.new ≡ vec_capacity history.old }
+    ensures calls { IsOneRecord (D.clock disk.old) (D.clock disk.new) store.new }
     ensures cut { IfErr result IsCutShort }
 {
     if store.has_changes() {

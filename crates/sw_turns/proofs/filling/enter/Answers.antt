@@ -1,11 +1,9 @@
 -- The event has joined the group, or is refused.
 use Rattle.std.proofs.Common.{◌≡◌, ◌∙◌, Some, None, Err, sym, ap, subst}
 use Rattle.sw_data.specs.declared.events.Event.{Event}
-use Rattle.sw_turns.specs.Flights.{Spares}
-use Rattle.sw_turns.specs.Groups.{IsHeld, IsRefused, LacksRoom}
-use Rattle.sw_turns.specs.declared.ends.Stop.TheVariants as stop
+use Rattle.sw_turns.specs.Groups.{IsRefused}
 use Rattle.sw_store.specs.declared.errors.StageError.{StageError}
-use Rattle.sw_turns.proofs.GroupLemmas.{adds_own, entry_waits, is_refused, joined, no_memory, same_flying, same_own, same_staged, stays_coherent, stays_flying, stays_held, still_too_long}
+use Rattle.sw_turns.proofs.GroupLemmas.{adds_own, entry_waits, holds, is_refused, joined, leaves_state, same_flying, same_own, same_staged, stays_coherent, stays_flying, stays_under_way, still_too_long}
 use Rattle.sw_turns.proofs.filling.enter.Goals as goal
 
 pub unreachable-requires : goal.unreachable-requires
@@ -16,9 +14,9 @@ unreachable-requires c =
     absurd cc
 
 pub returns-in-Ok-clause-goes_on : goal.returns-in-Ok-clause-goes_on
-returns-in-Ok-clause-goes_on c = λ workers recording base history lanes flights below held.
+returns-in-Ok-clause-goes_on c = λ workers recording base history before lanes below way next.
     joined c.args.event c.args.pass c.args.store.now c.stage.new.self c.in-Ok.ensures.staged c.requires.few c.in-Ok.ensures.goes_on
-    workers recording base history lanes below held
+    workers recording base history lanes below (holds workers recording base history before lanes c.args.store.now c.args.event way next)
 
 pub returns-in-Ok-clause-flights : goal.returns-in-Ok-clause-flights
 returns-in-Ok-clause-flights c = λ flights spares flying.
@@ -28,6 +26,9 @@ pub returns-in-Ok-clause-coherent : goal.returns-in-Ok-clause-coherent
 returns-in-Ok-clause-coherent c =
     stays_coherent c.args.event c.args.pass c.args.store.now c.stage.new.self c.in-Ok.ensures.staged c.requires.coherent
 
+pub returns-in-Ok-clause-state : goal.returns-in-Ok-clause-state
+returns-in-Ok-clause-state c = leaves_state c.args.event c.args.pass c.args.store.now c.stage.new.self c.in-Ok.ensures.staged
+
 pub returns-in-Ok-clause-entry : goal.returns-in-Ok-clause-entry
 returns-in-Ok-clause-entry c = entry_waits c.args.event c.args.pass c.args.store.now c.stage.new.self c.in-Ok.ensures.staged
 
@@ -35,11 +36,11 @@ pub returns-in-Ok-clause-own : goal.returns-in-Ok-clause-own
 returns-in-Ok-clause-own c = adds_own c.args.event c.args.pass c.args.store.now c.stage.new.self c.in-Ok.ensures.staged
 
 pub returns-in-Err-Full-clause-goes_on : goal.returns-in-Err-Full-clause-goes_on
-returns-in-Err-Full-clause-goes_on c = λ workers recording base history lanes flights below held.
+returns-in-Err-Full-clause-goes_on c = λ workers recording base history before lanes below way next.
     let full = c.in-Err-Full.ensures.full c.in-Err-Full.event c.in-Err-Full.length c.in-Err-Full.needed (ap (λ (error : StageError). Err error) c.in-Err-Full.field-0-is) in
     subst (λ (happened : Event). IsRefused workers recording base history lanes c.stage.new.self happened c.in-Err-Full.length c.in-Err-Full.needed) (sym full.0)
     (is_refused c.args.store.now c.stage.new.self c.in-Err-Full.ensures.same workers recording base history lanes c.args.event c.in-Err-Full.length c.in-Err-Full.needed
-    held full.1 full.2 full.3)
+    (holds workers recording base history before lanes c.args.store.now c.args.event way next) full.1 full.2 full.3)
 
 -- ---- what a refusal leaves
 
@@ -62,37 +63,31 @@ pub returns-in-Err-NoRoom-clause-own : goal.returns-in-Err-NoRoom-clause-own
 returns-in-Err-NoRoom-clause-own c = same_own c.args.store.now c.stage.new.self c.in-Err-NoRoom.ensures.same c.args.pass
 
 pub returns-in-Err-NoMemory-clause-goes_on : goal.returns-in-Err-NoMemory-clause-goes_on
-returns-in-Err-NoMemory-clause-goes_on c = λ workers recording base history lanes flights below held.
-    no_memory c.args.store.now c.stage.new.self c.in-Err-NoMemory.ensures.same workers recording base history lanes c.args.event held
+returns-in-Err-NoMemory-clause-goes_on c = λ workers recording base history before lanes below way next.
+    stays_under_way c.args.store.now c.stage.new.self c.in-Err-NoMemory.ensures.same workers recording base history before way
 
 pub returns-in-Err-NoRoom-clause-goes_on : goal.returns-in-Err-NoRoom-clause-goes_on
-returns-in-Err-NoRoom-clause-goes_on c = λ workers recording base history lanes flights below held.
-    let none = c.in-Err-NoRoom.ensures.no_room c.in-Err-NoRoom.event (ap (λ (error : StageError). Err error) c.in-Err-NoRoom.field-0-is) in
-    subst (λ (happened : Event). IsHeld workers recording base history lanes c.stage.new.self happened) (sym none.0)
-    (stays_held c.args.store.now c.stage.new.self c.in-Err-NoRoom.ensures.same workers recording base history lanes c.args.event held)
+returns-in-Err-NoRoom-clause-goes_on c = λ workers recording base history before lanes below way next.
+    stays_under_way c.args.store.now c.stage.new.self c.in-Err-NoRoom.ensures.same workers recording base history before way
+
+pub returns-in-Err-NoMemory-clause-still : goal.returns-in-Err-NoMemory-clause-still
+returns-in-Err-NoMemory-clause-still c = c.in-Err-NoMemory.ensures.same.state
+
+pub returns-in-Err-Full-clause-still : goal.returns-in-Err-Full-clause-still
+returns-in-Err-Full-clause-still c = c.in-Err-Full.ensures.same.state
+
+pub returns-in-Err-NoRoom-clause-still : goal.returns-in-Err-NoRoom-clause-still
+returns-in-Err-NoRoom-clause-still c = c.in-Err-NoRoom.ensures.same.state
 
 pub returns-in-Err-NoRoom-clause-alone : goal.returns-in-Err-NoRoom-clause-alone
 returns-in-Err-NoRoom-clause-alone c = λ empty.
     absurd ((c.in-Err-NoRoom.ensures.no_room c.in-Err-NoRoom.event (ap (λ (error : StageError). Err error) c.in-Err-NoRoom.field-0-is)).1 empty)
 
-pub returns-in-Err-NoRoom-clause-some : goal.returns-in-Err-NoRoom-clause-some
-returns-in-Err-NoRoom-clause-some c = λ empty.
-    (c.in-Err-NoRoom.ensures.no_room c.in-Err-NoRoom.event (ap (λ (error : StageError). Err error) c.in-Err-NoRoom.field-0-is)).1
-    (sym (same_staged c.args.store.now c.stage.new.self c.in-Err-NoRoom.ensures.same) ∙ empty)
-
 pub returns-in-Err-NoRoom-clause-no_room : goal.returns-in-Err-NoRoom-clause-no_room
-returns-in-Err-NoRoom-clause-no_room c = λ refused is.
+returns-in-Err-NoRoom-clause-no_room c = λ kept is.
     let none = c.in-Err-NoRoom.ensures.no_room c.in-Err-NoRoom.event (ap (λ (error : StageError). Err error) c.in-Err-NoRoom.field-0-is) in
-    let same : c.in-Err-NoRoom.event ≡ refused = cc in
-    (sym same ∙ none.0, none.2)
-
-pub returns-in-Err-NoRoom-clause-lacks : goal.returns-in-Err-NoRoom-clause-lacks
-returns-in-Err-NoRoom-clause-lacks c =
-    let none = c.in-Err-NoRoom.ensures.no_room c.in-Err-NoRoom.event (ap (λ (error : StageError). Err error) c.in-Err-NoRoom.field-0-is) in
-    subst (λ (happened : Event). LacksRoom (stop.NoRoom happened) c.stage.new.self) (sym none.0)
-    (none.2.0, still_too_long c.args.store.now c.stage.new.self c.in-Err-NoRoom.ensures.same c.args.event none.2.0 none.2.1)
-
-pub returns-in-Err-NoRoom-clause-leaves : goal.returns-in-Err-NoRoom-clause-leaves
-returns-in-Err-NoRoom-clause-leaves c = λ state flights free spares.
-    let none = c.in-Err-NoRoom.ensures.no_room c.in-Err-NoRoom.event (ap (λ (error : StageError). Err error) c.in-Err-NoRoom.field-0-is) in
-    (free, subst (λ (happened : Event). Spares happened flights) (sym none.0) spares)
+    let same : c.in-Err-NoRoom.event ≡ kept = cc in (
+      sym same ∙ none.0,
+      λ empty. none.1 (sym (same_staged c.args.store.now c.stage.new.self c.in-Err-NoRoom.ensures.same) ∙ empty),
+      (none.2.0, still_too_long c.args.store.now c.stage.new.self c.in-Err-NoRoom.ensures.same c.args.event none.2.0 none.2.1),
+    )

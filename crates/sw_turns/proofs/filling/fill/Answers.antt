@@ -4,6 +4,8 @@ use Rattle.sw_data.specs.declared.histories.Task.{Task}
 use Rattle.sw_lane.specs.Picked.{in_flight}
 use Rattle.sw_lane.specs.declared.picks.Pick.TheVariants as pick
 use Rattle.sw_turns.specs.Groups.{IsByPick, IsTaken, IsUnderWay, Stops}
+use Rattle.sw_turns.specs.Coming.{GrowsByPick}
+use Rattle.sw_turns.proofs.ComingLemmas.{grows_none, grows_still, grows_then}
 use Rattle.sw_turns.proofs.FlightLemmas.{free_due}
 use Rattle.sw_turns.proofs.GroupLemmas.{further_own, picked_by, same_twins}
 use Rattle.sw_work.specs.Hosted.{state_of}
@@ -36,6 +38,9 @@ events-preserved c =
       twin = same_twins c.args.store.now.twin c.events.store.twin c.take_up.new.store.twin was.twin joined.twin;
       mark = joined.mark ∙ was.mark;
       own = further_own c.args.pass c.args.store.now.staged c.events.store.staged c.take_up.new.store.staged was.own joined.own;
+      grows =
+          grows_then c.args.net.now c.args.flights.now c.args.lanes.now c.events.lanes c.take_up.new.lanes c.args.store.now c.events.store c.take_up.new.store was.grows
+          (subst (λ (flights : List (Option Task)). GrowsByPick c.args.net.now flights c.events.lanes c.take_up.new.lanes c.events.store c.take_up.new.store) was.same joined.grows);
       goes_on = λ recording base history same goes.
           subst (λ (workers : ℕ). IsUnderWay workers recording base history c.take_up.new.lanes c.take_up.new.store) (ap length was.same)
           (joined.goes_on recording base history same
@@ -60,6 +65,14 @@ returns-in-Err-clause-own c = further_own c.args.pass c.args.store.now.staged c.
 pub returns-in-Err-clause-taken : goal.returns-in-Err-clause-taken
 returns-in-Err-clause-taken c =
     subst (λ (before : List (Option Task)). IsTaken c.args.pass before c.take_up.new.flights c.in-Err.stop) c.events.invariant.same c.in-Err.ensures.taken
+
+pub returns-in-Err-clause-grows : goal.returns-in-Err-clause-grows
+returns-in-Err-clause-grows c = (
+  c.events.lanes,
+  grows_still c.args.net.now c.args.flights.now c.args.lanes.now c.events.lanes c.args.store.now c.events.store c.take_up.new.store
+      c.events.invariant.grows c.in-Err.ensures.same c.in-Err.ensures.still,
+  c.in-Err.ensures.lanes,
+)
 
 pub returns-in-Err-clause-idle : goal.returns-in-Err-clause-idle
 returns-in-Err-clause-idle c = λ is same. absurd (subst IsByPick is c.in-Err.ensures.kind)

@@ -6,6 +6,7 @@ use Rattle.sw_lane.specs.Picked.{in_flight, picked}
 use Rattle.sw_lane.specs.declared.picks.Pick.TheVariants as pick
 use Rattle.sw_laws.specs.Coherent.{Coherent}
 use Rattle.sw_lock.specs.Entries.{ThenOwn}
+use Rattle.sw_turns.specs.Coming.{GrowsByPick}
 use Rattle.sw_turns.specs.Flights.{AreInFlight}
 use Rattle.sw_turns.specs.Groups.{IsUnderWay}
 use Rattle.sw_store.specs.Stores.{IsSameTwin}
@@ -28,6 +29,7 @@ invariant-events l = record {
   twin : IsSameTwin l.initial.store.twin l.store.twin;
   mark : l.store.mark ≡ l.initial.store.mark;
   own : ThenOwn (λ (entry : Entry). entry.pass) l.pass l.initial.store.staged l.store.staged;
+  grows : GrowsByPick l.net l.initial.flights l.initial.lanes l.lanes l.initial.store l.store;
   goes_on : (recording : Recording) (base : Kept) (history : List Entry) → recording.fetches ≡ l.net
       → IsUnderWay (length l.initial.flights) recording base history l.initial.lanes l.initial.store
       → IsUnderWay (length l.initial.flights) recording base history l.lanes l.store;

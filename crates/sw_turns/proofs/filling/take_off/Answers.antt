@@ -1,8 +1,12 @@
 -- What was picked is taken up, or there was no memory for its fetches.
-use Rattle.std.proofs.Common.{◌∙◌, Some, None, ap}
+use Rattle.std.proofs.Common.{◌≡◌, ◌∙◌, List, Option, Some, None, ap, subst, sym}
 use Rattle.std.proofs.lemmas.Option.{slice_get_within}
+use Rattle.sw_data.specs.declared.histories.Task.{Task}
+use Rattle.sw_lane.specs.Picked.{in_flight, picked}
+use Rattle.sw_lane.specs.declared.picks.Pick.TheVariants as pick
+use Rattle.sw_lane.specs.declared.picks.Work.TheVariants as work
 use Rattle.sw_next.specs.Fetching.{fetches_of}
-use Rattle.sw_turns.proofs.FlightLemmas.{free_due, set_there, taken_due, taken_fly}
+use Rattle.sw_turns.proofs.FlightLemmas.{free_due, set_back, set_there, taken_due, taken_fly}
 use Rattle.sw_work.specs.Hosted.{Hosted, state_of}
 use Rattle.sw_turns.proofs.filling.take_off.Goals as goal
 
@@ -18,6 +22,8 @@ pub returns-in-Ok-clause-leaves : goal.returns-in-Ok-clause-leaves
 returns-in-Ok-clause-leaves c = (
   set_there c.args.flights.now c.args.pass (Some c.args.task) (slice_get_within c.args.flights.now c.args.pass None c.requires.free),
   c.in-Ok.ensures ∙ ap (λ (host : Hosted). fetches_of (state_of host) c.args.task) c.core.ensures,
+  subst (λ (flights : List (Option Task)). picked (state_of c.args.store.now.core) (in_flight flights) c.args.lanes.now ≡ pick.Work (work.Task c.args.task))
+      (sym (set_back c.args.flights.now c.args.pass None (Some c.args.task) c.requires.free)) c.requires.picked,
 )
 
 pub returns-in-Err-clause-due : goal.returns-in-Err-clause-due

@@ -1,5 +1,5 @@
 -- What is kept is written anew, or stays.
-use Rattle.sw_turns.proofs.SettleLemmas.{ends_spoilt, ends_untended, is_made, stopped_still, tended_still, works_still}
+use Rattle.sw_turns.proofs.SettleLemmas.{anew_by, ends_spoilt, ends_untended, is_made, stopped_still, tended_still, works_still}
 use Rattle.sw_turns.proofs.settling.tend.Goals as goal
 
 pub tend-requires-clause-made : goal.tend-requires-clause-made
@@ -44,3 +44,7 @@ pub returns-in-Err-DiskFault-clause-goes_on : goal.returns-in-Err-DiskFault-clau
 returns-in-Err-DiskFault-clause-goes_on g c s start history halted work ahead =
     ends_spoilt g.D.Disk c.args.disk.now c.tend.new.disk s history c.args.store.now halted c.requires.quiet.staged start work
     c.tend.ensures.later c.tend.ensures.any_moment c.new.result c.new.ensures.items (c.in-Err-DiskFault.ensures.fault (cc c.in-Err-DiskFault.field-0-is)).0
+
+pub returns-in-Ok-clause-anew : goal.returns-in-Ok-clause-anew
+returns-in-Ok-clause-anew g c =
+    anew_by g.D.Disk c.args.disk.now c.tend.new.disk c.args.store.now c.tend.new.self _ c.tend.ensures.core c.in-Ok.ensures.did c.in-Ok.ensures.did_not

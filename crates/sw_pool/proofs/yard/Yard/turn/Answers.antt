@@ -34,4 +34,6 @@ returns-in-Err-clause-stepped g c = record {
   over = search rules;
   ends = search rules;
   turns = search rules;
+  group = search rules;
+  calls = search rules;
 }

@@ -1,19 +1,18 @@
 -- A group of events happens and is written, and the run goes on or has ended.
-use Rattle.std.proofs.Common.{◌≡◌, ◌∙◌, ◌⊎◌, List, Option, Result, Vec, Global, IfErr, IfOk, [], length, slice_get, append-nil, refl, sym, ap, subst}
+use Rattle.std.proofs.Common.{◌≡◌, ◌∙◌, ◌⊎◌, List, Option, Result, IfErr, IfOk, length, slice_get, refl, sym, ap, subst}
 use Rattle.sw_data.specs.declared.histories.Entry.{Entry}
 use Rattle.sw_data.specs.declared.histories.Task.{Task}
 use Rattle.sw_turns.proofs.EndLemmas.{ends_short}
 use Rattle.sw_turns.proofs.SettleLemmas.{rests}
-use Rattle.sw_turns.proofs.TurnLemmas.{begun_host, cut_kept, cut_rests, flights_are, grouped, had_no_room, halted, made_alone, made_by, not_held, over_kept, own_either, own_then, own_written, sound, tending, turned, waiting_tells, working}
+use Rattle.sw_turns.proofs.TurnLemmas.{begun_host, cut_kept, cut_rests, flights_are, grouped, halted, made_by, over_kept, own_either, own_written, picked_either, picked_none, picked_written, sound, tending, turned, waiting_tells, working}
 use Rattle.sw_turns.proofs.progress.Progress.turn.Goals as goal
 use Rattle.sw_turns.specs.Ends.{Ended, IsKept}
 use Rattle.sw_turns.specs.Flights.{AreInFlight, IsDue}
-use Rattle.sw_turns.specs.Groups.{Leaves}
+use Rattle.sw_turns.specs.Groups.{LacksRoom, Leaves}
 use Rattle.sw_turns.specs.Settling.{IsWritten}
 use Rattle.sw_turns.specs.Turns.{HasTurned, IsAtRest, IsTurn, standing_of}
 use Rattle.sw_turns.specs.declared.ends.DriveEnd.{DriveEnd}
 use Rattle.sw_turns.specs.declared.ends.DriveEnd.TheVariants as drive_end
-use Rattle.sw_turns.specs.declared.ends.Stop.TheVariants as stop
 use Rattle.sw_turns.specs.declared.ends.Turn.{Turn}
 use Rattle.sw_work.specs.Hosted.{Hosted, state_of}
 
@@ -38,72 +37,21 @@ settle-requires-clause-stopped g c =
           c.reserve.ensures.items (rw c.as_mut_slice.ensures.value at c.begin-stop.ensures.workers) c.begin-stop.ensures.twin (rw c.as_mut_slice.ensures.value at c.begin-stop.ensures.goes_on),
     )
 
-pub alone-requires-clause-stopped : goal.alone-requires-clause-stopped
-alone-requires-clause-stopped g c =
-    let it = c.requires.going in
+pub returns-then-is_err-clause-group : goal.returns-then-is_err-clause-group
+returns-then-is_err-clause-group g c =
     let p = c.args.self.now in
-    let reason = stop.NoRoom c.in-NoRoom.event in (
-      it.0,
-      it.1,
-      c.in-Ok.ensures.stopped (standing_of it.0 it.1 (begun_host p c.reserve.new.self c.begin-stop.new.lanes c.begin-stop.new.store c.begin-stop.new.flights) reason)
-          (halted g.D.Disk it.2 c.args.disk.now it.0 it.1 p c.reserve.new.self c.begin-stop.new.lanes c.begin-stop.new.store c.begin-stop.new.flights reason it.3
-          c.reserve.ensures.items (rw c.as_mut_slice.ensures.value at c.begin-stop.ensures.workers) c.begin-stop.ensures.twin (rw c.as_mut_slice.ensures.value at c.in-NoRoom.ensures.goes_on)),
-    )
+    (p.lanes, picked_none c.args.pass p (record p { history = c.reserve.new.self }) c.reserve.ensures.items)
 
-pub returns-in-NoRoom-clause-turned : goal.returns-in-NoRoom-clause-turned
-returns-in-NoRoom-clause-turned g c recording base start going =
-    let p = c.args.self.now in
-    let reason = stop.NoRoom c.in-NoRoom.event in
-    let s = standing_of recording base (begun_host p c.reserve.new.self c.begin-stop.new.lanes c.begin-stop.new.store c.begin-stop.new.flights) reason in
-    let halts = halted g.D.Disk start c.args.disk.now recording base p c.reserve.new.self c.begin-stop.new.lanes c.begin-stop.new.store c.begin-stop.new.flights reason going
-    c.reserve.ensures.items (rw c.as_mut_slice.ensures.value at c.begin-stop.ensures.workers) c.begin-stop.ensures.twin (rw c.as_mut_slice.ensures.value at c.in-NoRoom.ensures.goes_on) in
-    let works = working g.D.Disk start c.args.disk.now recording base p c.reserve.new.self c.begin-stop.new.lanes c.begin-stop.new.store c.begin-stop.new.flights reason going
-    c.reserve.ensures.items (rw c.as_mut_slice.ensures.value at c.begin-stop.ensures.workers) c.begin-stop.ensures.twin (rw c.as_mut_slice.ensures.value at c.in-NoRoom.ensures.goes_on) in
-    let tends = tending g.D.Disk start c.args.disk.now recording base p c.reserve.new.self c.begin-stop.new.lanes c.begin-stop.new.store c.begin-stop.new.flights reason going
-    c.reserve.ensures.items (rw c.as_mut_slice.ensures.value at c.begin-stop.ensures.workers) c.begin-stop.ensures.twin (rw c.as_mut_slice.ensures.value at c.in-NoRoom.ensures.goes_on) c.begin-stop.ensures.mark in
-    c.alone.ensures.turned recording base start going.lines (c.in-Ok.ensures.stopped s halts) (c.in-Ok.ensures.goes_on s start halts works) (c.in-Ok.ensures.tended s halts tends)
-
-pub returns-in-NoRoom-clause-turn : goal.returns-in-NoRoom-clause-turn
-returns-in-NoRoom-clause-turn g c =
-    let p = c.args.self.now in
-    let it = c.requires.going in
-    let fs = c.begin-stop.new.flights in
-    let count = rw c.as_mut_slice.ensures.value at c.begin-stop.ensures.workers in
-    let all = flights_are p fs count in
-    let others = rw c.as_mut_slice.ensures.value at c.begin-stop.ensures.others in
-    let wrote = subst (λ (entries : List Entry). IsWritten entries c.settle.new.history.items c.begin-stop.new.store.staged) c.reserve.ensures.items c.in-Ok.ensures.written in
-    let group = grouped g.D.Disk it.2 c.args.disk.now it.0 it.1 p c.reserve.new.self c.begin-stop.new.lanes c.begin-stop.new.store fs (stop.NoRoom c.in-NoRoom.event) it.3
-    c.reserve.ensures.items count c.begin-stop.ensures.twin (rw c.as_mut_slice.ensures.value at c.in-NoRoom.ensures.goes_on) in
-    made_alone c.args.pass p c.alone.new.self c.settle.new.history.items c.begin-stop.new.store.staged c.alone.ensures.own.0 c.begin-stop.result wrote
-    c.alone.ensures.own.1
-    (rw c.as_mut_slice.ensures.value at c.begin-stop.ensures.first)
-    (rw c.as_mut_slice.ensures.value at c.begin-stop.ensures.idle)
-    (λ other apart.
-    ap (λ (flights : Vec (Option Task) Global). slice_get flights.items other) c.alone.ensures.beside.flights
-    ∙ ap (λ (flights : List (Option Task)). slice_get flights other) all ∙ others other apart)
-    c.in-NoRoom.event c.alone.result c.in-NoRoom.is
-    (ap (λ (flights : Vec (Option Task) Global). slice_get flights.items c.args.pass) c.alone.ensures.beside.flights
-    ∙ ap (λ (flights : List (Option Task)). slice_get flights c.args.pass) all ∙ c.in-NoRoom.ensures.leaves.0)
-    (had_no_room (state_of p.store.core) p.store.twin c.begin-stop.new.store c.in-NoRoom.event wrote.0 group c.begin-stop.ensures.twin c.in-NoRoom.ensures.some c.in-NoRoom.ensures.lacks)
-    c.alone.ensures.entered
-
-pub returns-in-NoRoom-clause-own : goal.returns-in-NoRoom-clause-own
-returns-in-NoRoom-clause-own g c =
-    own_then c.args.pass c.args.self.now.history.items c.settle.new.history.items c.alone.new.self.history.items
-    (own_written c.args.pass c.args.self.now.history.items c.settle.new.history.items c.begin-stop.new.store.staged c.begin-stop.ensures.own
-    (subst (λ (entries : List Entry). IsWritten entries c.settle.new.history.items c.begin-stop.new.store.staged) c.reserve.ensures.items c.in-Ok.ensures.written))
-    c.alone.ensures.own
-
-pub returns-in_default : goal.returns-in_default
-returns-in_default g c =
+pub returns-in-Ok : goal.returns-in-Ok
+returns-in-Ok g c =
     let p = c.args.self.now in
     let fs = c.begin-stop.new.flights in
     let after = begun_host p c.settle.new.history c.begin-stop.new.lanes c.settle.new.store fs in
     let count = rw c.as_mut_slice.ensures.value at c.begin-stop.ensures.workers in
     let all = flights_are p fs count in
     let others = rw c.as_mut_slice.ensures.value at c.begin-stop.ensures.others in
+    let adds = rw c.as_mut_slice.ensures.value at c.begin-stop.ensures.entries in
     let wrote = subst (λ (entries : List Entry). IsWritten entries c.settle.new.history.items c.begin-stop.new.store.staged) c.reserve.ensures.items c.in-Ok.ensures.written in
-    let over = not_held c.begin-stop.result c.in_default.not-NoRoom in
     let tells = waiting_tells c.waiting-some.result c.begin-stop.new.store.staged c.waiting-some.ensures in
     record {
       turned = λ recording base start going.
@@ -121,21 +69,26 @@ returns-in_default g c =
           (subst (λ (flights : List (Option Task)). AreInFlight (state_of c.begin-stop.new.store.core) flights) (sym all) c.begin-stop.ensures.flights))
           (subst (λ (host : Hosted). IsDue (state_of host) c.begin-stop.new.lanes after.flights.items) (sym c.settle.ensures.core)
           (subst (λ (flights : List (Option Task)). IsDue (state_of c.begin-stop.new.store.core) c.begin-stop.new.lanes flights) (sym all) c.begin-stop.ensures.due))
-          c.begin-stop.result _ over (c.in-Ok.ensures.stopped s halts).stops);
+          c.begin-stop.result _ (c.in-Ok.ensures.stopped s halts).stops);
+      group = (adds.0, picked_written c.args.pass p after c.begin-stop.new.store.staged adds.0 c.begin-stop.ensures.few adds.1 wrote);
       turn =
           let it = c.requires.going in
           let s = standing_of it.0 it.1 (begun_host p c.reserve.new.self c.begin-stop.new.lanes c.begin-stop.new.store fs) c.begin-stop.result in
           let halts = halted g.D.Disk it.2 c.args.disk.now it.0 it.1 p c.reserve.new.self c.begin-stop.new.lanes c.begin-stop.new.store fs c.begin-stop.result it.3
           c.reserve.ensures.items count c.begin-stop.ensures.twin (rw c.as_mut_slice.ensures.value at c.begin-stop.ensures.goes_on) in
+          let group = grouped g.D.Disk it.2 c.args.disk.now it.0 it.1 p c.reserve.new.self c.begin-stop.new.lanes c.begin-stop.new.store fs c.begin-stop.result it.3
+          c.reserve.ensures.items count c.begin-stop.ensures.twin (rw c.as_mut_slice.ensures.value at c.begin-stop.ensures.goes_on) in
           subst (λ (result : Result Turn DriveEnd). IfOk result (IsTurn c.args.pass p after)) (sym c.over.ensures)
-          (made_by c.args.pass p after c.settle.new.history.items c.begin-stop.new.store.staged [] c.begin-stop.result wrote (sym (append-nil c.settle.new.history.items))
+          (made_by c.args.pass p after c.begin-stop.new.store c.begin-stop.result wrote group c.begin-stop.ensures.twin c.settle.ensures.core
+          adds.0 c.begin-stop.ensures.few adds.1 adds.2
           (rw c.as_mut_slice.ensures.value at c.begin-stop.ensures.first) (rw c.as_mut_slice.ensures.value at c.begin-stop.ensures.idle)
           (λ other apart. ap (λ (flights : List (Option Task)). slice_get flights other) all ∙ others other apart)
-          refl
-          (subst (λ (host : Hosted). Leaves c.args.pass after.flights.items (state_of host) c.begin-stop.result) (sym c.settle.ensures.core)
-          (subst (λ (flights : List (Option Task)). Leaves c.args.pass flights (state_of c.begin-stop.new.store.core) c.begin-stop.result) (sym all) c.begin-stop.ensures.leaves))
+          (subst (λ (host : Hosted). Leaves c.args.pass after.flights.items after.lanes (state_of host) c.begin-stop.result) (sym c.settle.ensures.core)
+          (subst (λ (flights : List (Option Task)). Leaves c.args.pass flights after.lanes (state_of c.begin-stop.new.store.core) c.begin-stop.result) (sym all) c.begin-stop.ensures.leaves))
           (rests (length after.flights.items) it.0 it.1 after.history.items after.lanes after.flights.items after.store c.begin-stop.result (c.in-Ok.ensures.stopped s halts).stops)
-          c.begin-stop.result _ refl c.begin-stop.ensures.some tells.0 tells.1 over);
+          (subst (λ (flights : List (Option Task)). LacksRoom c.begin-stop.result p.net after.lanes flights c.begin-stop.new.store) (sym all) c.begin-stop.ensures.lacks)
+          c.begin-stop.result _ refl c.begin-stop.ensures.some tells.0 tells.1);
+      calls = c.settle.ensures.calls;
       own = own_written c.args.pass p.history.items c.settle.new.history.items c.begin-stop.new.store.staged c.begin-stop.ensures.own wrote;
       workers = ap length all ∙ count;
       net = refl;
@@ -164,4 +117,12 @@ returns-in-Err-clause-kept g c = subst IsKept (sym c.cut.ensures) (cut_kept c.in
 pub returns-in-Err-clause-own : goal.returns-in-Err-clause-own
 returns-in-Err-clause-own g c =
     own_either c.args.pass c.args.self.now.history.items c.settle.new.history.items c.begin-stop.new.store.staged c.begin-stop.ensures.own
+    (subst (λ (entries : List Entry). (c.settle.new.history.items ≡ entries) ⊎ IsWritten entries c.settle.new.history.items c.begin-stop.new.store.staged) c.reserve.ensures.items c.settle.ensures.either)
+
+pub returns-in-Err-clause-group : goal.returns-in-Err-clause-group
+returns-in-Err-clause-group g c =
+    let p = c.args.self.now in
+    let adds = rw c.as_mut_slice.ensures.value at c.begin-stop.ensures.entries in
+    picked_either c.args.pass p (begun_host p c.settle.new.history c.begin-stop.new.lanes c.settle.new.store c.begin-stop.new.flights)
+    c.begin-stop.new.store.staged adds.0 c.begin-stop.ensures.few adds.1
     (subst (λ (entries : List Entry). (c.settle.new.history.items ≡ entries) ⊎ IsWritten entries c.settle.new.history.items c.begin-stop.new.store.staged) c.reserve.ensures.items c.settle.ensures.either)
