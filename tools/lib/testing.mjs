@@ -2,6 +2,7 @@
 //
 //   test(name, run)             run() fails by throwing; it may be async
 //   test.ofProgram(name, run)   run(program) is left out where no program is given
+//   test.long(name, run)        the same, where the word `long` isn't given either
 //   tool(name, words, input)    runs a tool, and gives { status, output, errors }
 //   launch(program, words, { folder, input })   the same of any program, in a folder
 //   inFolder(run)               run(folder), with a fresh folder that is removed afterwards
@@ -15,8 +16,9 @@ import path from "node:path";
 export const top = path.resolve(import.meta.dirname, "../..");
 
 const known = [];
-export const test = (name, run) => known.push({ name, run, ofProgram: false });
-test.ofProgram = (name, run) => known.push({ name, run, ofProgram: true });
+export const test = (name, run) => known.push({ name, run, needs: 0 });
+test.ofProgram = (name, run) => known.push({ name, run, needs: 1 });
+test.long = (name, run) => known.push({ name, run, needs: 2 });
 
 export function launch(program, words, { folder = top, input = "" } = {}) {
   const ran = spawnSync(program, words, { cwd: folder, input, maxBuffer: 2 ** 28 });
@@ -41,14 +43,12 @@ export function recordings() {
   return folders.flatMap(inside).filter((name) => name.endsWith(".jsonl")).sort();
 }
 
-// Runs all tests that were named, and prints each failure and the counts; answers whether all passed.
-export async function runAll(program) {
-  let passed = 0, failed = 0, left = 0;
-  for (const { name, run, ofProgram } of known) {
-    if (ofProgram && program === undefined) {
-      left++;
-      continue;
-    }
+// Runs the tests that were named, and prints each failure and the counts; answers whether all of them passed.
+export async function runAll(program, long) {
+  const given = program === undefined ? 0 : long ? 2 : 1;
+  let passed = 0, failed = 0;
+  for (const { name, run, needs } of known) {
+    if (needs > given) continue;
     try {
       await run(program);
       passed++;
@@ -57,7 +57,7 @@ export async function runAll(program) {
       console.log(`${name}: ${fault.stack}`);
     }
   }
-  if (left > 0) console.log(`without a program, ${left} tests were left out`);
+  if (given === 0) console.log(`without a program, ${known.filter(({ needs }) => needs === 1).length} tests are left out`);
   console.log(`${passed} passed, ${failed} failed`);
   return failed === 0;
 }
