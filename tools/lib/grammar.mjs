@@ -3,7 +3,7 @@
 //
 // A form is one of these; `cause` is what the program refuses a value by that is of the right kind and yet not of the form:
 //   text     bytes, the most of them (`too large: text` or `too large: body`), and pattern, which it matches; `what` says which
-//   base64   a body, with the most bytes that it may come to
+//   base64   a body, with the most bytes that it may come to; its text matches pattern
 //   address  an http or https address
 //   number   a whole number from least to most
 //   truth    true or false; with `only`, that one alone
@@ -53,7 +53,8 @@ const partition = { kind: "text", pattern: /^[a-z0-9.-]{1,64}$/, cause: "form", 
 const fieldName = { kind: "text", pattern: /^[!#$%&'*+.^_`|~0-9A-Za-z-]{1,65535}$/, cause: "header", what: "a header's name, as `Content-Type`" };
 const headers = list("headers", { kind: "pair", of: [fieldName, { ...text, ...FIELD_VALUE }], example: '["Name","value"]' });
 const bodyText = { kind: "text", bytes: tooLarge("body") };
-const bodyBase64 = { kind: "base64", bytes: tooLarge("body") };
+const BASE64 = /^(?:[A-Za-z0-9+\/]{4})*(?:[A-Za-z0-9+\/][AQgw]==|[A-Za-z0-9+\/]{2}[AEIMQUYcgkosw048]=)?$/;
+const bodyBase64 = { kind: "base64", pattern: BASE64, bytes: tooLarge("body") };
 
 // ---- parts of lines
 
@@ -143,6 +144,9 @@ const laneLine = byWord("an object with `fetch`, or with `lane` and `do`", { lan
   batch: { ...onPage, ...batch },
   addAll: { ...onPage, ...addAll },
 });
+
+// Parts that several others have, under the names that they have in the JSON Schema.
+export const PARTS = { fetchLine, errorLine, laneLine, headers, requestObject, request, response, operation, call };
 
 export const line = choice(laneLine.wanted, [fetchLine, errorLine, laneLine], (value) => {
   if (member(value, "fetch")) return member(value, "error") ? errorLine : fetchLine;
