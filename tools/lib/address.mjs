@@ -1,6 +1,8 @@
 // Not proved; compared with the program through tools/lint.
 // Which texts are http or https addresses to the program: those of the URL Standard, with this difference from Node's parser,
 // that labels of an ASCII host that begin with `xn--` are not decoded. Names past ASCII go by Node's version of Unicode.
+//
+//   httpAddress(text)   the address as Node has it, but with `xnaa` for `xn--` in a host that Node refuses; null for no such address
 
 // A host in ASCII, as it is once its percent signs are decoded; null for any other one.
 function asciiHost(authority) {
@@ -30,7 +32,7 @@ function parsed(text) {
   }
 }
 
-export function isHttpAddress(text) {
+export function httpAddress(text) {
   const url = parsed(text) ?? parsed(undecoded(text));
-  return url !== null && /^https?:$/.test(url.protocol);
+  return url !== null && /^https?:$/.test(url.protocol) ? url : null;
 }

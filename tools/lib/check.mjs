@@ -1,6 +1,6 @@
 // Not proved; compared with the program through tools/lint.
 // Whether a value is of a form of the table, and each flaw that it has: { cause, at, path, meaning, suggestion }.
-import { isHttpAddress } from "./address.mjs";
+import { httpAddress } from "./address.mjs";
 import { isOptional, nameOf } from "./grammar.mjs";
 
 const KINDS = { object: "an object", array: "an array", text: "a text", number: "a number", truth: "a truth value", null: "null" };
@@ -79,9 +79,9 @@ export class Checker {
   address(form, value, path) {
     if (!this.is("text", value, path, "an address")) return;
     this.tooLong(Buffer.byteLength(value.text), form, value, path);
-    if (isHttpAddress(value.text)) return;
+    if (httpAddress(value.text)) return;
     const whole = `https://${value.text}`, hasHost = /^[a-z0-9-]+(\.[a-z0-9-]+)*(:[0-9]+)?([/?#]|$)/i.test(value.text);
-    this.say("address", value.at, path, `${shortened(value.text)} isn't an http or https address`, hasHost && isHttpAddress(whole) ? JSON.stringify(whole) : "a whole one, as `https://a.test/sw.js`");
+    this.say("address", value.at, path, `${shortened(value.text)} isn't an http or https address`, hasHost && httpAddress(whole) ? JSON.stringify(whole) : "a whole one, as `https://a.test/sw.js`");
   }
 
   number(form, value, path) {

@@ -45,13 +45,15 @@ const choice = (wanted, forms, by) => ({ kind: "choice", wanted, forms, by });
 const member = (value, name) => (value.kind === "object" ? value.members.get(name)?.value : undefined);
 const wordOf = (value) => member(value, "do")?.text;
 
-const FIELD_VALUE = { pattern: /^[^\u0000-\u0008\u000a-\u001f\u007f]*$/, cause: "header", what: "a header's value, without control characters but tabs" };
+export const FIELD_NAME = /^[!#$%&'*+.^_`|~0-9A-Za-z-]{1,65535}$/;
+export const FIELD_VALUE = /^[^\u0000-\u0008\u000a-\u001f\u007f]*$/;
+const valued = { pattern: FIELD_VALUE, cause: "header", what: "a header's value, without control characters but tabs" };
 const status = { kind: "number", least: 100, most: 999, cause: "status" };
 const lane = { kind: "number", least: 0, most: LIMITS.lane, cause: "too large: lanes" };
 const method = { kind: "text", pattern: /^[!#$%&'*+.^_`|~0-9A-Za-z-]+$/, cause: "method", what: "a method, as `GET`" };
 const partition = { kind: "text", pattern: /^[a-z0-9.-]{1,64}$/, cause: "form", what: "1 to 64 of a to z, 0 to 9, . and -" };
-const fieldName = { kind: "text", pattern: /^[!#$%&'*+.^_`|~0-9A-Za-z-]{1,65535}$/, cause: "header", what: "a header's name, as `Content-Type`" };
-const headers = list("headers", { kind: "pair", of: [fieldName, { ...text, ...FIELD_VALUE }], example: '["Name","value"]' });
+const fieldName = { kind: "text", pattern: FIELD_NAME, cause: "header", what: "a header's name, as `Content-Type`" };
+const headers = list("headers", { kind: "pair", of: [fieldName, { ...text, ...valued }], example: '["Name","value"]' });
 const bodyText = { kind: "text", bytes: tooLarge("body") };
 const BASE64 = /^(?:[A-Za-z0-9+\/]{4})*(?:[A-Za-z0-9+\/][AQgw]==|[A-Za-z0-9+\/]{2}[AEIMQUYcgkosw048]=)?$/;
 const bodyBase64 = { kind: "base64", pattern: BASE64, bytes: tooLarge("body") };
@@ -124,7 +126,7 @@ const laneLine = byWord("an object with `fetch`, or with `lane` and `do`", { lan
   preloadEnable: onScope,
   preloadDisable: onScope,
   preloadState: onScope,
-  preloadValue: { ...onScope, value: { ...short, ...FIELD_VALUE } },
+  preloadValue: { ...onScope, value: { ...short, ...valued } },
   skipWaiting: onSlot,
   claim: onSlot,
   await: { of: number },
