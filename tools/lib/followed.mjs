@@ -84,6 +84,7 @@ function linesOf(transcript) {
   }
   const lines = transcript.split("\n");
   if (lines.at(-1) === "") lines.pop();
+  if (lines.length === 0) throw new Refused(STATUS.line, "transcript: it has no line");
   return lines;
 }
 

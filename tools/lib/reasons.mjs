@@ -21,7 +21,7 @@ export function holds(state, worker) {
 export const isHeld = ({ activating, events, users }) => activating !== null || events.length > 0 || users.length > 0;
 
 export function keeps(state, registration) {
-  const workers = state.workers.filter((worker) => worker.registration === registration && worker.state !== "redundant");
+  const workers = registration.workers.filter((worker) => worker.state !== "redundant");
   return {
     users: state.users(registration),
     events: workers.flatMap((worker) => state.pending(worker)),

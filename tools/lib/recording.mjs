@@ -3,22 +3,20 @@
 //
 //   new Recording(text)     its lanes, each a list of actions, and its fetch lines
 //   lineOf(address, n)      the line that the n-th fetch of an address gets, or undefined
-//   parsed(text, base)      the serialized address, or null
-//   withoutFragment(text)   the same of a serialized address without its fragment
-//   keyOf(address, partition), isTrustworthy(address), isWithin(address, scope)
+//   parsed(text, base)      the serialized address of a text that has one
+//   parsedScope(text, base) the same without its fragment, as scripts and scopes have it
+//   keyOf(address, partition), isTrustworthy(address)
 import { Refused, STATUS } from "./cli.mjs";
 
+// The program may take a host that Node's parser refuses: one with labels that begin with `xn--` and stand for nothing.
 export function parsed(text, base) {
-  return URL.canParse(text, base) ? new URL(text, base).href : null;
+  if (!URL.canParse(text, base)) throw new Refused(STATUS.line, `Node doesn't parse ${JSON.stringify(text)}`);
+  return new URL(text, base).href;
 }
 
-export const withoutFragment = (address) => address.split("#", 1)[0];
+const withoutFragment = (address) => address.split("#", 1)[0];
 
-// The address of a script or scope against a base, without its fragment; null where it doesn't parse.
-export function parsedScope(text, base) {
-  const address = parsed(text, base);
-  return address === null ? null : withoutFragment(address);
-}
+export const parsedScope = (text, base) => withoutFragment(parsed(text, base));
 
 export function keyOf(address, partition) {
   return new URL(address).origin + (partition === undefined ? "" : `^${partition}`);

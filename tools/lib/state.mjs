@@ -6,7 +6,8 @@
 //
 // After each line it has `line` (their count), `end` (the last line as lib/transcript.mjs reads it, once it came), and
 // these rows, which live on:
-//   registrations  number, key, scope, mapped, unmapped (a line), owed (the line since which it is owed a Try Activate)
+//   registrations  number, key, scope, mapped, unmapped (a line), workers, owed (the line since which it is owed a Try
+//                  Activate)
 //   workers        number, registration, script, recorded (its fetch line), state, skip (a line), handler, fault, states
 //   jobs           number, what, key, scope, script, maker, joined, phase, settled, ended (line, answer), registration
 //   tasks          addAlls: number, maker, settled
@@ -84,7 +85,7 @@ export class State {
   // ---- what the rows say
 
   slot(registration, name) {
-    return this.workers.find((worker) => worker.registration === registration && SLOTS[name].includes(worker.state)) ?? null;
+    return registration.workers.find((worker) => SLOTS[name].includes(worker.state)) ?? null;
   }
 
   newest(registration) {
@@ -133,7 +134,7 @@ export class State {
   }
 
   map(job, number) {
-    const registration = { number, key: job.key, scope: job.scope, mapped: true, unmapped: null, owed: null };
+    const registration = { number, key: job.key, scope: job.scope, mapped: true, unmapped: null, owed: null, workers: [] };
     this.registrations[number] = job.registration = registration;
   }
 
@@ -143,6 +144,7 @@ export class State {
 
   add(worker, state, cause) {
     this.workers[worker.number] = { ...worker, state: null, skip: null, handler: null, fault: null, states: [] };
+    worker.registration.workers.push(this.workers[worker.number]);
     this.advance(this.workers[worker.number], state, cause);
   }
 

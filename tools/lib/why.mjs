@@ -77,9 +77,8 @@ function* workerLines(state, worker) {
 }
 
 function* registrationLines(state, registration) {
-  const { number, scope, mapped, unmapped } = registration;
+  const { number, scope, mapped, unmapped, workers } = registration;
   yield `r${number} ${scope}${partitionOf(registration)}${mapped ? "" : `, unregistered since ${at(unmapped)}`}`;
-  const workers = state.workers.filter((worker) => worker.registration === registration);
   if (!mapped && workers.some(({ state: name }) => !["redundant", "parsed"].includes(name))) {
     const { users, events, handlers } = keeps(state, registration);
     if (users.length > 0) yield `  it stays while ${names("c", users)} ${use(users)} it`;
@@ -100,7 +99,7 @@ const UNFINISHED = {
   },
   fetching: () => "its script is being fetched",
   evaluating: () => "its script was fetched and is run next",
-  installing: (state, job) => `${names("w", state.workers.filter((worker) => worker.registration === job.registration && worker.state === "installing"))} is installing`,
+  installing: (state, job) => `w${state.slot(job.registration, "installing").number} is installing`,
 };
 
 // What a job that ran came to without a fetch.

@@ -8,7 +8,7 @@ import { valueText } from "../lib/events.mjs";
 import { keptOf } from "../lib/kept.mjs";
 import { allRecordings } from "../lib/pooled.mjs";
 import { holds, isHeld, laneWaits, nextOf } from "../lib/reasons.mjs";
-import { parsed, Recording } from "../lib/recording.mjs";
+import { Recording } from "../lib/recording.mjs";
 import { State } from "../lib/state.mjs";
 import { inFolder, launch, test, tool, top } from "../lib/testing.mjs";
 import { readLine } from "../lib/transcript.mjs";
@@ -58,9 +58,9 @@ const BEFORE = {
     return page === undefined ? ["no client", "NoClient", answer] : ["match", numbered("r", state.match(page.key, page.url)), answered(answer)];
   },
   registration(state, { answer }, { client, url }) {
-    const page = state.clients.get(client), address = page && parsed(url, page.url);
-    if (!address || new URL(address).origin !== new URL(page.url).origin) return ["refused", true, answer === "NoClient" || answer.fault !== undefined];
-    return ["match", numbered("r", state.match(page.key, address)), answer === "undefined" ? "none" : answered(answer)];
+    const page = state.clients.get(client), address = page && URL.canParse(url, page.url) ? new URL(url, page.url) : null;
+    if (address === null || address.origin !== new URL(page.url).origin) return ["refused", true, answer === "NoClient" || answer.fault !== undefined];
+    return ["match", numbered("r", state.match(page.key, address.href)), answer === "undefined" ? "none" : answered(answer)];
   },
   registrations(state, { answer }, { client }) {
     const page = state.clients.get(client);
@@ -283,5 +283,6 @@ test("why's words, statuses and outputs", () => {
   assert.equal(tool("why", ["--line", "0", recording], transcript).status, 2);
   assert.equal(tool("why", ["--line", "21", recording], transcript).status, 2);
   assert.equal(tool("why", [], "").status, 2);
+  assert.equal(tool("why", [recording], "").status, 3);
   assert.match(tool("why", ["--help"]).output, /^tools\/why /);
 });
