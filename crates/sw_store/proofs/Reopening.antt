@@ -4,6 +4,7 @@ use Rattle.std.specs.Prelude.{OnOk}
 use Rattle.sw_codec.specs.Spelling.{change_spelling, has_spelling}
 use Rattle.sw_data.specs.declared.storage.Change.TheVariants as change
 use Rattle.sw_data.specs.declared.storage.Kept.{Kept}
+use Rattle.sw_data.specs.Faults.{Rose}
 use Rattle.sw_disk.specs.declared.disk.Disk.{Ghosts}
 use Rattle.sw_disk.specs.DiskRule.{BothTold, ForTold, capped}
 use Rattle.sw_disk.specs.Image.{Image}
@@ -18,7 +19,7 @@ use Rattle.sw_store.specs.declared.errors.OpenError.{OpenError}
 use Rattle.sw_store.specs.declared.errors.OpenError.TheVariants as error
 use Rattle.sw_store.specs.Opened.{HasNoRoom, HasNoted, HasNotedOn, HasOpened, IsContentTooLong, IsLeft, IsOpened, IsRestartTooLong, IsUnopened, kept_restarted}
 use Rattle.sw_store.specs.Stores.{StoreState}
-use Rattle.sw_twin.specs.Twin.{StandsFor, StandsIn, TwinState}
+use Rattle.sw_twin.specs.Twin.{IsPastFirst, StandsFor, StandsIn, TwinState}
 
 -- what isn't refused as not formatted or bad, whatever was to be answered
 pub opened_as : (T U : Type 0) (why : OpenError) → IsOpened {T = T} (Err why) → IsOpened {T = U} (Err why)
@@ -59,6 +60,19 @@ no_room disk old new twin kept limit from needed keeps same limit_is why = recor
   keeps = subst (KeepsNow twin kept disk) (sym same) keeps;
   limit_is = limit_is;
   why = why;
+}
+
+-- where nothing was written, and what is read is sure but where the first call failed
+pub not_opened : {D : Type 0} (disk : Ghosts D) (old new : D) → IsQuiet disk old new
+    → ((Rose (disk.faults old) (disk.faults new) → IsPastFirst disk old new)
+    → ForTold (disk.seen old) (λ image. disk.clock old + 1 < 2 ^ 64 - 1 → (c : Image) → disk.left_since new (disk.clock old + 1) c → c ≡ image)) → IsUnopened disk old new
+not_opened disk old new quiet first = record {
+  any_moment =
+      told_some (disk.seen old) (λ image. LeavesOnly disk old new (λ c. disk.may_leave old c ⊎ IsLeft image c))
+      (λ image is. weaker disk old new (disk.may_leave old) (λ c. disk.may_leave old c ⊎ IsLeft image c) (λ c left. inl left) quiet.moments);
+  first = λ past.
+      told_some (disk.seen old) (λ image. disk.clock old + 1 < 2 ^ 64 - 1 → (c : Image) → disk.left_since new (disk.clock old + 1) c → IsLeft image c) (λ image is going c left. inl
+      (told_at (disk.seen old) (λ image. disk.clock old + 1 < 2 ^ 64 - 1 → (c : Image) → disk.left_since new (disk.clock old + 1) c → c ≡ image) image is (first past) going c left));
 }
 
 module _ {D : Type 0} (disk : Ghosts D) (old mid new : D) (kept : Kept) (quiet : IsQuiet disk old mid) (has : ForTold (disk.seen old) (HasKept kept))

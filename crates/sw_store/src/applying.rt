@@ -24,14 +24,14 @@ use sw_data::{Entry, Event};
 use sw_disk::Disk;
 
 // The only entry.
-fn only(entries: Vec<Entry>) -> Entry
+fn only(mut entries: Vec<Entry>) -> Entry
     requires { (entry : entries_of.Entry) × (entries.items ≡ entry ∷ []) }
     ensures { entries.items ≡ result ∷ [] }
 {
-    for entry in entries {
-        return entry;
+    match entries.pop() {
+        Some(entry) => entry,
+        None => unreachable!(),
     }
-    unreachable!()
 }
 
 impl Store {

@@ -1,7 +1,8 @@
-use Rattle.std.proofs.Common.{◌≡◌, ◌+◌, [], ◌∷◌, Err, sym, ◌∙◌, ap, subst, arith}
+use Rattle.std.proofs.Common.{◌≡◌, ◌≤◌, ◌<◌, ◌+◌, refl, [], ◌∷◌, Err, sym, ◌∙◌, ap, subst, arith}
 use Rattle.sw_data.specs.declared.storage.Change.TheVariants as change
 use Rattle.sw_data.specs.declared.storage.Kept.{Kept}
 use Rattle.sw_journal.specs.declared.journal.AppendError.{AppendError}
+use Rattle.sw_journal.specs.Format.{format_2, needed_length}
 use Rattle.sw_kept.specs.Keeping.{KeepsNow}
 use Rattle.sw_store.proofs.Reopening.{keeps_with_room, restarted_spelled}
 use Rattle.sw_store.proofs.opening.note.Given.{Over}
@@ -44,3 +45,10 @@ returns-in-Err-Full-clause-full g c from needed is =
 pub returns-in-Err-DiskFault-clause-any_moment : goal.returns-in-Err-DiskFault-clause-any_moment
 returns-in-Err-DiskFault-clause-any_moment g c kept keeps =
     c.append.ensures.any_moment kept (change.Restarted ∷ []) restarted_spelled (keeps_still g (goal.at.returns-in-Err-DiskFault-clause-any_moment g c).After-append kept keeps)
+
+pub returns-in-Ok-clause-fits : goal.returns-in-Ok-clause-fits
+returns-in-Ok-clause-fits g c =
+    let before = c.reserve.new.self in
+    let next = c.in-Ok.ensures.next in
+    let within : before.journal.limit < before.journal.gate + 1 + needed_length format_2 1 → ⊥ = λ past. cc ((c.in-Ok.ensures.full (before.journal.gate + 1) (needed_length format_2 1)).1 (refl, refl, past)) in
+    omega (arith, within, ap (λ (t : TwinState). t.journal.gate) next, ap (λ (t : TwinState). t.journal.limit) next)

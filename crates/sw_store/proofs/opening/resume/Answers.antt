@@ -1,4 +1,4 @@
-use Rattle.std.proofs.Common.{◌≡◌, Err, sym, ◌∙◌, ap, subst}
+use Rattle.std.proofs.Common.{◌≡◌, ◌≤◌, Err, ℕ, List, length, sym, ◌∙◌, ap, subst, arith}
 use Rattle.sw_data.specs.declared.storage.Kept.{Kept}
 use Rattle.sw_disk.specs.DiskRule.{ForTold}
 use Rattle.sw_journal.specs.Journal.{Since}
@@ -25,3 +25,12 @@ returns-in-Err-clause-full g c from needed is =
     let told : c.unmade.result ≡ error.Full from needed = cc in
     subst (λ (t : TwinState). HasNoRoom g.D.Disk c.go_on.new.disk t.journal.limit from needed) c.in_ok-core.ensures.2
     (c.in-Err.ensures.full from needed (ap (λ (why : OpenError). Err why) (sym c.unmade.ensures ∙ told)))
+
+pub invariant_of-result : goal.invariant_of-result
+invariant_of-result g c =
+    let none = c.new.ensures.payload in
+    record {
+      format = c.in-Ok.ensures.format;
+      room = omega (arith, ap (λ (l : List ℕ). length l) none);
+      fits = λ some. absurd (some none);
+    }

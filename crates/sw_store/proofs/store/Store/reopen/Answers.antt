@@ -1,5 +1,5 @@
 use Rattle.std.proofs.Common.{ℕ, subst}
-use Rattle.sw_store.proofs.Reopening.{has_opened, is_unopened}
+use Rattle.sw_store.proofs.Reopening.{has_opened, is_unopened, not_opened}
 use Rattle.sw_store.proofs.store.Store.reopen.Goals as goal
 use Rattle.sw_store.specs.Opened.{HasNoRoom}
 
@@ -18,3 +18,8 @@ returns-in-Ok-clause-unopened g c =
 pub returns-in-Ok-clause-full : goal.returns-in-Ok-clause-full
 returns-in-Ok-clause-full g c from needed is =
     subst (λ (limit : ℕ). HasNoRoom g.D.Disk c.resume.new.disk limit from needed) c.in-Ok.ensures.place.1 (c.resume.ensures.full from needed is)
+
+pub returns-in-Err-clause-unopened : goal.returns-in-Err-clause-unopened
+returns-in-Err-clause-unopened g c =
+    let was = c.in-Err.ensures in
+    not_opened g.D.Disk c.args.disk.now c.open.new.disk was.quiet (λ past. was.first (λ is. past (was.fault is)))
