@@ -16,7 +16,7 @@ use Rattle.sw_host.specs.declared.statuses.Status.{Status}
 use Rattle.sw_host.specs.declared.statuses.Status.TheVariants as status
 use Rattle.sw_host.specs.Generating.{HasGenerated}
 use Rattle.sw_host.specs.Runs.{EndsAs, last_of}
-use Rattle.sw_host.specs.Texts.{bad_journal_text, refusal_text}
+use Rattle.sw_host.specs.Texts.{bad_journal_text, help_text, refusal_text, version_text}
 use Rattle.sw_journal.specs.Format.{format_of}
 use Rattle.sw_journal.specs.Init.{first_bytes}
 use Rattle.sw_journal.specs.Quiet.{IsQuiet}
@@ -143,6 +143,10 @@ Shows disk old new status.BadJournal text =
     × ForTold (disk.seen old) (λ image. stored image ≡ Bad offset)
 Shows disk old new _ text = ⊥
 
+-- own: a page on the program itself is printed
+abbrev pub IsPage : List ℕ → Status → List ℕ → Type 0
+IsPage page outcome text = (outcome ≡ status.Done) × (text ≡ page)
+
 -- own: statuses that stand only once the source was read to its end
 abbrev pub HasReadAll : Status → Type 0
 HasReadAll status.Done = Unit {0}
@@ -164,6 +168,8 @@ Stands disk old new left before now (command.Replay workers) outcome text =
 Stands disk old new left before now command.Show outcome text = Shows disk old new outcome text
 Stands disk old new left before now (command.Gen number size) outcome text =
     HasGenerated number size outcome text × (new ≡ old)
+Stands disk old new left before now command.Help outcome text = IsPage help_text outcome text × (new ≡ old)
+Stands disk old new left before now command.Version outcome text = IsPage version_text outcome text × (new ≡ old)
 Stands disk old new left before now command.Unknown outcome text =
     (outcome ≡ status.BadWords) × (text ≡ refusal_text status.BadWords) × (new ≡ old)
 
@@ -185,6 +191,8 @@ LeavesWithoutMemory disk old new left (command.Replay workers) =
     (new ≡ old) ⊎ ((bytes : List ℕ) × IsRead left bytes × LeavesAfterBytes disk old new workers bytes)
 LeavesWithoutMemory disk old new left command.Show = IsQuiet disk old new
 LeavesWithoutMemory disk old new left (command.Gen number size) = new ≡ old
+LeavesWithoutMemory disk old new left command.Help = new ≡ old
+LeavesWithoutMemory disk old new left command.Version = new ≡ old
 LeavesWithoutMemory disk old new left command.Unknown = new ≡ old
 
 -- own: the source's bytes are a recording, which so many workers ran on the disk to this end, and the text is the transcript of its

@@ -1,5 +1,6 @@
 -- The number of a status, and the text that a refusal prints.
 use Rattle.std.specs.Prelude.{ℕ, ◌++◌, List, [], codes, decimal}
+use Rattle.sw_host.specs.declared.pages.TheConstants.{HELP}
 use Rattle.sw_host.specs.declared.statuses.Status.{Status}
 use Rattle.sw_host.specs.declared.statuses.Status.TheVariants as status
 
@@ -34,3 +35,11 @@ refusal_text _ = []
 -- the text of a bad journal
 abbrev pub bad_journal_text : ℕ → List ℕ
 bad_journal_text offset = codes "error: bad journal at " ++ decimal offset ++ codes "\n"
+
+-- own: how the program is called
+abbrev pub help_text : List ℕ
+help_text = HELP.now
+
+-- own: the program's name and version
+abbrev pub version_text : List ℕ
+version_text = codes "swhost 1.0.0\n"

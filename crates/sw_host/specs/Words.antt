@@ -12,6 +12,8 @@ one_word word =
     if bytes_eq word (codes "init") then command.Init
     else if bytes_eq word (codes "replay") then command.Replay 1
     else if bytes_eq word (codes "show") then command.Show
+    else if bytes_eq word (codes "--help") then command.Help
+    else if bytes_eq word (codes "--version") then command.Version
     else command.Unknown
 
 -- the number below 2^32 that a word is, in decimal digits without leading zeros: that of its digits, where so it is written
@@ -53,6 +55,13 @@ command_of (word ∷ first ∷ second ∷ third ∷ rest) = command.Unknown
 abbrev pub is_replay : Command → Bool
 is_replay (command.Replay workers) = true
 is_replay _ = false
+
+-- own: the command reads the disk, or writes it
+abbrev pub needs_disk : Command → Bool
+needs_disk command.Init = true
+needs_disk (command.Replay workers) = true
+needs_disk command.Show = true
+needs_disk _ = false
 
 -- own: a command that runs a recording has from 1 to 16 workers, and one that generates it a size from 1 to 4096
 abbrev pub AreWithin : Command → Type 0

@@ -1,7 +1,7 @@
 //! The words.
 
 ghost use Rattle.std.specs.Prelude.{◌≡◌, ◌≤◌, IfSome};
-ghost use Rattle.sw_host.specs.Words.{AreWithin, command_of, number_of, number_within, one_word, three_words, two_words};
+ghost use Rattle.sw_host.specs.Words.{AreWithin, command_of, needs_disk, number_of, number_within, one_word, three_words, two_words};
 
 use itoa::Buffer;
 
@@ -16,6 +16,10 @@ pub enum Command {
     Show,
     /// Runs the generated recording of this number and size on a disk of its own.
     Gen(u32, u32),
+    /// Prints how the program is called.
+    Help,
+    /// Prints the program's name and version.
+    Version,
     /// No command.
     Unknown,
 }
@@ -65,6 +69,10 @@ fn one_word(word: &str) -> Command
         Command::Replay(1)
     } else if word == "show" {
         Command::Show
+    } else if word == "--help" {
+        Command::Help
+    } else if word == "--version" {
+        Command::Version
     } else {
         Command::Unknown
     }
@@ -109,4 +117,14 @@ pub(crate) fn command_of(words: &[String]) -> Command
         [word, number, size] => three_words(word.as_str(), number.as_str(), size.as_str()),
         _ => Command::Unknown,
     }
+}
+
+/// The words ask for the disk. Other words leave it as it is.
+pub fn needs_disk(words: &[String]) -> bool
+    ensures { result ≡ needs_disk (command_of words.now) }
+{
+    matches!(
+        command_of(words),
+        Command::Init | Command::Replay(_) | Command::Show
+    )
 }

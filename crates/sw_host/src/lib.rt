@@ -1,13 +1,15 @@
-//! The host: it formats a disk, runs a recording on it and prints the transcript, or prints what the disk keeps.
+//! The host: it formats a disk, runs a recording on it and prints the transcript, prints what the disk keeps, or how it is called.
 #![tactic(auto)]
 
 mod command;
 mod ending;
 mod generating;
+mod pages;
 mod report;
 mod statuses;
 mod storing;
 mod top;
 
+pub use command::needs_disk;
 pub use statuses::Status;
 pub use top::{Outcome, run};

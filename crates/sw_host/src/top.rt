@@ -6,13 +6,14 @@ ghost use Rattle.sw_data.specs.Faults.{Rose};
 ghost use Rattle.sw_data.specs.Streams.{AppendsPrefix, ConsumesSome};
 ghost use Rattle.sw_host.specs.declared.command.Command.TheVariants as command;
 ghost use Rattle.sw_host.specs.Stands.{HasEnded, HasReadAll, LeavesAfterBytes, LeavesWithoutMemory, Replays, ReplaysSource, Stands};
-ghost use Rattle.sw_host.specs.Words.{command_of, is_replay};
+ghost use Rattle.sw_host.specs.Words.{command_of, is_replay, needs_disk};
 ghost use Rattle.sw_lock.specs.declared.pass.Spent.{Spent};
 ghost use Rattle.sw_turns.specs.declared.ends.DriveEnd.TheVariants as drive_end;
 
 use crate::command::{Command, command_of};
 use crate::ending::run_to_end;
 use crate::generating::run_generated;
+use crate::pages::{help, version};
 use crate::report::{Report, refusal_of, refused};
 use crate::statuses::Status;
 use crate::storing::{format, show};
@@ -34,8 +35,8 @@ pub struct Outcome<D> {
 
 /// Does what the words say: `init` formats the disk; `replay` reads a recording from the source to its end, runs it on the
 /// disk by one worker, or by as many as the word behind it says, and writes the transcript to the sink; `show` writes what
-/// the disk keeps; `gen` writes what comes of a generated recording that one worker runs on a disk of its own, and leaves
-/// the disk alone.
+/// the disk keeps; `gen` writes what comes of a generated recording that one worker runs on a disk of its own; `--help`
+/// writes how the program is called, and `--version` its name and version. The last three leave the disk alone.
 ///
 /// Workers take turns under a lock, and pass the gate with what they fetch between their turns. Whatever their
 /// number, a run has one history, which holds the calls of each lane in order, each once; how the lanes follow one another
@@ -92,6 +93,9 @@ pub fn run<R: Threads + Wait + Sync, S: Source, K: Sink, D: Disk + Send, G: Gate
     ensures no_memory { result.status ≡ Status.NoMemory → Keeps (K.held sink.old) (K.held sink.new)
         × LeavesWithoutMemory D.Disk disk result.disk (S.left source.old) (command_of words.now) }
 
+    // Words that don't ask for the disk leave it as it was.
+    ensures alone { needs_disk (command_of words.now) ≡ false → result.disk ≡ disk }
+
     // Other words than `replay` leave the source as it was. It is read no further than its end, and to its end where a
     // recording is run.
     ensures untouched { is_replay (command_of words.now) ≡ false → source.new ≡ source.old }
@@ -125,6 +129,7 @@ fn run_on<R: Threads + Wait + Sync, S: Source, K: Sink, D: Disk + Send, G: Gate 
         × AppendsPrefix (K.held sink.old) (K.held sink.new) text) }
     ensures no_memory { result.status ≡ Status.NoMemory → Keeps (K.held sink.old) (K.held sink.new)
         × LeavesWithoutMemory D.Disk disk result.disk (S.left source.old) (command_of words.now) }
+    ensures alone { needs_disk (command_of words.now) ≡ false → result.disk ≡ disk }
     ensures untouched { is_replay (command_of words.now) ≡ false → source.new ≡ source.old }
     ensures reads { S.reads source.new ≤ S.reads source.old + (RECORDING_LIMIT + 2) }
     ensures consumed { is_replay (command_of words.now) ≡ true
@@ -160,6 +165,7 @@ fn report_of<R: Threads + Wait + Sync, S: Source, D: Disk + Send, G: Gate + Sync
         report.text) }
     ensures no_memory { OnErr result.0 (LeavesWithoutMemory D.Disk disk result.1
         (S.left source.old) (command_of words.now)) }
+    ensures alone { needs_disk (command_of words.now) ≡ false → result.1 ≡ disk }
     ensures untouched { is_replay (command_of words.now) ≡ false → source.new ≡ source.old }
     ensures reads { S.reads source.new ≤ S.reads source.old + (RECORDING_LIMIT + 2) }
     ensures consumed { is_replay (command_of words.now) ≡ true
@@ -172,6 +178,8 @@ fn report_of<R: Threads + Wait + Sync, S: Source, D: Disk + Send, G: Gate + Sync
         Command::Replay(workers) => read(rt, alloc, source, workers, disk, gate),
         Command::Show => (show(alloc, &mut disk), disk),
         Command::Gen(number, size) => (run_generated(rt, alloc, number, size), disk),
+        Command::Help => (help(alloc), disk),
+        Command::Version => (version(alloc), disk),
         Command::Unknown => (refused(alloc, Status::BadWords), disk),
     }
 }

@@ -2,28 +2,35 @@
 //! disk is three files of the current folder.
 #![tactic(auto)]
 
-ghost use Rattle.std.specs.Prelude.{◌≡◌, ◌≢◌, ◌+◌, ◌≤◌, ℕ, List, true, false};
+ghost use Rattle.std.specs.Prelude.{◌≡◌, ◌≢◌, ◌+◌, ◌≤◌, ℕ, List, [], drop, true, false, IfErr, IfOk, IsErr, IsOkAnd};
 ghost use Rattle.std.specs.Io.KnownBytes.{Appends, IsAtEnd, Keeps};
+ghost use Rattle.std.specs.IoError.{error_kind};
 ghost use Rattle.std.specs.Process.{exit_status};
+ghost use Rattle.std.specs.Vec.Iter.{into_iter_items};
 ghost use Rattle.sw_data.specs.Faults.{Rose};
 ghost use Rattle.sw_data.specs.Streams.{AppendsPrefix, ConsumesSome};
+ghost use Rattle.sw_disk.specs.Files.{has_file};
+ghost use Rattle.sw_disk.specs.declared.part.Part.{Part};
 ghost use Rattle.sw_forms.specs.declared.limits.TheConstants.{RECORDING_LIMIT};
 ghost use Rattle.sw_host.specs.declared.command.Command.TheVariants as command;
 ghost use Rattle.sw_host.specs.declared.statuses.Status.{Status};
 ghost use Rattle.sw_host.specs.Stands.{HasEnded, HasReadAll, LeavesWithoutMemory, Stands};
 ghost use Rattle.sw_host.specs.Texts.{code_of};
-ghost use Rattle.sw_host.specs.Words.{command_of, is_replay};
+ghost use Rattle.sw_host.specs.Words.{command_of, is_replay, needs_disk};
 ghost use Rattle.sw_lock.specs.declared.pass.Spent.{Spent};
 ghost use Rattle.sw_turns.specs.declared.ends.DriveEnd.TheVariants as drive_end;
 
 use std::alloc::Global;
-use std::env;
+use std::env::{Args, args};
 use std::fs::{File, OpenOptions};
+use std::io;
+use std::io::ErrorKind;
 use std::process::ExitCode;
 use std::sync::Wait;
 use std::thread::Threads;
+use sw_data::NoMemory;
 use sw_disk::{Disk, FileDisk};
-use sw_host::{Status, run};
+use sw_host::{Status, needs_disk, run};
 use sw_io::{Sink, Source, StdSink, StdSource};
 use sw_net::{Gate, NoGate};
 
@@ -79,6 +86,38 @@ fn ended<R: Threads + Wait + Sync, S: Source, K: Sink, D: Disk + Send, G: Gate +
     (ExitCode::from(outcome.status.code()), outcome.disk)
 }
 
+// The words behind the program's name.
+fn behind_first(alloc: Global, mut arguments: Args) -> Result<Vec<String>, NoMemory>
+    ensures { IfOk result (λ words. words.items ≡ drop 1 (into_iter_items arguments)) }
+{
+    let mut words = Vec::new(alloc);
+    let _ = arguments.next();
+    for word in arguments {
+        words.push(word)?;
+    }
+    Ok(words)
+}
+
+// The words that the arguments are. Where one isn't UTF-8 there are none.
+fn words_of(alloc: Global, arguments: io::Result<Args>) -> Result<Vec<String>, NoMemory>
+    ensures words { IfOk arguments (λ all.
+        IfOk result (λ words. words.items ≡ drop 1 (into_iter_items all))) }
+    ensures no_words { IfErr arguments (λ why. error_kind why ≢ ErrorKind.OutOfMemory
+        → IsOkAnd result (λ words. words.items ≡ [])) }
+    ensures no_memory { IfErr arguments (λ why. error_kind why ≡ ErrorKind.OutOfMemory
+        → IsErr result) }
+{
+    match arguments {
+        Ok(arguments) => behind_first(alloc, arguments),
+        Err(why) => {
+            if why.kind() == ErrorKind::OutOfMemory {
+                return Err(NoMemory);
+            }
+            Ok(Vec::new(alloc))
+        }
+    }
+}
+
 // A file of the current folder, which is made where there is none.
 fn file(rt: &HostRuntime, name: &str) -> Option<File> {
     let mut options = OpenOptions::new();
@@ -88,22 +127,28 @@ fn file(rt: &HostRuntime, name: &str) -> Option<File> {
     options.open(rt, name).ok()
 }
 
+// The disk of the current folder; one without files where the words don't ask for it.
+fn disk_for(rt: &HostRuntime, words: &[String]) -> FileDisk
+    ensures { needs_disk (command_of words.now) ≡ false
+        → (part : Part) → has_file part result ≡ false }
+{
+    if !needs_disk(words) {
+        return FileDisk::new(None, None, None);
+    }
+    FileDisk::new(
+        file(rt, "swhost.root"),
+        file(rt, "swhost.left"),
+        file(rt, "swhost.right"),
+    )
+}
+
 fn main(rt: HostRuntime) -> ExitCode {
     let alloc = rt.alloc();
-    let mut words = Vec::new(alloc);
-    if let Ok(arguments) = env::args(&rt) {
-        for word in arguments.skip(1) {
-            if words.push(word).is_err() {
-                return ExitCode::from(Status::NoMemory.code());
-            }
-        }
-    }
+    let Ok(words) = words_of(alloc, args(&rt)) else {
+        return ExitCode::from(Status::NoMemory.code());
+    };
     let mut source = StdSource::new(rt.stdin());
     let mut sink = StdSink::new(rt.stdout());
-    let disk = FileDisk::new(
-        file(&rt, "swhost.root"),
-        file(&rt, "swhost.left"),
-        file(&rt, "swhost.right"),
-    );
+    let disk = disk_for(&rt, &words);
     ended(&rt, alloc, &words, &mut source, &mut sink, disk, &NoGate).0
 }
