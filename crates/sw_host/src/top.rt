@@ -1,12 +1,13 @@
 //! The top call: words, a source, a sink, a disk and a gate.
 
 ghost use Rattle.std.specs.Prelude.{◌≡◌, ◌≢◌, ◌+◌, ◌≤◌, ℕ, List, true, false, IfOk, OnErr};
-ghost use Rattle.std.specs.Io.KnownBytes.{Appends, IsAtEnd, Keeps};
+ghost use Rattle.std.specs.Io.KnownBytes.{IsAtEnd};
 ghost use Rattle.sw_data.specs.Faults.{Rose};
-ghost use Rattle.sw_data.specs.Streams.{AppendsPrefix, ConsumesSome};
+ghost use Rattle.sw_data.specs.Streams.{ConsumesSome};
 ghost use Rattle.sw_host.specs.declared.command.Command.TheVariants as command;
 ghost use Rattle.sw_host.specs.Stands.{HasEnded, HasReadAll, LeavesAfterBytes, LeavesWithoutMemory, Replays, ReplaysSource, Stands};
 ghost use Rattle.sw_host.specs.Words.{command_of, is_replay, needs_disk};
+ghost use Rattle.sw_io.specs.Taking.{Takes, TakesNothing, TakesPrefix};
 ghost use Rattle.sw_lock.specs.declared.pass.Spent.{Spent};
 ghost use Rattle.sw_turns.specs.declared.ends.DriveEnd.TheVariants as drive_end;
 
@@ -53,7 +54,7 @@ pub fn run<R: Threads + Wait + Sync, S: Source, K: Sink, D: Disk + Send, G: Gate
     disk: D,
     gate: &G,
 ) -> Outcome<D>
-    // The sink took exactly the transcript of one history of the recording that the source's bytes are: legal from what the
+    // The sink took, told or not, exactly the transcript of one history of the recording that the source's bytes are: legal from what the
     // disk kept, following the recording, complete, and controlled; with one worker it is in the pick order, and with
     // more the calls of each lane stand in it in their order, each once. A crash at any moment leaves a disk that keeps
     // what a prefix of this history made, one that holds every entry that was acknowledged by then; and what the disk
@@ -61,36 +62,36 @@ pub fn run<R: Threads + Wait + Sync, S: Source, K: Sink, D: Disk + Send, G: Gate
     ensures done { result.status ≡ Status.Done
         → (workers : ℕ) → command_of words.now ≡ command.Replay workers → (text : List ℕ)
         × HasEnded D.Disk disk result.disk workers (S.left source.old) drive_end.Done text
-        × Appends (K.held sink.old) (K.held sink.new) text }
+        × Takes K.Sink sink.old sink.new text }
 
     // The same of a run after which nothing may happen, and a lane has actions left.
     ensures stalled { result.status ≡ Status.Stalled
         → (workers : ℕ) → command_of words.now ≡ command.Replay workers
         → (text : List ℕ) × (lane : ℕ)
         × HasEnded D.Disk disk result.disk workers (S.left source.old) (drive_end.Stalled lane) text
-        × Appends (K.held sink.old) (K.held sink.new) text }
+        × Takes K.Sink sink.old sink.new text }
 
     // The same, but for the end that the recording has come to and what the disk keeps then, of a run in which a worker has
     // made all the turns that a worker makes: the status holds what only its pass hands out.
     ensures spent { (spent : Spent) → result.status ≡ Status.Spent spent
         → (workers : ℕ) → command_of words.now ≡ command.Replay workers → (text : List ℕ)
         × HasEnded D.Disk disk result.disk workers (S.left source.old) (drive_end.Spent spent) text
-        × Appends (K.held sink.old) (K.held sink.new) text }
+        × Takes K.Sink sink.old sink.new text }
 
     // Each other status has its cause, and its text was written.
     ensures stands { result.status ≢ Status.NoMemory → result.status ≢ Status.WriteFault
         → (text : List ℕ) × Stands D.Disk disk result.disk (S.left source.old)
         (S.faults source.old) (S.faults source.new) (command_of words.now) result.status text
-        × Appends (K.held sink.old) (K.held sink.new) text }
+        × Takes K.Sink sink.old sink.new text }
 
     // The sink failed, and took a first part of the text that stood.
     ensures write_fault { result.status ≡ Status.WriteFault
         → Rose (K.faults sink.old) (K.faults sink.new)
         × ((status : Status) × (text : List ℕ) × Stands D.Disk disk result.disk (S.left source.old)
         (S.faults source.old) (S.faults source.new) (command_of words.now) status text
-        × AppendsPrefix (K.held sink.old) (K.held sink.new) text) }
+        × TakesPrefix K.Sink sink.old sink.new text) }
 
-    ensures no_memory { result.status ≡ Status.NoMemory → Keeps (K.held sink.old) (K.held sink.new)
+    ensures no_memory { result.status ≡ Status.NoMemory → TakesNothing K.Sink sink.old sink.new
         × LeavesWithoutMemory D.Disk disk result.disk (S.left source.old) (command_of words.now) }
 
     // Words that don't ask for the disk leave it as it was.
@@ -121,13 +122,13 @@ fn run_on<R: Threads + Wait + Sync, S: Source, K: Sink, D: Disk + Send, G: Gate 
     ensures stands { result.status ≢ Status.NoMemory → result.status ≢ Status.WriteFault
         → (text : List ℕ) × Stands D.Disk disk result.disk (S.left source.old)
         (S.faults source.old) (S.faults source.new) (command_of words.now) result.status text
-        × Appends (K.held sink.old) (K.held sink.new) text }
+        × Takes K.Sink sink.old sink.new text }
     ensures write_fault { result.status ≡ Status.WriteFault
         → Rose (K.faults sink.old) (K.faults sink.new)
         × ((status : Status) × (text : List ℕ) × Stands D.Disk disk result.disk (S.left source.old)
         (S.faults source.old) (S.faults source.new) (command_of words.now) status text
-        × AppendsPrefix (K.held sink.old) (K.held sink.new) text) }
-    ensures no_memory { result.status ≡ Status.NoMemory → Keeps (K.held sink.old) (K.held sink.new)
+        × TakesPrefix K.Sink sink.old sink.new text) }
+    ensures no_memory { result.status ≡ Status.NoMemory → TakesNothing K.Sink sink.old sink.new
         × LeavesWithoutMemory D.Disk disk result.disk (S.left source.old) (command_of words.now) }
     ensures alone { needs_disk (command_of words.now) ≡ false → result.disk ≡ disk }
     ensures untouched { is_replay (command_of words.now) ≡ false → source.new ≡ source.old }

@@ -3,6 +3,7 @@
 //! A source or a sink may tell its bytes, as one in memory does, or tell nothing, as standard input does.
 #![tactic(auto)]
 
+pub mod handed;
 pub mod memory;
 pub mod never;
 mod remaining;
@@ -11,6 +12,7 @@ pub mod source;
 pub mod standard;
 pub mod whole;
 
+pub use handed::Trace;
 pub use memory::sink::MemorySink;
 pub use memory::source::MemorySource;
 pub use never::{NeverSink, NeverSource};

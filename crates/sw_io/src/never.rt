@@ -1,10 +1,11 @@
 //! A source and a sink that never fail.
 
-ghost use Rattle.std.specs.Prelude.{◌≡◌, min, length, IfOk, IsOk, Some, None};
+ghost use Rattle.std.specs.Prelude.{◌≡◌, ◌++◌, [], min, length, IfOk, IsOk, Some, None};
 ghost use Rattle.std.specs.Io.{ReadsAtMost};
 ghost use Rattle.std.specs.Io.KnownBytes.{ReadConsumes};
 ghost use Rattle.sw_io.specs.Memory.{counted};
 
+use super::handed::Trace;
 use super::remaining::Remaining;
 use super::sink::Sink;
 use super::source::Source;
@@ -62,26 +63,35 @@ impl Source for NeverSource {
 }
 
 /// A sink that takes all and keeps nothing, whose count of faults is always 0.
-#[derive(Debug, Clone, Copy)]
-pub struct NeverSink;
+#[derive(Drop)]
+pub struct NeverSink {
+    handed: Trace<u8>,
+}
 
 impl NeverSink {
     /// A sink that keeps nothing.
     pub fn new() -> NeverSink
-        ensures { ⟦<NeverSink as Sink>⟧.faults result ≡ 0 }
+        ensures faults { ⟦<NeverSink as Sink>⟧.faults result ≡ 0 }
+        ensures handed { ⟦<NeverSink as Sink>⟧.handed result ≡ [] }
     {
-        NeverSink
+        NeverSink {
+            handed: Trace::new(),
+        }
     }
 }
 
 impl Sink for NeverSink {
     ghost held = { λ _. None };
 
+    ghost handed = { λ s. s.handed.items };
+
     ghost faults = { λ _. 0 };
 
     fn write(&mut self, piece: &[u8]) -> Result<usize, Failed>
-        ensures { result ≡ Ok (length piece.now) }
+        ensures whole { result ≡ Ok (length piece.now) }
+        ensures taken { self.new.handed.items ≡ self.old.handed.items ++ piece.now }
     {
+        self.handed.note(piece);
         Ok(piece.len())
     }
 

@@ -2,8 +2,9 @@
 //!
 //! They tell their bytes where the reader or the writer does, and those of std over a file or a stream tell none.
 
-ghost use Rattle.std.specs.Prelude.{◌≡◌};
+ghost use Rattle.std.specs.Prelude.{◌≡◌, []};
 
+use super::handed::Trace;
 use super::sink::Sink;
 use super::source::Source;
 use std::io::{Read, Write};
@@ -59,6 +60,7 @@ impl<B: Read + Drop> Source for StdSource<B> {
 #[derive(Drop)]
 pub struct StdSink<W: Write + Drop> {
     output: W,
+    handed: Trace<u8>,
     faults: u64,
 }
 
@@ -66,20 +68,30 @@ impl<W: Write + Drop> StdSink<W> {
     /// A sink over `output`, whose count of faults is 0.
     pub fn new(output: W) -> StdSink<W>
         ensures held { ⟦<StdSink<W> as Sink>⟧.held result ≡ W.contents output }
+        ensures handed { ⟦<StdSink<W> as Sink>⟧.handed result ≡ [] }
         ensures faults { ⟦<StdSink<W> as Sink>⟧.faults result ≡ 0 }
     {
-        StdSink { output, faults: 0 }
+        StdSink {
+            output,
+            handed: Trace::new(),
+            faults: 0,
+        }
     }
 }
 
 impl<W: Write + Drop> Sink for StdSink<W> {
     ghost held = { λ s. W.contents s.output };
 
+    ghost handed = { λ s. s.handed.items };
+
     ghost faults = { λ s. s.faults };
 
     fn write(&mut self, piece: &[u8]) -> Result<usize, Failed> {
         match self.output.write(piece) {
-            Ok(count) if count > 0 || piece.is_empty() => Ok(count),
+            Ok(count) if count > 0 || piece.is_empty() => {
+                self.handed.note(piece.split_at(count).0);
+                Ok(count)
+            }
             _ => {
                 self.faults = self.faults.saturating_add(1);
                 Err(Failed)

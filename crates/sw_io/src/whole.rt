@@ -1,9 +1,10 @@
 //! Reading all that a source has, and writing all of some bytes.
 
-ghost use Rattle.std.specs.Prelude.{◌≡◌, ◌+◌, ◌<◌, ◌≤◌, List, ℕ, length, IfOk, OnOk, OnErr, IsErrOf};
-ghost use Rattle.std.specs.Io.KnownBytes.{Appends, IsAtEnd};
-ghost use Rattle.sw_data.specs.Streams.{AppendsPrefix, ConsumesSome, Tells};
+ghost use Rattle.std.specs.Prelude.{◌≡◌, ◌+◌, ◌<◌, ◌≤◌, ◌++◌, List, ℕ, length, IfOk, OnOk, OnErr, IsErrOf};
+ghost use Rattle.std.specs.Io.KnownBytes.{IsAtEnd};
+ghost use Rattle.sw_data.specs.Streams.{ConsumesSome, Tells};
 ghost use Rattle.sw_data.specs.Faults.{Rose};
+ghost use Rattle.sw_io.specs.Taking.{Takes, TakesPrefix};
 ghost use Rattle.sw_io.specs.declared.whole.ReadAllError.TheVariants.{ReadFault, NoMemory};
 
 use super::sink::Sink;
@@ -78,8 +79,8 @@ pub fn read_all<S: Source>(alloc: Global, source: &mut S, limit: u64) -> Result<
 
 /// Writes all of `bytes`, in as many pieces as the sink takes them in.
 pub fn write_all<K: Sink>(sink: &mut K, bytes: &[u8]) -> Result<(), Failed>
-    ensures ok { OnOk result (Appends (K.held sink.old) (K.held sink.new) bytes.now) }
-    ensures prefix { OnErr result (AppendsPrefix (K.held sink.old) (K.held sink.new) bytes.now) }
+    ensures ok { OnOk result (Takes K.Sink sink.old sink.new bytes.now) }
+    ensures prefix { OnErr result (TakesPrefix K.Sink sink.old sink.new bytes.now) }
     ensures failed { OnErr result (Rose (K.faults sink.old) (K.faults sink.new)) }
     ensures count { K.faults sink.old ≤ K.faults sink.new }
 {

@@ -3,12 +3,12 @@
 #![tactic(auto)]
 
 ghost use Rattle.std.specs.Prelude.{◌≡◌, ◌≢◌, ◌+◌, ◌≤◌, ℕ, List, [], drop, true, false, IfErr, IfOk, IsErr, IsOkAnd};
-ghost use Rattle.std.specs.Io.KnownBytes.{Appends, IsAtEnd, Keeps};
+ghost use Rattle.std.specs.Io.KnownBytes.{IsAtEnd};
 ghost use Rattle.std.specs.IoError.{error_kind};
 ghost use Rattle.std.specs.Process.{exit_status};
 ghost use Rattle.std.specs.Vec.Iter.{into_iter_items};
 ghost use Rattle.sw_data.specs.Faults.{Rose};
-ghost use Rattle.sw_data.specs.Streams.{AppendsPrefix, ConsumesSome};
+ghost use Rattle.sw_data.specs.Streams.{ConsumesSome};
 ghost use Rattle.sw_disk.specs.Files.{has_file};
 ghost use Rattle.sw_disk.specs.declared.part.Part.{Part};
 ghost use Rattle.sw_forms.specs.declared.limits.TheConstants.{RECORDING_LIMIT};
@@ -17,6 +17,7 @@ ghost use Rattle.sw_host.specs.declared.statuses.Status.{Status};
 ghost use Rattle.sw_host.specs.Stands.{HasEnded, HasReadAll, LeavesWithoutMemory, Stands};
 ghost use Rattle.sw_host.specs.Texts.{code_of};
 ghost use Rattle.sw_host.specs.Words.{command_of, is_replay, needs_disk};
+ghost use Rattle.sw_io.specs.Taking.{Takes, TakesNothing, TakesPrefix};
 ghost use Rattle.sw_lock.specs.declared.pass.Spent.{Spent};
 ghost use Rattle.sw_turns.specs.declared.ends.DriveEnd.TheVariants as drive_end;
 
@@ -47,30 +48,30 @@ fn ended<R: Threads + Wait + Sync, S: Source, K: Sink, D: Disk + Send, G: Gate +
     ensures done { exit_status result.0 ≡ 0
         → (workers : ℕ) → command_of words.now ≡ command.Replay workers → (text : List ℕ)
         × HasEnded D.Disk disk result.1 workers (S.left source.old) drive_end.Done text
-        × Appends (K.held sink.old) (K.held sink.new) text }
+        × Takes K.Sink sink.old sink.new text }
     ensures stalled { exit_status result.0 ≡ 9
         → (workers : ℕ) → command_of words.now ≡ command.Replay workers
         → (text : List ℕ) × (lane : ℕ)
         × HasEnded D.Disk disk result.1 workers (S.left source.old) (drive_end.Stalled lane) text
-        × Appends (K.held sink.old) (K.held sink.new) text }
+        × Takes K.Sink sink.old sink.new text }
     ensures spent { exit_status result.0 ≡ 13
         → (workers : ℕ) → command_of words.now ≡ command.Replay workers
         → (text : List ℕ) × (spent : Spent)
         × HasEnded D.Disk disk result.1 workers (S.left source.old) (drive_end.Spent spent) text
-        × Appends (K.held sink.old) (K.held sink.new) text }
+        × Takes K.Sink sink.old sink.new text }
 
     // The exit status is the number of a status, which has its cause.
     ensures stands { exit_status result.0 ≢ 1 → exit_status result.0 ≢ 5
         → (outcome : Status) × (exit_status result.0 ≡ code_of outcome)
         × ((text : List ℕ) × Stands D.Disk disk result.1 (S.left source.old)
         (S.faults source.old) (S.faults source.new) (command_of words.now) outcome text
-        × Appends (K.held sink.old) (K.held sink.new) text) }
+        × Takes K.Sink sink.old sink.new text) }
     ensures write_fault { exit_status result.0 ≡ 5
         → Rose (K.faults sink.old) (K.faults sink.new)
         × ((status : Status) × (text : List ℕ) × Stands D.Disk disk result.1 (S.left source.old)
         (S.faults source.old) (S.faults source.new) (command_of words.now) status text
-        × AppendsPrefix (K.held sink.old) (K.held sink.new) text) }
-    ensures no_memory { exit_status result.0 ≡ 1 → Keeps (K.held sink.old) (K.held sink.new)
+        × TakesPrefix K.Sink sink.old sink.new text) }
+    ensures no_memory { exit_status result.0 ≡ 1 → TakesNothing K.Sink sink.old sink.new
         × LeavesWithoutMemory D.Disk disk result.1 (S.left source.old) (command_of words.now) }
 
     // What it reads.

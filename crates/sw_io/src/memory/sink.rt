@@ -56,6 +56,8 @@ impl MemorySink {
 impl Sink for MemorySink {
     ghost held = { λ s. Some s.held };
 
+    ghost handed = { λ s. s.held };
+
     ghost faults = { λ s. s.faults };
 
     /// A write also fails where there is no memory for the piece.

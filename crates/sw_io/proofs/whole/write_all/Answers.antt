@@ -14,7 +14,13 @@ loop-rest-preserved g c =
       taken = (
         front ++ take c.in_ok-taken.taken c.loop-rest.rest.now,
         rw c.split_at.ensures.back (split_later _ front c.loop-rest.rest.now c.in_ok-taken.taken is),
-        Appends-trans _ _ _ _ _ had c.in_ok-taken.ensures.bytes,
+        record {
+          held = Appends-trans _ _ _ _ _ had.held c.in_ok-taken.ensures.bytes;
+          handed =
+              c.in_ok-taken.ensures.taken
+              ∙ ap (λ (all : List ℕ). all ++ take c.in_ok-taken.taken c.loop-rest.rest.now) had.handed
+              ∙ append_assoc _ front (take c.in_ok-taken.taken c.loop-rest.rest.now);
+        },
       );
       count = omega (arith, c.in_ok-taken.ensures.count);
     }

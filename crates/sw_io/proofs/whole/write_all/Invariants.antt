@@ -1,11 +1,11 @@
 use Rattle.std.proofs.Common.{◌≡◌, ◌≤◌, ◌++◌, List, ℕ, length}
-use Rattle.std.specs.Io.KnownBytes.{Appends}
+use Rattle.sw_io.specs.Taking.{Takes}
 use Rattle.sw_io.proofs.whole.write_all.Given as goal
 
--- the sink has what stands before the rest
+-- the sink has taken what stands before the rest
 abbrev pub invariant-loop-rest : goal.invariant-loop-rest
 invariant-loop-rest g l = record {
-  taken : (front : List ℕ) × (l.bytes ≡ front ++ l.rest) × Appends (g.K.Sink.held l.initial.sink) (g.K.Sink.held l.sink) front;
+  taken : (front : List ℕ) × (l.bytes ≡ front ++ l.rest) × Takes g.K.Sink l.initial.sink l.sink front;
   count : g.K.Sink.faults l.initial.sink ≤ g.K.Sink.faults l.sink;
 }
 
