@@ -1,5 +1,5 @@
 -- What a run comes to before writing: when each status stands, with which text, and what it has done to the disk.
-use Rattle.std.specs.Prelude.{◌≡◌, ◌⊎◌, ◌≤◌, ◌<◌, ◌^◌, ℕ, List, length, codes, IsSome, Option, Result, Ok, Err}
+use Rattle.std.specs.Prelude.{◌≡◌, ◌⊎◌, ◌+◌, ◌≤◌, ◌<◌, ◌^◌, ℕ, List, length, codes, IsSome, Option, Result, Ok, Err}
 use Rattle.sw_data.specs.declared.histories.Entry.{Entry}
 use Rattle.sw_data.specs.declared.recordings.Recording.{Recording}
 use Rattle.sw_data.specs.declared.storage.Kept.{Kept}
@@ -8,7 +8,7 @@ use Rattle.sw_data.specs.Streams.{Tells}
 use Rattle.sw_disk.specs.declared.disk.Disk.{Ghosts}
 use Rattle.sw_disk.specs.DiskRule.{ForTold, written}
 use Rattle.sw_disk.specs.Image.{get, put}
-use Rattle.sw_disk.specs.Meanings.{Becomes, IsDurable}
+use Rattle.sw_disk.specs.Meanings.{Becomes, IsDurable, LeavesSteps}
 use Rattle.sw_host.specs.declared.command.Command.{Command}
 use Rattle.sw_host.specs.declared.command.Command.TheVariants as command
 use Rattle.sw_host.specs.declared.report.Report.{Report}
@@ -18,7 +18,7 @@ use Rattle.sw_host.specs.Generating.{HasGenerated}
 use Rattle.sw_host.specs.Runs.{EndsAs, last_of}
 use Rattle.sw_host.specs.Texts.{bad_journal_text, help_text, refusal_text, version_text}
 use Rattle.sw_journal.specs.Format.{format_of}
-use Rattle.sw_journal.specs.Init.{first_bytes}
+use Rattle.sw_journal.specs.Init.{FromSecondCall, first_bytes}
 use Rattle.sw_journal.specs.Quiet.{IsQuiet}
 use Rattle.sw_kept.specs.Stored.{Bad, HasKept, Unformatted, stored}
 use Rattle.sw_turns.specs.Ends.{Ended}
@@ -34,7 +34,8 @@ use Rattle.sw_rules.specs.Storage.{nothing}
 use Rattle.sw_store.specs.declared.errors.OpenError.{OpenError}
 use Rattle.sw_store.specs.declared.errors.OpenError.TheVariants as open_error
 use Rattle.sw_store.specs.Opened.{HasNoRoom, IsUnopened}
-use Rattle.sw_twin.specs.Current.{current}
+use Rattle.sw_twin.specs.Current.{current, leading_ones}
+use Rattle.sw_twin.specs.Init.{IsBegunIn, StandsForNone}
 
 -- ---- a disk that is not opened
 
@@ -120,6 +121,13 @@ abbrev pub IsLeftAlone : {D : Type 0} → Ghosts D → (old new : D) → Type 0
 IsLeftAlone disk old new =
     ForTold (disk.seen old) (λ image. IsSome (format_of (get (current image) image)) → IsQuiet disk old new)
 
+-- own: what a crash leaves while a disk is formatted, whatever comes of that: at every moment the current part with its first
+-- bytes torn, or without a record, and the other parts as it might have left them before; and from the first sync that doesn't fail
+-- on no record
+pub record LeavesOthers {D : Type 0} (disk : Ghosts D) (old new : D) : Type 0 where
+  pub any_moment : LeavesSteps disk old new IsBegunIn
+  pub synced : ForTold (disk.seen old) (λ image. FromSecondCall disk (leading_ones image.root + 17) old new StandsForNone)
+
 -- own: the disk is formatted with this status and text
 abbrev pub Formats : {D : Type 0} → Ghosts D → (old new : D) → Status → List ℕ → Type 0
 Formats disk old new status.Done text = (text ≡ codes "formatted\n") × IsFormatted disk old new
@@ -162,7 +170,7 @@ HasReadAll _ = ⊥
 -- before writing, this status stands with this text: the source had these bytes left, its count of faults went from before to
 -- now, and the disk went from old to new
 abbrev pub Stands : {D : Type 0} → Ghosts D → (old new : D) → Option (List ℕ) → (before now : ℕ) → Command → Status → List ℕ → Type 0
-Stands disk old new left before now command.Init outcome text = Formats disk old new outcome text
+Stands disk old new left before now command.Init outcome text = Formats disk old new outcome text × LeavesOthers disk old new
 Stands disk old new left before now (command.Replay workers) outcome text =
     ReplaysSource disk old new workers left before now outcome text
 Stands disk old new left before now command.Show outcome text = Shows disk old new outcome text
@@ -186,7 +194,7 @@ LeavesAfterBytes disk old new workers bytes =
 
 -- own: what is left of the disk where there was no memory
 abbrev pub LeavesWithoutMemory : {D : Type 0} → Ghosts D → (old new : D) → Option (List ℕ) → Command → Type 0
-LeavesWithoutMemory disk old new left command.Init = IsLeftAlone disk old new
+LeavesWithoutMemory disk old new left command.Init = IsLeftAlone disk old new × LeavesOthers disk old new
 LeavesWithoutMemory disk old new left (command.Replay workers) =
     (new ≡ old) ⊎ ((bytes : List ℕ) × IsRead left bytes × LeavesAfterBytes disk old new workers bytes)
 LeavesWithoutMemory disk old new left command.Show = IsQuiet disk old new

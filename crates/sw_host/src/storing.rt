@@ -1,7 +1,7 @@
 //! The commands on the disk alone.
 
 ghost use Rattle.std.specs.Prelude.{◌≡◌, IfOk, OnErr};
-ghost use Rattle.sw_host.specs.Stands.{Formats, IsLeftAlone, Shows};
+ghost use Rattle.sw_host.specs.Stands.{Formats, IsLeftAlone, LeavesOthers, Shows};
 ghost use Rattle.sw_journal.specs.Quiet.{IsQuiet};
 ghost use Rattle.sw_print.specs.Showing.{shown};
 
@@ -23,6 +23,7 @@ pub(crate) fn format<D: Disk>(alloc: Global, disk: &mut D) -> Result<Report, NoM
     ensures formats { IfOk result (λ report.
         Formats D.Disk disk.old disk.new report.status report.text) }
     ensures alone { OnErr result (IsLeftAlone D.Disk disk.old disk.new) }
+    ensures others { LeavesOthers D.Disk disk.old disk.new }
 {
     match init(disk) {
         Ok(()) => Ok(Report {
