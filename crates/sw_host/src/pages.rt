@@ -46,7 +46,7 @@ Example:
   $ swhost replay < first.jsonl
   - restarted -> 0 registrations 0 caches
   L0.0 cacheOpen -> made
-  L0.1 match -> undefined
+  L0.1 match -> none
   end done
   $ swhost show
   registrations 0
