@@ -58,7 +58,7 @@ pub fn run<R: Threads + Wait + Sync, S: Source, K: Sink, D: Disk + Send, G: Gate
     // from what the disk kept, following the recording, complete, and controlled; with one worker it is in the pick order,
     // and with more the calls of each lane stand in it in their order, each once. A crash at any moment leaves a disk that
     // keeps what a prefix of this history made, one that holds every entry that was acknowledged by then; and what the disk
-    // keeps at the end is the durable part of the last state.
+    // keeps at the end is the durable part of the state after the history.
     ensures done { result.status ≡ Status.Done
         → (workers : ℕ) → command_of words.now ≡ command.Replay workers → (text : List ℕ)
         × HasEnded D.Disk disk result.disk workers (S.left source.old) drive_end.Done text
