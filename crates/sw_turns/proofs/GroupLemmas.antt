@@ -265,26 +265,6 @@ module _ (stopped : Stop) (why : Refusal) (is : stopped ≡ stop_by why) where
         each (refusal.Full kept from needed) stays = stays
         each refusal.NoMemory stays = (lanes, stays)
 
-  module _ (room : (kept : Event) → why ≡ refusal.NoRoom kept → ⊥) where
-    -- an action that was refused for good
-    pub stop_loses : (before lanes : List Left) → KeepsLanes stopped before lanes
-    stop_loses before lanes = by_why (λ s. KeepsLanes s before lanes) (each why room)
-      where
-        each : (why : Refusal) → ((kept : Event) → why ≡ refusal.NoRoom kept → ⊥) → KeepsLanes (stop_by why) before lanes
-        each (refusal.NoRoom kept) room = absurd (room kept refl)
-        each (refusal.Full kept from needed) room = tt
-        each refusal.NoMemory room = tt
-
-    pub stop_ends : (workers : ℕ) (recording : Recording) (base : Kept) (history : List Entry) (flights : List (Option Task)) (store : StoreState) (before lanes : List Left)
-        → StaysOut workers recording base history before lanes store why → Stops workers recording base history lanes flights store stopped
-    stop_ends workers recording base history flights store before lanes stays = by_why (Stops workers recording base history lanes flights store) (each why room stays)
-      where
-        each : (why : Refusal) → ((kept : Event) → why ≡ refusal.NoRoom kept → ⊥) → StaysOut workers recording base history before lanes store why
-            → Stops workers recording base history lanes flights store (stop_by why)
-        each (refusal.NoRoom kept) room stays = absurd (room kept refl)
-        each (refusal.Full kept from needed) room stays = stays
-        each refusal.NoMemory room stays = (before, stays)
-
 -- a barren group lacks no room
 pub barren_lacks : (stopped : Stop) (lines : List FetchLine) (lanes : List Left) (flights : List (Option Task)) (store : StoreState) → IsBarren stopped → LacksRoom stopped lines lanes flights store
 barren_lacks stop.Whole lines lanes flights store barren = tt
@@ -317,6 +297,10 @@ picked_by host now flying lanes got same is = subst (λ (h : Hosted). picked (st
 pub same_twins : (old middle new : TwinState) → IsSameTwin old middle → IsSameTwin middle new → IsSameTwin old new
 same_twins old middle new is was =
     was ∙ ap (λ (twin : TwinState). record twin { journal = record twin.journal { spare = new.journal.spare } }) is
+
+-- a pass that adds nothing
+pub none_own : (pass : ℕ) (entries : List Entry) → ThenOwn (λ (entry : Entry). entry.pass) pass entries entries
+none_own pass entries = ([], sym (append-nil entries), All-nil (λ (entry : Entry). entry.pass ≡ pass))
 
 -- what a pass adds twice it adds
 pub further_own : (pass : ℕ) (old middle new : List Entry) → ThenOwn (λ (entry : Entry). entry.pass) pass old middle → ThenOwn (λ (entry : Entry). entry.pass) pass middle new

@@ -195,7 +195,18 @@ fn act(
             put_back(lanes, lane, event);
             Err(Stop::NoRoom)
         }
-        Err(refusal) => Err(stop_by(refusal)),
+        Err(
+            Refusal::Full {
+                event,
+                length,
+                needed,
+            },
+        ) => Err(Stop::Full {
+            event,
+            length,
+            needed,
+        }),
+        Err(Refusal::NoMemory) => Err(Stop::NoMemory),
     }
 }
 

@@ -1,5 +1,5 @@
 -- The event of the action that was picked joins the group, or the action goes back to its lane.
-use Rattle.std.proofs.Common.{◌≡◌, ◌∙◌, Err, None, ap, length, sym, subst}
+use Rattle.std.proofs.Common.{◌≡◌, ◌∙◌, List, Err, None, ap, length, sym, subst}
 use Rattle.std.proofs.lemmas.Option.{slice_get_within}
 use Rattle.sw_data.specs.declared.events.Event.{Event}
 use Rattle.sw_lane.specs.Left.{Left}
@@ -8,7 +8,7 @@ use Rattle.sw_lane.specs.declared.picks.Pick.TheVariants as pick
 use Rattle.sw_lane.specs.declared.picks.Work.TheVariants as work
 use Rattle.sw_turns.proofs.ComingLemmas.{grows_one}
 use Rattle.sw_turns.proofs.FlightLemmas.{none_flies}
-use Rattle.sw_turns.proofs.GroupLemmas.{next_of, next_pick, no_room, stop_ends, stop_lacks, stop_leaves, stop_loses, stop_picks, stop_some, stop_takes}
+use Rattle.sw_turns.proofs.GroupLemmas.{next_of, next_pick, no_room}
 use Rattle.sw_turns.proofs.filling.act.Goals as goal
 use Rattle.sw_turns.proofs.filling.act.Goals.{After-put_back}
 use Rattle.sw_turns.specs.Acting.{IsTaking}
@@ -90,37 +90,26 @@ returns-in-Err-NoRoom-clause-lacks c =
 
 -- ---- or is refused for good
 
-pub returns-in-Err-clause-goes_on : goal.returns-in-Err-clause-goes_on
-returns-in-Err-clause-goes_on c = λ recording base history same goes.
-    stop_ends c.stop_by.result c.in-Err.refusal c.stop_by.ensures c.in-Err.not-NoRoom (length c.args.flights.now) recording base history c.args.flights.now
-    c.enter.new.store c.args.lanes.now c.action_event-event.new.lanes
-    (c.in-Err.ensures.goes_on (length c.args.flights.now) recording base history c.args.lanes.now c.action_event-event.new.lanes
+pub returns-in-Err-Full-clause-goes_on : goal.returns-in-Err-Full-clause-goes_on
+returns-in-Err-Full-clause-goes_on c = λ recording base history same goes.
+    subst (StaysOut (length c.args.flights.now) recording base history c.args.lanes.now c.action_event-event.new.lanes c.enter.new.store) c.in-Err-Full.field-0-is
+    (c.in-Err-Full.ensures.goes_on (length c.args.flights.now) recording base history c.args.lanes.now c.action_event-event.new.lanes
     (slice_get_within c.args.flights.now c.args.pass None c.requires.free) goes
     (next_of (length c.args.flights.now) c.args.net.now c.args.lanes.now c.action_event-event.new.lanes c.core.result.now c.args.store.now.core c.action_event-event.result
     c.core.ensures c.action_event-event.ensures.next recording same))
 
-pub returns-in-Err-clause-flights : goal.returns-in-Err-clause-flights
-returns-in-Err-clause-flights c = c.enter.ensures.flights c.args.flights.now c.action_event-event.ensures.spares c.requires.flights
+pub returns-in-Err-Full-clause-flights : goal.returns-in-Err-Full-clause-flights
+returns-in-Err-Full-clause-flights c = c.enter.ensures.flights c.args.flights.now c.action_event-event.ensures.spares c.requires.flights
 
-pub returns-in-Err-clause-lanes : goal.returns-in-Err-clause-lanes
-returns-in-Err-clause-lanes c =
-    stop_loses c.stop_by.result c.in-Err.refusal c.stop_by.ensures c.in-Err.not-NoRoom c.args.lanes.now c.action_event-event.new.lanes
+pub returns-in-Err-NoMemory-clause-goes_on : goal.returns-in-Err-NoMemory-clause-goes_on
+returns-in-Err-NoMemory-clause-goes_on c = λ recording base history same goes. (
+  c.args.lanes.now,
+  subst (StaysOut (length c.args.flights.now) recording base history c.args.lanes.now c.action_event-event.new.lanes c.enter.new.store) c.in-Err-NoMemory.field-0-is
+      (c.in-Err-NoMemory.ensures.goes_on (length c.args.flights.now) recording base history c.args.lanes.now c.action_event-event.new.lanes
+      (slice_get_within c.args.flights.now c.args.pass None c.requires.free) goes
+      (next_of (length c.args.flights.now) c.args.net.now c.args.lanes.now c.action_event-event.new.lanes c.core.result.now c.args.store.now.core c.action_event-event.result
+      c.core.ensures c.action_event-event.ensures.next recording same)),
+)
 
-pub returns-in-Err-clause-kind : goal.returns-in-Err-clause-kind
-returns-in-Err-clause-kind c = stop_picks c.stop_by.result c.in-Err.refusal c.stop_by.ensures
-
-pub returns-in-Err-clause-some : goal.returns-in-Err-clause-some
-returns-in-Err-clause-some c =
-    stop_some c.stop_by.result c.in-Err.refusal c.stop_by.ensures c.enter.new.store.staged (λ kept is. absurd (c.in-Err.not-NoRoom kept is))
-
-pub returns-in-Err-clause-lacks : goal.returns-in-Err-clause-lacks
-returns-in-Err-clause-lacks c =
-    stop_lacks c.stop_by.result c.in-Err.refusal c.stop_by.ensures c.args.net.now c.action_event-event.new.lanes c.args.flights.now c.enter.new.store
-    (λ kept is. absurd (c.in-Err.not-NoRoom kept is))
-
-pub returns-in-Err-clause-leaves : goal.returns-in-Err-clause-leaves
-returns-in-Err-clause-leaves c =
-    stop_leaves c.stop_by.result c.in-Err.refusal c.stop_by.ensures c.args.pass c.args.flights.now c.action_event-event.new.lanes (state_of c.enter.new.store.core) c.requires.free
-
-pub returns-in-Err-clause-taken : goal.returns-in-Err-clause-taken
-returns-in-Err-clause-taken c = stop_takes c.stop_by.result c.in-Err.refusal c.stop_by.ensures c.args.pass c.args.flights.now
+pub returns-in-Err-NoMemory-clause-flights : goal.returns-in-Err-NoMemory-clause-flights
+returns-in-Err-NoMemory-clause-flights c = c.enter.ensures.flights c.args.flights.now c.action_event-event.ensures.spares c.requires.flights

@@ -184,3 +184,12 @@ returns-in-Ok-None-clause-idle c =
       λ both. (let at = c.fill-in-Ok-None.ensures.at_once (omega (arith, ap length c.requires.none)) (subst IsIdle (sym same) both.1) in
           (at.0, none_of_them c.fill-in-Ok-None.new.store.staged (at.1 ∙ ap length c.requires.none))),
     )
+
+-- ---- there was no memory for that event
+
+pub returns-in-Err-clause-entries : goal.returns-in-Err-clause-entries
+returns-in-Err-clause-entries c = (
+  c.args.lanes.now,
+  of_turn_none c.args.net.now (state_of c.args.store.now.core) c.args.flights.now c.args.lanes.now c.args.pass c.args.store.now.staged c.requires.none,
+  tt,
+)

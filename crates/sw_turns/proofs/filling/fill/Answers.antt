@@ -1,5 +1,5 @@
 -- What waits grows by what is picked, until none may join.
-use Rattle.std.proofs.Common.{◌≡◌, ◌∙◌, ℕ, List, length, Option, sym, ap, subst, arith, slice_get}
+use Rattle.std.proofs.Common.{◌≡◌, ◌∙◌, ℕ, List, length, Option, refl, sym, ap, subst, arith, slice_get}
 use Rattle.sw_data.specs.declared.histories.Task.{Task}
 use Rattle.sw_lane.specs.Picked.{in_flight}
 use Rattle.sw_lane.specs.declared.picks.Pick.TheVariants as pick
@@ -7,7 +7,7 @@ use Rattle.sw_turns.specs.Groups.{IsByPick, IsTaken, IsUnderWay, Stops}
 use Rattle.sw_turns.specs.Coming.{GrowsByPick}
 use Rattle.sw_turns.proofs.ComingLemmas.{grows_none, grows_still, grows_then}
 use Rattle.sw_turns.proofs.FlightLemmas.{free_due}
-use Rattle.sw_turns.proofs.GroupLemmas.{further_own, picked_by, same_twins}
+use Rattle.sw_turns.proofs.GroupLemmas.{further_own, none_own, picked_by, same_twins}
 use Rattle.sw_work.specs.Hosted.{state_of}
 use Rattle.sw_turns.proofs.filling.fill.Goals as goal
 
@@ -18,6 +18,23 @@ pub take_up-requires-clause-picked : goal.take_up-requires-clause-picked
 take_up-requires-clause-picked c =
     picked_by c.core.result.now c.events.store.core (in_flight c.events.flights) c.events.lanes (pick.Work c.in-Work.picked) c.core.ensures c.in-Work.ensures
 
+pub events-init : goal.events-init
+events-init c = record {
+  sound = c.requires.coherent;
+  same = refl;
+  flying = c.requires.flights;
+  since = c.requires.since;
+  few = c.requires.few;
+  more = omega arith;
+  still = λ same. refl;
+  idle = λ is. refl;
+  twin = refl;
+  mark = refl;
+  own = none_own c.args.pass c.args.store.now.staged;
+  grows = grows_none c.args.net.now c.args.flights.now c.args.lanes.now c.args.store.now c.args.store.now refl refl;
+  goes_on = λ recording base history same goes. goes;
+}
+
 pub events-preserved : goal.events-preserved
 events-preserved c =
     let was = c.events.invariant in
@@ -27,7 +44,7 @@ events-preserved c =
       same = joined.ok ∙ was.same;
       flying = joined.flights;
       since = joined.since;
-      few = omega (arith, joined.more, c.waiting.ensures, c.if-waiting-ge-SIXTEEN.false);
+      few = omega (arith, joined.more, c.waiting.ensures, c.if-waiting-ge-MOST.false);
       more = omega (arith, joined.more, was.more);
       still = λ same. absurd (omega (arith, same, joined.more, was.more));
       idle = λ is.
@@ -73,6 +90,18 @@ returns-in-Err-clause-grows c = (
       c.events.invariant.grows c.in-Err.ensures.same c.in-Err.ensures.still,
   c.in-Err.ensures.lanes,
 )
+
+pub returns-then-waiting-ge-MOST-clause-grows : goal.returns-then-waiting-ge-MOST-clause-grows
+returns-then-waiting-ge-MOST-clause-grows c = (c.events.lanes, c.events.invariant.grows, refl)
+
+pub returns-in-Idle-clause-grows : goal.returns-in-Idle-clause-grows
+returns-in-Idle-clause-grows c = (c.events.lanes, c.events.invariant.grows, refl)
+
+pub returns-in-Stalled-clause-grows : goal.returns-in-Stalled-clause-grows
+returns-in-Stalled-clause-grows c = (c.events.lanes, c.events.invariant.grows, refl)
+
+pub returns-in-Done-clause-grows : goal.returns-in-Done-clause-grows
+returns-in-Done-clause-grows c = (c.events.lanes, c.events.invariant.grows, refl)
 
 pub returns-in-Err-clause-idle : goal.returns-in-Err-clause-idle
 returns-in-Err-clause-idle c = λ is same. absurd (subst IsByPick is c.in-Err.ensures.kind)

@@ -43,40 +43,40 @@ returns-in-Ok-enter-clause-grows c =
 
 -- ---- or is refused
 
-pub returns-in-Err-clause-goes_on : goal.returns-in-Err-clause-goes_on
-returns-in-Err-clause-goes_on c = λ recording base history same goes.
-    stop_stays c.stop_by.result c.in-Err.refusal c.stop_by.ensures (length c.args.flights.now) recording base history c.args.flights.now c.enter.new.store c.args.lanes.now
-    (c.in-Err.ensures.goes_on (length c.args.flights.now) recording base history c.args.lanes.now c.args.lanes.now
+pub returns-in-Err-enter-clause-goes_on : goal.returns-in-Err-enter-clause-goes_on
+returns-in-Err-enter-clause-goes_on c = λ recording base history same goes.
+    stop_stays c.stop_by.result c.in-Err-enter.refusal c.stop_by.ensures (length c.args.flights.now) recording base history c.args.flights.now c.enter.new.store c.args.lanes.now
+    (c.in-Err-enter.ensures.goes_on (length c.args.flights.now) recording base history c.args.lanes.now c.args.lanes.now
     (slice_get_within c.args.flights.now c.args.pass None c.requires.free) goes
     (next_of (length c.args.flights.now) c.args.net.now c.args.lanes.now c.args.lanes.now c.core.result.now c.args.store.now.core c.in-Ok.event c.core.ensures
     c.in-Ok.ensures.next recording same))
 
-pub returns-in-Err-clause-flights : goal.returns-in-Err-clause-flights
-returns-in-Err-clause-flights c = c.enter.ensures.flights c.args.flights.now c.in-Ok.ensures.spares c.requires.flights
+pub returns-in-Err-enter-clause-flights : goal.returns-in-Err-enter-clause-flights
+returns-in-Err-enter-clause-flights c = c.enter.ensures.flights c.args.flights.now c.in-Ok.ensures.spares c.requires.flights
 
-pub returns-in-Err-clause-lanes : goal.returns-in-Err-clause-lanes
-returns-in-Err-clause-lanes c = stop_keeps c.stop_by.result c.in-Err.refusal c.stop_by.ensures c.args.lanes.now
+pub returns-in-Err-enter-clause-lanes : goal.returns-in-Err-enter-clause-lanes
+returns-in-Err-enter-clause-lanes c = stop_keeps c.stop_by.result c.in-Err-enter.refusal c.stop_by.ensures c.args.lanes.now
 
-pub returns-in-Err-clause-kind : goal.returns-in-Err-clause-kind
-returns-in-Err-clause-kind c = stop_picks c.stop_by.result c.in-Err.refusal c.stop_by.ensures
+pub returns-in-Err-enter-clause-kind : goal.returns-in-Err-enter-clause-kind
+returns-in-Err-enter-clause-kind c = stop_picks c.stop_by.result c.in-Err-enter.refusal c.stop_by.ensures
 
-pub returns-in-Err-clause-some : goal.returns-in-Err-clause-some
-returns-in-Err-clause-some c =
-    stop_some c.stop_by.result c.in-Err.refusal c.stop_by.ensures c.enter.new.store.staged
-    (λ kept is. (c.in-Err.ensures.no_room kept (ap (λ (why : Refusal). Err why) is)).1)
+pub returns-in-Err-enter-clause-some : goal.returns-in-Err-enter-clause-some
+returns-in-Err-enter-clause-some c =
+    stop_some c.stop_by.result c.in-Err-enter.refusal c.stop_by.ensures c.enter.new.store.staged
+    (λ kept is. (c.in-Err-enter.ensures.no_room kept (ap (λ (why : Refusal). Err why) is)).1)
 
-pub returns-in-Err-clause-lacks : goal.returns-in-Err-clause-lacks
-returns-in-Err-clause-lacks c =
-    stop_lacks c.stop_by.result c.in-Err.refusal c.stop_by.ensures c.args.net.now c.args.lanes.now c.args.flights.now c.enter.new.store
+pub returns-in-Err-enter-clause-lacks : goal.returns-in-Err-enter-clause-lacks
+returns-in-Err-enter-clause-lacks c =
+    stop_lacks c.stop_by.result c.in-Err-enter.refusal c.stop_by.ensures c.args.net.now c.args.lanes.now c.args.flights.now c.enter.new.store
     (λ kept is.
-    let none = c.in-Err.ensures.no_room kept (ap (λ (why : Refusal). Err why) is) in
+    let none = c.in-Err-enter.ensures.no_room kept (ap (λ (why : Refusal). Err why) is) in
     no_room c.args.net.now c.args.flights.now c.args.lanes.now c.args.lanes.now c.in-Ok.event c.args.store.now c.enter.new.store none.2.0
     (next_pick c.args.net.now c.args.flights.now c.args.lanes.now c.args.lanes.now c.core.result.now c.args.store.now.core c.in-Ok.event c.core.ensures c.in-Ok.ensures.picked)
-    c.in-Err.ensures.still none.2.1)
+    c.in-Err-enter.ensures.still none.2.1)
 
-pub returns-in-Err-clause-leaves : goal.returns-in-Err-clause-leaves
-returns-in-Err-clause-leaves c =
-    stop_leaves c.stop_by.result c.in-Err.refusal c.stop_by.ensures c.args.pass c.args.flights.now c.args.lanes.now (state_of c.enter.new.store.core) c.requires.free
+pub returns-in-Err-enter-clause-leaves : goal.returns-in-Err-enter-clause-leaves
+returns-in-Err-enter-clause-leaves c =
+    stop_leaves c.stop_by.result c.in-Err-enter.refusal c.stop_by.ensures c.args.pass c.args.flights.now c.args.lanes.now (state_of c.enter.new.store.core) c.requires.free
 
-pub returns-in-Err-clause-taken : goal.returns-in-Err-clause-taken
-returns-in-Err-clause-taken c = stop_takes c.stop_by.result c.in-Err.refusal c.stop_by.ensures c.args.pass c.args.flights.now
+pub returns-in-Err-enter-clause-taken : goal.returns-in-Err-enter-clause-taken
+returns-in-Err-enter-clause-taken c = stop_takes c.stop_by.result c.in-Err-enter.refusal c.stop_by.ensures c.args.pass c.args.flights.now

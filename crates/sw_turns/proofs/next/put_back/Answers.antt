@@ -6,14 +6,15 @@ use Rattle.sw_turns.proofs.next.put_back.Goals as goal
 pub put_back-requires : goal.put_back-requires
 put_back-requires c =
     let was = c.requires in
-    (was.0, goes_back was.0 c.args.lane c.args.event c.args.lanes.now was.1 c.in-Some.action (sym c.in-Some.is ∙ c.action_of_event.ensures))
+    let back = goes_back was.0 c.args.lane c.args.event c.args.lanes.now was.1 c.in-Some.action (sym c.in-Some.is ∙ c.action_of_event.ensures) in
+    (was.0, back.0, back.1)
 
 pub unreachable-requires : goal.unreachable-requires
 unreachable-requires c =
     let was = c.requires in
     has_action was.0 c.args.lane c.args.event c.args.lanes.now was.1 (sym c.in-None.is ∙ c.action_of_event.ensures)
 
-pub returns-in-Some : goal.returns-in-Some
-returns-in-Some c = λ before takes.
+pub returns : goal.returns
+returns c = λ before takes.
     let back = goes_back before c.args.lane c.args.event c.args.lanes.now takes c.in-Some.action (sym c.in-Some.is ∙ c.action_of_event.ensures) in
     c.put_back.ensures before back.0 back.1
