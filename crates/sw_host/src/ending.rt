@@ -86,7 +86,7 @@ pub(crate) fn printed(alloc: Global, history: Vec<Entry>, end: DriveEnd) -> Resu
 }
 
 // What comes of a recording on a disk that was opened, which was so at the start: what has happened, and how that has
-// ended.
+// ended. The number of the run is what the clock of the disk was at the start.
 pub(crate) fn play<R: Threads + Wait + Sync, D: Disk + Send, G: Gate + Sync>(
     rt: &R,
     alloc: Global,
@@ -94,6 +94,7 @@ pub(crate) fn play<R: Threads + Wait + Sync, D: Disk + Send, G: Gate + Sync>(
     recording: Recording,
     workers: u32,
     start: Snapshot<D>,
+    number: u64,
     disk: D,
     gate: &G,
 ) -> (Result<(Progress, DriveEnd), NoMemory>, D)
@@ -101,6 +102,7 @@ pub(crate) fn play<R: Threads + Wait + Sync, D: Disk + Send, G: Gate + Sync>(
     requires few { workers ≤ 16 }
     requires fresh { IsFresh (2 ^ 32) store }
     requires opened { HasOpened D.Disk start.value disk store }
+    requires number { number ≡ D.clock start.value }
     ensures ended { IfOk result.0 (λ played. Ended D.Disk start.value result.1 workers recording
         store.base played.0.history.items played.1) }
     ensures rest { IfOk result.0 (λ played. IsAtRest played.1 store.base played.0) }
@@ -114,7 +116,9 @@ pub(crate) fn play<R: Threads + Wait + Sync, D: Disk + Send, G: Gate + Sync>(
                 disk,
                 progress,
                 end,
-            } = work(rt, alloc, disk, progress, workers, known, base, start, gate);
+            } = work(
+                rt, alloc, disk, progress, workers, known, base, start, number, gate,
+            );
             (Ok((progress, end)), disk)
         }
         Err(NoMemory) => (Err(NoMemory), disk),
@@ -129,6 +133,7 @@ fn run_on<R: Threads + Wait + Sync, D: Disk + Send, G: Gate + Sync>(
     recording: Recording,
     workers: u32,
     start: Snapshot<D>,
+    number: u64,
     disk: D,
     gate: &G,
 ) -> (Result<Report, NoMemory>, D)
@@ -136,11 +141,14 @@ fn run_on<R: Threads + Wait + Sync, D: Disk + Send, G: Gate + Sync>(
     requires few { workers ≤ 16 }
     requires fresh { IsFresh (2 ^ 32) store }
     requires opened { HasOpened D.Disk start.value disk store }
+    requires number { number ≡ D.clock start.value }
     ensures ends { IfOk result.0 (λ report.
         EndsAs D.Disk start.value result.1 workers recording report.status report.text) }
     ensures left { OnErr result.0 (IsLeftAfter D.Disk start.value result.1 workers recording) }
 {
-    let (played, disk) = play(rt, alloc, store, recording, workers, start, disk, gate);
+    let (played, disk) = play(
+        rt, alloc, store, recording, workers, start, number, disk, gate,
+    );
     match played {
         Ok((progress, end)) => (printed(alloc, progress.into_history(), end), disk),
         Err(NoMemory) => (Err(NoMemory), disk),
@@ -177,8 +185,11 @@ pub(crate) fn run_to_end<R: Threads + Wait + Sync, D: Disk + Send, G: Gate + Syn
     ensures left { OnErr result.0 (IsLeftAfter D.Disk disk result.1 workers recording) }
 {
     let start = Snapshot::of(&disk);
+    let number = disk.clock();
     match Store::reopen(alloc, &mut disk, LIMIT) {
-        Ok(store) => run_on(rt, alloc, store, recording, workers, start, disk, gate),
+        Ok(store) => run_on(
+            rt, alloc, store, recording, workers, start, number, disk, gate,
+        ),
         Err(error) => (unopened(alloc, recording, error), disk),
     }
 }

@@ -23,7 +23,7 @@ use std::snapshot::Snapshot;
 use std::sync::Wait;
 use std::thread::Threads;
 use sw_data::{Bytes, NoMemory, Recording, Text};
-use sw_disk::PlainDisk;
+use sw_disk::{Disk, PlainDisk};
 use sw_gen::generate;
 use sw_kept::init;
 use sw_net::NoGate;
@@ -162,16 +162,18 @@ fn run_on<R: Threads + Wait + Sync>(
     store: Store,
     recording: Recording,
     start: Snapshot<PlainDisk>,
+    clock: u64,
     disk: PlainDisk,
 ) -> Result<Report, NoMemory>
     requires recording { recording_of (generated number size) ≡ Ok recording }
     requires fresh { IsFresh (2 ^ 32) store }
     requires opened { HasOpened plain start.value disk store }
     requires kept { HasKept nothing (plain_image start.value) }
+    requires clock { clock ≡ plain.clock start.value }
     ensures { IfOk result (λ report. HasGenerated number size report.status report.text) }
 {
     let actions = actions_in(&recording);
-    let (played, disk) = play(rt, alloc, store, recording, 1, start, disk, &NoGate);
+    let (played, disk) = play(rt, alloc, store, recording, 1, start, clock, disk, &NoGate);
     drop(disk);
     match played {
         Ok((progress, end)) => report_of(alloc, number, size, actions, progress, end),
@@ -199,8 +201,11 @@ fn run_recording<R: Threads + Wait + Sync>(
     ensures { IfOk result (λ report. HasGenerated number size report.status report.text) }
 {
     let start = Snapshot::of(&disk);
+    let clock = disk.clock();
     match Store::reopen(alloc, &mut disk, LIMIT) {
-        Ok(store) => run_on(rt, alloc, number, size, store, recording, start, disk),
+        Ok(store) => run_on(
+            rt, alloc, number, size, store, recording, start, clock, disk,
+        ),
         Err(_) => Err(unrun(recording)),
     }
 }

@@ -72,7 +72,8 @@ pub fn run<R: Threads + Wait + Sync, S: Source, K: Sink, D: Disk + Send, G: Gate
         × Takes K.Sink sink.old sink.new text }
 
     // The same, but for the end that the recording has come to and what the disk keeps then, of a run in which a worker has
-    // made all the turns that a worker makes: the status holds what only its pass hands out.
+    // made all the turns that a worker makes: the status holds what only its pass hands out, with the number of this run, the
+    // clock of the disk at the start.
     ensures spent { (spent : Spent) → result.status ≡ Status.Spent spent
         → (workers : ℕ) → command_of words.now ≡ command.Replay workers → (text : List ℕ)
         × HasEnded D.Disk disk result.disk workers (S.left source.old) (drive_end.Spent spent) text

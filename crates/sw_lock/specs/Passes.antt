@@ -2,12 +2,17 @@
 use Rattle.std.specs.Prelude.{◌≡◌, ◌+◌, ℕ, List, [], map, length, Option, Some, None}
 use Rattle.sw_lock.specs.declared.logged.Logged.{Ghosts}
 use Rattle.sw_lock.specs.declared.pass.Pass.{Pass}
+use Rattle.sw_lock.specs.declared.pass.Spent.{Spent}
 use Rattle.sw_lock.specs.declared.lock.Shared.{Shared}
 use Rattle.atomic_table.specs.declared.shared.Seat.{Seat}
 use Rattle.sw_lock.specs.declared.view.View.{View}
 use Rattle.sw_lock.specs.declared.view.Place.TheVariants.{Away}
 use Rattle.sw_lock.specs.Steps.{note}
 use Rattle.sw_lock.specs.Entries.{ThenOwn, ThenOthers}
+
+-- own: the number of the lock whose pass is spent
+abbrev pub lock_of : Spent → ℕ
+lock_of spent = spent.lock
 
 module _ {T E G O : Type 0} where
   -- own: the value as it was when the lock was made with it
@@ -17,6 +22,10 @@ module _ {T E G O : Type 0} where
   -- own: how many passes were made
   abbrev pub made_of : Shared T E G O → ℕ
   made_of lock = lock.table.shared.key.made
+
+  -- own: the number that the lock was made with
+  abbrev pub number_of : Shared T E G O → ℕ
+  number_of lock = lock.table.shared.key.number
 
 module _ {T E G O : Type 0} {g : Ghosts T E G O} where
   -- own: the number of the pass, which its entries carry

@@ -36,7 +36,11 @@ impl<T: Logged> Shared<T> {
         requires all { made_of self ≤ seat.me.0.passes }
         ensures { IsEnd T.Logged (opened_of self) seat.me.0 result }
     {
-        let Shared { table, made: _ } = self;
+        let Shared {
+            table,
+            made: _,
+            number: _,
+        } = self;
         let mut closed = table.close_with(seat);
         let Some(value) = closed.take(0) else {
             unreachable!()

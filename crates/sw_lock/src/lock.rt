@@ -13,9 +13,11 @@ use std::alloc::Global;
 pub struct Shared<T: Logged> {
     pub(crate) table: Table<Option<T>, View<T, T::Entry>, Start<T>, Turns<T>, Global>,
     pub(crate) made: u32,
+    pub(crate) number: u64,
     ghost sized: { (table.shared.table_id.words ≡ 3) × (table.shared.table_id.slots ≡ 1) },
     ghost some: { 0 < made },
     ghost told: { made ≡ table.shared.key.made },
+    ghost numbered: { number ≡ table.shared.key.number },
 }
 
 /// Fewer passes were given than were made. All comes back.

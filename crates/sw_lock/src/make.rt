@@ -2,7 +2,7 @@
 ghost use Rattle.std.specs.Prelude.{◌≡◌, ◌≤◌, ◌<◌, ◌+◌, [], All, map, vec_capacity, Some, IfOk, IfErr};
 ghost use Rattle.std.specs.List.{range_with_len};
 ghost use Rattle.sw_lock.specs.Steps.{IsFirst};
-ghost use Rattle.sw_lock.specs.Passes.{number, turns, opened_of, made_of, IsNew};
+ghost use Rattle.sw_lock.specs.Passes.{number, turns, opened_of, made_of, number_of, IsNew};
 
 use crate::lock::Shared;
 use crate::logged::Logged;
@@ -20,17 +20,20 @@ impl<T: Logged> Shared<T> {
         alloc: Global,
         value: T,
         passes: u32,
+        lock: u64,
     ) -> Result<(Shared<T>, Seat<Option<T>, View<T, T::Entry>>), (NoMemory, T)>
         requires many { (0 < passes) × (passes ≤ 64) }
         requires told { passes ≡ T.passes (T.base value) }
         ensures back { IfErr result (λ e. e.1 ≡ value) }
         ensures lock { IfOk result (λ r. (opened_of r.0 ≡ value) × (made_of r.0 ≡ passes)) }
+        ensures number { IfOk result (λ r. number_of r.0 ≡ lock) }
         ensures seat { IfOk result (λ r.
             (r.1.table_id ≡ r.0.table.shared.table_id) × IsFirst T.log value 1 r.1.me) }
     {
         let start = Start {
             opened: Snapshot::of(&value),
             made: passes,
+            number: lock,
         };
         let entries = value.entries();
         let Ok(mut slots) = Vec::with_capacity(alloc, 1) else {
@@ -42,6 +45,7 @@ impl<T: Logged> Shared<T> {
                 Shared {
                     table,
                     made: passes,
+                    number: lock,
                 },
                 seat,
             )),
@@ -109,10 +113,29 @@ impl<T: Logged> Shared<T> {
         ensures new { IfOk result (λ r. All (IsNew r.0) r.1.items) }
         ensures numbers { IfOk result (λ r. map number r.1.items ≡ range_with_len 0 passes) }
     {
+        Self::numbered(alloc, value, passes, 0)
+    }
+
+    /// The same, of a lock with this number, which `Spent` carries.
+    pub fn numbered(
+        alloc: Global,
+        value: T,
+        passes: u32,
+        lock: u64,
+    ) -> Result<(Shared<T>, Vec<Pass<T>>), (NoMemory, T)>
+        requires many { (0 < passes) × (passes ≤ 64) }
+        requires told { passes ≡ T.passes (T.base value) }
+        ensures back { IfErr result (λ e. e.1 ≡ value) }
+        ensures opened { IfOk result (λ r. opened_of r.0 ≡ value) }
+        ensures made { IfOk result (λ r. made_of r.0 ≡ passes) }
+        ensures number { IfOk result (λ r. number_of r.0 ≡ lock) }
+        ensures new { IfOk result (λ r. All (IsNew r.0) r.1.items) }
+        ensures numbers { IfOk result (λ r. map number r.1.items ≡ range_with_len 0 passes) }
+    {
         let Ok(all) = Vec::with_capacity(alloc, passes as usize) else {
             return Err((NoMemory, value));
         };
-        let (lock, seat) = Self::open(alloc, value, passes)?;
+        let (lock, seat) = Self::open(alloc, value, passes, lock)?;
         let all = lock.deal(seat, all);
         Ok((lock, all))
     }

@@ -12,11 +12,16 @@ use std::snapshot::Snapshot;
 pub struct Start<T> {
     pub opened: Snapshot<T>,
     pub made: u32,
+    pub number: u64,
 }
 
 impl<T> Drop for Start<T> {
     fn drop(self) {
-        let Self { opened: _, made: _ } = self;
+        let Self {
+            opened: _,
+            made: _,
+            number: _,
+        } = self;
     }
 }
 

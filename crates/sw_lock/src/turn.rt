@@ -2,7 +2,7 @@
 ghost use Rattle.std.specs.Prelude.{◌≡◌, ◌↔◌, ◌+◌, ◌<◌, ◌≤◌, ◌^◌, length, Some, IfOk, IfErr, IsErr};
 ghost use Rattle.sw_lock.specs.declared.view.Place.TheVariants.{Away};
 ghost use Rattle.sw_lock.specs.Steps.{IsIdle, Found, Advanced, Took, with_ticket};
-ghost use Rattle.sw_lock.specs.Passes.{number, seen, known, turns, opened_of, IsPassOf, IsSame, Turned};
+ghost use Rattle.sw_lock.specs.Passes.{number, seen, known, turns, opened_of, lock_of, number_of, IsPassOf, IsSame, Turned};
 
 use crate::lock::Shared;
 use crate::logged::Logged;
@@ -129,11 +129,12 @@ impl<T: Logged> Shared<T> {
         ensures pass { IsPassOf self.now pass.new × (number pass.new ≡ number pass.old) }
         ensures spent { IsErr result ↔ (turns pass.old ≡ 2 ^ 40) }
         ensures same { IfErr result (λ _. IsSame pass.old pass.new) }
+        ensures lock { IfErr result (λ spent. lock_of spent ≡ number_of self.now) }
         ensures turn { IfOk result (λ answer. Turned self.now pass.old pass.new given answer) }
         ensures counted { IfOk result (λ _. turns pass.new ≡ turns pass.old + 1) }
         ensures known { known pass.old ≤ known pass.new }
     {
-        if let Some(spent) = pass.spent() {
+        if let Some(spent) = pass.spent(self) {
             return Err(spent);
         }
         let answer = self.take_turn(rt, &mut pass.seat, given, pass.number);

@@ -8,7 +8,7 @@ use Rattle.sw_pool.specs.declared.ends.Brief.{Brief}
 use Rattle.sw_pool.specs.declared.ends.Brief.TheVariants as brief
 use Rattle.sw_pool.specs.declared.ends.Turned.{Turned}
 use Rattle.sw_pool.specs.declared.ends.Turned.TheVariants as turned
-use Rattle.sw_turns.specs.Ends.{Ended, IsKept}
+use Rattle.sw_turns.specs.Ends.{Ended, IsKept, IsSpentIn}
 use Rattle.sw_turns.specs.Settling.{IsOneRecord}
 use Rattle.sw_turns.specs.Turns.{IsAtRest, IsGoing, IsOneGroup, IsTurn}
 use Rattle.sw_turns.specs.declared.ends.DriveEnd.{DriveEnd}
@@ -48,11 +48,20 @@ HasWorked disk origin now progress ended =
     Ended disk origin.start now origin.passes origin.recording origin.base progress.history.items ended
     × IsAtRest ended origin.base progress
 
--- own: how a run has ended of which no end is kept: for want of memory, or with a pass that is spent
-abbrev pub IsUnkept : DriveEnd → Type 0
-IsUnkept drive_end.NoMemory = Unit {0}
-IsUnkept (drive_end.Spent spent) = Unit {0}
-IsUnkept _ = ⊥
+-- own: how a run has ended of which no end is kept: for want of memory, or with a pass of its lock that is spent
+abbrev pub IsUnkept : {D : Type 0} → Ghosts D → Origin D → DriveEnd → Type 0
+IsUnkept disk origin drive_end.NoMemory = Unit {0}
+IsUnkept disk origin (drive_end.Spent spent) = IsSpentIn disk origin.start spent
+IsUnkept disk origin _ = ⊥
+
+-- own: where a run has ended with a pass that is spent, no end is kept: the recording is under way
+abbrev pub IsUnended : {D : Type 0} → Ghosts D → Origin D → D → Progress → DriveEnd → Type 0
+IsUnended disk origin now progress (drive_end.Spent spent) = IsGoing disk origin.start now origin.recording origin.base progress
+IsUnended disk origin now progress _ = Unit {0}
+
+-- own: workers have made this of a recording, it has ended so, and it has ended with a pass that is spent only where no end is kept
+abbrev pub IsWorked : {D : Type 0} → Ghosts D → Origin D → D → Progress → DriveEnd → Type 0
+IsWorked disk origin now progress ended = HasWorked disk origin now progress ended × IsUnended disk origin now progress ended
 
 -- own: the recording is under way, or the run has ended so
 abbrev pub Stands : {D : Type 0} → Ghosts D → D → Origin D → Progress → Option DriveEnd → Type 0

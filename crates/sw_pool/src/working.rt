@@ -1,8 +1,8 @@
 //! A recording is worked on to its end.
 
-ghost use Rattle.std.specs.Prelude.{◌≡◌, ◌<◌, ◌≤◌, All, length, vec_len};
-ghost use Rattle.sw_lock.specs.Passes.{IsPassOf, made_of, opened_of};
-ghost use Rattle.sw_pool.specs.Yards.{HasWorked, IsUnkept, origin_of};
+ghost use Rattle.std.specs.Prelude.{◌≡◌, ◌<◌, ◌≤◌, All, length, unwrap_or, vec_len};
+ghost use Rattle.sw_lock.specs.Passes.{IsPassOf, made_of, number_of, opened_of};
+ghost use Rattle.sw_pool.specs.Yards.{IsUnkept, IsWorked, origin_of};
 ghost use Rattle.sw_turns.specs.Turns.{IsGoing};
 
 use crate::driving::drive;
@@ -26,8 +26,9 @@ pub struct Worked<D> {
 
 // What a yard comes to where no end is kept but this one.
 fn end_of<D: Disk>(yard: Yard<D>, otherwise: DriveEnd) -> Worked<D>
-    requires { IsUnkept otherwise }
-    ensures { HasWorked D.Disk yard.origin result.disk result.progress result.end }
+    requires { IsUnkept D.Disk yard.origin otherwise }
+    ensures worked { IsWorked D.Disk yard.origin result.disk result.progress result.end }
+    ensures end { result.end ≡ unwrap_or yard.end otherwise }
 {
     let (disk, progress, end) = yard.into_parts();
     Worked {
@@ -59,22 +60,27 @@ fn drive_all<R: Threads + Wait + Sync, D: Disk + Send, G: Gate + Sync>(
 }
 
 // How a run has ended of which no end is kept: for want of turns, or of memory.
-fn unkept<D: Disk>(passes: &[Pass<Yard<D>>]) -> DriveEnd
-    ensures { IsUnkept result }
+fn unkept<D: Disk>(lock: &Shared<Yard<D>>, passes: &[Pass<Yard<D>>]) -> DriveEnd
+    requires passes { All (IsPassOf lock.now) passes.now }
+    requires number { number_of lock.now ≡ D.clock (opened_of lock.now).origin.start }
+    ensures { IsUnkept D.Disk (opened_of lock.now).origin result }
 {
-    match passes.iter().find_map(|pass| pass.spent()) {
-        Some(spent) => DriveEnd::Spent(spent),
-        None => DriveEnd::NoMemory,
+    for pass in passes {
+        if let Some(spent) = pass.spent(lock) {
+            return DriveEnd::Spent(spent);
+        }
     }
+    DriveEnd::NoMemory
 }
 
 // The lock is closed, with all its passes.
 fn close<D: Disk>(lock: Shared<Yard<D>>, passes: Vec<Pass<Yard<D>>>) -> Worked<D>
     requires passes { All (IsPassOf lock) passes.items }
     requires all { vec_len passes ≡ made_of lock }
-    ensures { HasWorked D.Disk (opened_of lock).origin result.disk result.progress result.end }
+    requires number { number_of lock ≡ D.clock (opened_of lock).origin.start }
+    ensures { IsWorked D.Disk (opened_of lock).origin result.disk result.progress result.end }
 {
-    let otherwise = unkept(&passes);
+    let otherwise = unkept(&lock, &passes);
     match lock.close(passes) {
         Ok(yard) => end_of(yard, otherwise),
         Err(_) => unreachable!(),
@@ -82,7 +88,7 @@ fn close<D: Disk>(lock: Shared<Yard<D>>, passes: Vec<Pass<Yard<D>>>) -> Worked<D
 }
 
 /// Works on a recording to its end, with as many workers as it has passes, each on a thread of its own where one can be
-/// made.
+/// made. The run has the number that the clock of its disk had at the start, and so has its lock.
 pub fn work<R: Threads + Wait + Sync, D: Disk + Send, G: Gate + Sync>(
     rt: &R,
     alloc: Global,
@@ -92,17 +98,19 @@ pub fn work<R: Threads + Wait + Sync, D: Disk + Send, G: Gate + Sync>(
     recording: Snapshot<Recording>,
     base: Snapshot<Kept>,
     start: Snapshot<D>,
+    number: u64,
     gate: &G,
 ) -> Worked<D>
     requires some { 0 < passes }
     requires few { passes ≤ 64 }
     requires passes { length progress.flights.items ≡ passes }
     requires going { IsGoing D.Disk start.value disk recording.value base.value progress }
-    ensures { HasWorked D.Disk (origin_of passes recording.value base.value start.value)
+    requires number { number ≡ D.clock start.value }
+    ensures { IsWorked D.Disk (origin_of passes recording.value base.value start.value)
         result.disk result.progress result.end }
 {
     let yard = Yard::new(alloc, disk, progress, passes, recording, base, start);
-    match Shared::new(alloc, yard, passes) {
+    match Shared::numbered(alloc, yard, passes, number) {
         Ok((lock, mut all)) => {
             drive_all(rt, &lock, all.as_mut_slice(), gate);
             close(lock, all)

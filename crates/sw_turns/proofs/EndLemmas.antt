@@ -19,7 +19,7 @@ use Rattle.sw_lane.specs.declared.picks.Pick.TheVariants as pick
 use Rattle.sw_lock.specs.declared.pass.Spent.{Spent}
 use Rattle.sw_laws.proofs.LawProofs.{is_always_controlled, rests_without_work}
 use Rattle.sw_turns.proofs.ChangeLemmas.{all_front, each_front, kept_durable, legal_front}
-use Rattle.sw_turns.specs.Ends.{Ended, GoesOn, IsRunOn, KeepsAtEnd}
+use Rattle.sw_turns.specs.Ends.{Ended, GoesOn, IsRunOn, IsSpentIn, KeepsAtEnd}
 use Rattle.sw_turns.specs.Groups.{IsRefused, IsUnderWay}
 use Rattle.sw_turns.specs.Playing.{IsSoFar}
 use Rattle.sw_turns.specs.Surviving.{IsAtWork, Survives}
@@ -173,5 +173,5 @@ module _ {D : Type 0} (disk : Ghosts D) (start now : D) (recording : Recording) 
       ends_unmade disk start now workers recording base p.history.items p.store going.at_work
       (played workers recording base p.history.items p.lanes (state_of p.store.core) (so_far_here workers recording base p.history.items p.lanes p.store going.under_way going.quiet.staged))
 
-  pub ends_spent : (spent : Spent) → Ended disk start now (length p.flights.items) recording base p.history.items (drive_end.Spent spent)
-  ends_spent spent = ends_short
+  pub ends_spent : (spent : Spent) → IsSpentIn disk start spent → Ended disk start now (length p.flights.items) recording base p.history.items (drive_end.Spent spent)
+  ends_spent spent named = (ends_short, named)

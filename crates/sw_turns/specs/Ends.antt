@@ -8,6 +8,8 @@ use Rattle.sw_disk.specs.declared.disk.Disk.{Ghosts}
 use Rattle.sw_disk.specs.DiskRule.{ForTold}
 use Rattle.sw_kept.specs.Keeping.{KeepsNow}
 use Rattle.sw_kept.specs.Stored.{HasKept}
+use Rattle.sw_lock.specs.Passes.{lock_of}
+use Rattle.sw_lock.specs.declared.pass.Spent.{Spent}
 use Rattle.sw_turns.specs.Surviving.{Survives, kept_of}
 use Rattle.sw_turns.specs.declared.ends.DriveEnd.{DriveEnd}
 use Rattle.sw_turns.specs.declared.ends.DriveEnd.TheVariants as drive_end
@@ -47,6 +49,11 @@ pub record IsFull {D : Type 0} (disk : Ghosts D) (now : D) (base : Kept) (histor
 abbrev pub KeepsAtEnd : {D : Type 0} → Ghosts D → D → Kept → List Entry → Type 0
 KeepsAtEnd disk now base history = ForTold (disk.seen now) (HasKept (durable (after base history)))
 
+-- own: what is spent is a pass of the lock that has the number of the run on the disk that was opened at the start: the disk's clock
+-- then
+abbrev pub IsSpentIn : {D : Type 0} → Ghosts D → (start : D) → Spent → Type 0
+IsSpentIn disk start spent = lock_of spent ≡ disk.clock start
+
 -- own: a run has ended so
 abbrev pub Ended : {D : Type 0} → Ghosts D → (start now : D) → ℕ → Recording → Kept → List Entry → DriveEnd → Type 0
 Ended disk start now workers recording base history drive_end.Done =
@@ -64,7 +71,7 @@ Ended disk start now workers recording base history (drive_end.Full happened fro
 Ended disk start now workers recording base history drive_end.NoMemory =
     IsRunOn disk start now workers recording base history [] (λ entries state. Unit {0})
 Ended disk start now workers recording base history (drive_end.Spent spent) =
-    IsRunOn disk start now workers recording base history [] (λ entries state. Unit {0})
+    IsRunOn disk start now workers recording base history [] (λ entries state. Unit {0}) × IsSpentIn disk start spent
 
 -- own: the disk or want of memory has ended a run
 abbrev pub IsCutShort : DriveEnd → Type 0

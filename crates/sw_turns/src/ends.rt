@@ -19,7 +19,7 @@ pub enum DriveEnd {
         needed: u64,
     },
     NoMemory,
-    /// A pass has made all the turns that a pass makes, and no other end is known.
+    /// A pass of the run has made all the turns that a pass makes, and no other end is known.
     Spent(Spent),
 }
 

@@ -17,4 +17,4 @@ returns-in-Ok-clause-ended g c =
     let run = c.work-disk.result in
     subst (λ (base : Kept). Ended g.D.Disk c.args.start.value run.disk c.args.workers c.args.recording base run.progress.history.items run.end) (c.of-base.ensures ∙ c.base.ensures)
     (subst (λ (recording : Recording). Ended g.D.Disk c.args.start.value run.disk c.args.workers recording c.of-base.result.value run.progress.history.items run.end) c.of-known.ensures
-    c.work-disk.ensures.0)
+    c.work-disk.ensures.0.0)

@@ -4,7 +4,7 @@ use Rattle.std.proofs.lemmas.List.{length-map, with_items_is}
 use Rattle.std.proofs.lemmas.List.FromFn.{length-range_with_len}
 use Rattle.sw_lock.specs.Passes.{IsPassOf, number}
 use Rattle.sw_pool.proofs.working.work.Goals as goal
-use Rattle.sw_pool.specs.Yards.{HasWorked, Origin, YardState}
+use Rattle.sw_pool.specs.Yards.{IsWorked, Origin, YardState}
 
 pub close-requires-clause-passes : goal.close-requires-clause-passes
 close-requires-clause-passes g c =
@@ -15,12 +15,18 @@ pub close-requires-clause-all : goal.close-requires-clause-all
 close-requires-clause-all g c =
     c.in-Ok.all.ok.0 ∙ sym (length-map c.in-Ok.all.items number) ∙ ap length c.in-Ok.ensures.numbers ∙ length-range_with_len 0 c.args.passes ∙ sym c.in-Ok.ensures.made
 
+pub close-requires-clause-number : goal.close-requires-clause-number
+close-requires-clause-number g c =
+    c.in-Ok.ensures.number ∙ c.requires.number
+    ∙ sym (ap (λ (yard : YardState g.row.D.Denot). g.D.Disk.clock yard.origin.start) c.in-Ok.ensures.opened
+    ∙ ap (λ (origin : Origin g.row.D.Denot). g.D.Disk.clock origin.start) c.new-yard.ensures.origin)
+
 pub returns-in-Ok : goal.returns-in-Ok
 returns-in-Ok g c =
-    subst (λ (origin : Origin g.row.D.Denot). HasWorked g.D.Disk origin c.close.result.disk c.close.result.progress c.close.result.end)
+    subst (λ (origin : Origin g.row.D.Denot). IsWorked g.D.Disk origin c.close.result.disk c.close.result.progress c.close.result.end)
     (ap (λ (yard : YardState g.row.D.Denot). yard.origin) c.in-Ok.ensures.opened ∙ c.new-yard.ensures.origin) c.close.ensures
 
 pub returns-in-Err : goal.returns-in-Err
 returns-in-Err g c =
-    subst (λ (origin : Origin g.row.D.Denot). HasWorked g.D.Disk origin c.end_of.result.disk c.end_of.result.progress c.end_of.result.end)
-    (ap (λ (yard : YardState g.row.D.Denot). yard.origin) c.in-Err.ensures.back ∙ c.new-yard.ensures.origin) c.end_of.ensures
+    subst (λ (origin : Origin g.row.D.Denot). IsWorked g.D.Disk origin c.end_of.result.disk c.end_of.result.progress c.end_of.result.end)
+    (ap (λ (yard : YardState g.row.D.Denot). yard.origin) c.in-Err.ensures.back ∙ c.new-yard.ensures.origin) c.end_of.ensures.worked
