@@ -1,5 +1,6 @@
 mod AddressRows
 mod Chosen
+mod Excluded
 mod GeneratedRows
 mod Restarts
 mod TranscriptRows
