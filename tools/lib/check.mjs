@@ -36,8 +36,9 @@ export class Checker {
     this.flaws = [];
   }
 
+  // A suggestion that is too long to read is none.
   say(cause, at, path, meaning, suggestion) {
-    this.flaws.push({ cause, at, path, meaning, suggestion });
+    this.flaws.push({ cause, at, path, meaning, suggestion: suggestion?.length > 200 ? undefined : suggestion });
   }
 
   written(value) {
@@ -60,7 +61,8 @@ export class Checker {
   }
 
   text(form, value, path) {
-    if (!this.is("text", value, path, KINDS.text, JSON.stringify(this.written(value)))) return;
+    const quoted = value.kind === "number" || value.kind === "truth" ? `"${this.written(value)}"` : undefined;
+    if (!this.is("text", value, path, KINDS.text, quoted)) return;
     if (form.bytes) this.tooLong(Buffer.byteLength(value.text), form, value, path);
     if (form.pattern && !form.pattern.test(value.text)) {
       const trimmed = value.text.trim();

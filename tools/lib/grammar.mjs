@@ -15,7 +15,6 @@
 //            and `words`, where it goes by the member `do`, which words there are
 
 export const LIMITS = {
-  recording: 16777216,
   actions: 65536,
   lane: 63,
   text: 4096,

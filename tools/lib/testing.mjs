@@ -5,10 +5,12 @@
 //   test.long(name, run)        the same, where the word `long` isn't given either
 //   tool(name, words, input)    runs a tool, and gives { status, output, errors }
 //   launch(program, words, { folder, input })   the same of any program, in a folder
-//   inFolder(run)               run(folder), with a fresh folder that is removed afterwards
+//   launch.later(..)            a promise of it, so that several run side by side
+//   inFolder(run)               run(folder), with a fresh folder that is removed afterwards; inFolder.later where run is async
 //   recordings()                the paths of all recordings of conformance/ and examples/
 //   top                         the path of the repository
-import { spawnSync } from "node:child_process";
+import { spawn, spawnSync } from "node:child_process";
+import { once } from "node:events";
 import fs from "node:fs";
 import os from "node:os";
 import path from "node:path";
@@ -26,16 +28,38 @@ export function launch(program, words, { folder = top, input = "" } = {}) {
   return { status: ran.status, output: ran.stdout.toString(), errors: ran.stderr.toString() };
 }
 
+// A program may end before it has read its input, which is no fault.
+launch.later = async (program, words, { folder = top, input = "" } = {}) => {
+  const child = spawn(program, words, { cwd: folder }), output = [], errors = [];
+  child.stdout.on("data", (chunk) => output.push(chunk));
+  child.stderr.on("data", (chunk) => errors.push(chunk));
+  child.stdin.on("error", () => {});
+  child.stdin.end(input);
+  const [status] = await once(child, "close");
+  return { status, output: Buffer.concat(output).toString(), errors: Buffer.concat(errors).toString() };
+};
+
 export const tool = (name, words = [], input = "") => launch(path.join(top, "tools", name), words, { input });
 
+const freshFolder = () => fs.mkdtempSync(path.join(os.tmpdir(), "swhost-tools-"));
+
 export function inFolder(run) {
-  const folder = fs.mkdtempSync(path.join(os.tmpdir(), "swhost-tools-"));
+  const folder = freshFolder();
   try {
     return run(folder);
   } finally {
     fs.rmSync(folder, { recursive: true });
   }
 }
+
+inFolder.later = async (run) => {
+  const folder = freshFolder();
+  try {
+    return await run(folder);
+  } finally {
+    fs.rmSync(folder, { recursive: true });
+  }
+};
 
 export function recordings() {
   const folders = ["examples", ...fs.readdirSync(path.join(top, "conformance")).map((name) => `conformance/${name}`)];

@@ -1,6 +1,8 @@
 // tools/lint refuses what the program refuses, by the same line and cause, and says what it should about each bad line.
 import assert from "node:assert/strict";
 import fs from "node:fs";
+import os from "node:os";
+import { RECORDING_BYTES } from "../lib/cli.mjs";
 import { LIMITS } from "../lib/grammar.mjs";
 import { badLines } from "../lib/lint.mjs";
 import { draws, mutated } from "../lib/mutations.mjs";
@@ -12,8 +14,8 @@ const SEED = 35;
 const SMALL = 20000;
 
 // The program's refusal of a recording, or none: a folder that isn't formatted is refused after the lines.
-function refusal(program, folder, recording) {
-  const { status, output } = launch(program, ["replay"], { folder, input: recording });
+async function refusal(program, folder, recording) {
+  const { status, output } = await launch.later(program, ["replay"], { folder, input: recording });
   if (status === 3 || status === 10) return `${status} ${output}`;
   assert.equal(`${status} ${output}`, "7 error: not formatted\n");
   return "none";
@@ -21,7 +23,7 @@ function refusal(program, folder, recording) {
 
 // The same by lint, of the first bad line.
 function found(recording) {
-  if (recording.length > LIMITS.recording) return "10 error: too large: recording\n";
+  if (recording.length > RECORDING_BYTES) return "10 error: too large: recording\n";
   const { value } = badLines(recording).next();
   return value ? `${value.cause.startsWith("too large") ? 10 : 3} error: line ${value.line}: ${value.cause}\n` : "none";
 }
@@ -37,26 +39,29 @@ test("lint agrees with what is stated of all recordings", () => {
   for (const name of recordings()) assert.equal(found(fs.readFileSync(name)), stated(name), name);
 });
 
-// Compares lint with the program on so many mutated recordings; answers how often each cause came.
-function compareMutated(program, count) {
+// Compares lint with the program on so many mutated recordings, several side by side; answers how often each cause came.
+async function compareMutated(program, count) {
   const draw = draws(SEED), sources = recordings().map((name) => fs.readFileSync(name)).filter((bytes) => bytes.length < SMALL), causes = {};
-  inFolder((folder) => {
-    for (let n = 0; n < count; n++) {
+  let made = 0;
+  const comparing = async (folder) => {
+    while (made < count) {
+      made++;
       const recording = mutated(draw, sources[draw(sources.length)]), mine = found(recording);
-      assert.equal(mine, refusal(program, folder, recording), recording.toString());
+      assert.equal(mine, await refusal(program, folder, recording), recording.toString());
       const cause = mine.replace(/^.*: line \d+: |\n$/g, "");
       causes[cause] = (causes[cause] ?? 0) + 1;
     }
-  });
+  };
+  await inFolder.later((folder) => Promise.all(Array.from({ length: os.availableParallelism() }, () => comparing(folder))));
   return causes;
 }
 
-test.ofProgram(`lint agrees with the program on ${MUTATIONS} mutated recordings`, (program) => {
-  assert.ok(Object.keys(compareMutated(program, MUTATIONS)).length > 3);
+test.ofProgram(`lint agrees with the program on ${MUTATIONS} mutated recordings`, async (program) => {
+  assert.ok(Object.keys(await compareMutated(program, MUTATIONS)).length > 3);
 });
 
-test.long(`lint agrees with the program on ${MUTATIONS_LONG} mutated recordings`, (program) => {
-  console.log(compareMutated(program, MUTATIONS_LONG));
+test.long(`lint agrees with the program on ${MUTATIONS_LONG} mutated recordings`, async (program) => {
+  console.log(await compareMutated(program, MUTATIONS_LONG));
 });
 
 // ---- limits and corners, each as one recording
@@ -101,16 +106,16 @@ const CORNERS = [
   ["the same in a host that isn't ASCII", json({ fetch: "https://xn--a.é.test/", status: 200 }), "3 error: line 1: address\n"],
   ["a header before base64 before an address", json({ fetch: "x", status: 200, headers: [["a b", ""]], body: "!" }), "3 error: line 1: header\n"],
   ["an await of a bad line's promise", json(action("register", { client: 1 }), action("await", { of: 0 })), "3 error: line 1: form\n"],
-  ["a recording too large", " ".repeat(LIMITS.recording + 1), "10 error: too large: recording\n"],
+  ["a recording too large", " ".repeat(RECORDING_BYTES + 1), "10 error: too large: recording\n"],
 ].map(([name, recording, wanted]) => ({ name, recording: Buffer.from(recording), wanted }));
 
 test("lint finds the limits and corners", () => {
   for (const { name, recording, wanted } of CORNERS) assert.equal(found(recording), wanted, name);
 });
 
-function compareCorners(program, corners) {
-  inFolder((folder) => {
-    for (const { name, recording, wanted } of corners) assert.equal(refusal(program, folder, recording), wanted, name);
+async function compareCorners(program, corners) {
+  await inFolder.later(async (folder) => {
+    for (const { name, recording, wanted } of corners) assert.equal(await refusal(program, folder, recording), wanted, name);
   });
 }
 
@@ -160,7 +165,7 @@ test("lint's words, statuses and outputs", () => {
     line: 1, column: 30, cause: "form", member: "event", meaning: "a text in place of a whole number from 0 to 4294967295", suggestion: "0",
   });
   assert.equal(tool("lint", [], json({ ...action("end", { event: 0 }), lane: 64 })).status, 10);
-  assert.deepEqual(tool("lint", [], " ".repeat(LIMITS.recording + 1)), { status: 10, output: "", errors: "error: too large: recording\n" });
+  assert.deepEqual(tool("lint", [], " ".repeat(RECORDING_BYTES + 1)), { status: 10, output: "error: too large: recording\n", errors: "" });
   assert.equal(tool("lint", ["--other"]).status, 2);
   assert.equal(tool("lint", ["/nothing/here"]).status, 4);
   assert.match(tool("lint", ["--help"]).output, /^tools\/lint \[--json\] \[FILE\]\n/);
