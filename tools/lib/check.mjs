@@ -3,9 +3,11 @@
 import { httpAddress } from "./address.mjs";
 import { isOptional, nameOf } from "./grammar.mjs";
 
+const LONG = 60;
 const KINDS = { object: "an object", array: "an array", text: "a text", number: "a number", truth: "a truth value", null: "null" };
 const ticked = (words) => words.map((word) => `\`${word}\``).join(", ");
-const shortened = (text) => JSON.stringify(text.length > 60 ? `${text.slice(0, 60)}..` : text);
+const brief = (text) => (text.length > LONG ? `${text.slice(0, LONG)}..` : text);
+const shortened = (text) => JSON.stringify(brief(text));
 
 // How many letters to add, drop, change or swap with their neighbour to make one word of the other.
 function distance(left, right) {
@@ -24,6 +26,7 @@ function distance(left, right) {
 
 // The word that was meant, or none where none is near.
 export function nearest(written, words) {
+  if (written.length > LONG) return undefined;
   const most = Math.max(1, Math.floor(written.length / 3));
   const near = words.map((word) => ({ word, far: distance(written.toLowerCase(), word.toLowerCase()) })).filter(({ far }) => far <= most);
   return near.sort((left, right) => left.far - right.far)[0]?.word;
@@ -132,7 +135,7 @@ export class Checker {
     for (const [name, { at }] of value.members) {
       if (names.includes(name)) continue;
       const meant = nearest(name, absent);
-      this.say("form", at, within + name, `${form.name} has no member \`${name}\``, meant ? `\`${meant}\`` : absent.length > 0 ? `it may have ${ticked(absent)} besides` : undefined);
+      this.say("form", at, within + brief(name), `${form.name} has no member \`${brief(name)}\``, meant ? `\`${meant}\`` : absent.length > 0 ? `one of ${ticked(absent)}` : undefined);
     }
     for (const [key, part] of Object.entries(form.members)) {
       const found = value.members.get(nameOf(key))?.value;

@@ -135,6 +135,8 @@ const SAID = [
   ['{"lane":0,"do":"skipWaiting","client":1,"scope":"/","slot":"wating"}', ["form", 60, "slot", '"waiting"']],
   ['{"lane":0,"do":"match","at":"/","request":"/","ignoreVary":"true"}', ["form", 60, "ignoreVary", "true"]],
   ['{"lane":0,"do":"end","event":1.0}', ["form", 30, "event", "1"]],
+  ['{"lane":0,"do":"open","client":1,"url":"/","other":0}', ["form", 44, "other", "one of `partition`"]],
+  [`{"lane":0,"do":"end","event":1,"${"x".repeat(100)}":0}`, ["form", 32, `${"x".repeat(60)}..`, undefined]],
   ['{"fech":"https://a.test/"}', ["form", 1, "", "`fetch` in place of `fech`"]],
   ['{"fetch":"a.test/x","status":200}', ["address", 10, "fetch", '"https://a.test/x"']],
   ['{"fetch":"https://a.test/","status":200,"body":"YQ"}', ["base64", 48, "body", '"YQ=="']],
