@@ -62,9 +62,8 @@ inFolder.later = async (run) => {
 };
 
 export function recordings() {
-  const folders = ["examples", ...fs.readdirSync(path.join(top, "conformance")).map((name) => `conformance/${name}`)];
-  const inside = (folder) => (fs.statSync(path.join(top, folder)).isDirectory() ? fs.readdirSync(path.join(top, folder)).map((name) => path.join(top, folder, name)) : []);
-  return folders.flatMap(inside).filter((name) => name.endsWith(".jsonl")).sort();
+  const within = (folder) => fs.readdirSync(path.join(top, folder), { recursive: true }).map((name) => path.join(top, folder, name));
+  return ["examples", "conformance"].flatMap(within).filter((name) => name.endsWith(".jsonl")).sort();
 }
 
 // Runs the tests that were named, and prints each failure and the counts; answers whether all of them passed.
