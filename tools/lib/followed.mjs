@@ -23,7 +23,8 @@ const wrongWords = (text) => new Refused(STATUS.words, `words: ${text}`);
 // ---- a run by a program
 
 function launch(program, word, folder, input) {
-  const ran = spawnSync(path.resolve(program), [word], { cwd: folder, input, maxBuffer: OUTPUT_BYTES });
+  const file = program.includes(path.sep) ? path.resolve(program) : program;
+  const ran = spawnSync(file, [word], { cwd: folder, input, maxBuffer: OUTPUT_BYTES });
   if (ran.error) throw new Refused(STATUS.read, `program: ${ran.error.message}`);
   return utf8(ran.stdout) ?? "";
 }

@@ -3,12 +3,12 @@
 //   pooled(items, act)   act(item) for each item, at most four at a time; fails by the first one that fails
 //   started(program, words, folder, input)   { status, output } of a program that runs in a folder
 //   fresh(program)       a function that puts a formatted disk into a folder
-//   allRecordings()      the paths of all recordings of examples/ and conformance/, those in folders of folders too
+//   write(folder, parts) puts the parts of a disk into a folder
 import { spawn } from "node:child_process";
 import fs from "node:fs";
 import path from "node:path";
 import { PARTS, readParts } from "./disk.mjs";
-import { inFolder, launch, top } from "./testing.mjs";
+import { inFolder, launch } from "./testing.mjs";
 
 const AT_ONCE = 4;
 
@@ -41,9 +41,4 @@ export function fresh(program) {
 
 export function write(folder, parts) {
   for (const [name, bytes] of Object.entries(parts)) fs.writeFileSync(path.join(folder, PARTS[name]), bytes);
-}
-
-export function allRecordings() {
-  const within = (folder) => fs.readdirSync(path.join(top, folder), { recursive: true }).map((name) => path.join(top, folder, name));
-  return [...within("examples"), ...within("conformance")].filter((name) => name.endsWith(".jsonl")).sort();
 }

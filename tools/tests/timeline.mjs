@@ -11,7 +11,7 @@ import { test, tool, top } from "../lib/testing.mjs";
 import { timeline } from "../lib/timeline.mjs";
 
 const WIDTH = 1000;
-const HEIGHT = 1030;
+const HEIGHT = 1000;
 
 const example = (name) => [path.join(top, `examples/${name}.jsonl`), path.join(top, `examples/${name}.transcript`)];
 const kept = (name) => {

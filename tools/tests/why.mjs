@@ -6,11 +6,10 @@ import path from "node:path";
 import { followedAlone, holdsAlone } from "../lib/alone.mjs";
 import { valueText } from "../lib/events.mjs";
 import { keptOf } from "../lib/kept.mjs";
-import { allRecordings } from "../lib/pooled.mjs";
 import { holds, isHeld, laneWaits, nextOf } from "../lib/reasons.mjs";
 import { Recording } from "../lib/recording.mjs";
 import { State } from "../lib/state.mjs";
-import { inFolder, launch, test, tool, top } from "../lib/testing.mjs";
+import { inFolder, launch, recordings, test, tool, top } from "../lib/testing.mjs";
 import { readLine } from "../lib/transcript.mjs";
 import { why } from "../lib/why.mjs";
 
@@ -27,7 +26,7 @@ const run = (name, recording, transcript, kept) => ({ name, recording: new Recor
 
 // All runs whose transcripts stand beside their recordings: of conformance/, of examples/, and the cases.
 function runs() {
-  const there = allRecordings().flatMap((name) => {
+  const there = recordings().flatMap((name) => {
     const transcript = ["transcript", "stdout"].map((ending) => name.replace(/jsonl$/, ending)).find((file) => fs.existsSync(file));
     const text = transcript === undefined ? "" : fs.readFileSync(transcript, "utf8");
     return text.startsWith("- restarted ") ? [run(path.relative(top, name), fs.readFileSync(name, "utf8"), text, null)] : [];
