@@ -2,15 +2,14 @@
 // ones; and it makes recordings of the same caches.
 import assert from "node:assert/strict";
 import fs from "node:fs";
-import os from "node:os";
 import path from "node:path";
 import { Refused } from "../lib/cli.mjs";
 import { readJournal, readParts } from "../lib/disk.mjs";
+import { fresh, pooled, write } from "../lib/disks.mjs";
 import { asJson, asRecording } from "../lib/dump.mjs";
 import { keptAfter, keptOf, shown } from "../lib/kept.mjs";
 import { badLines } from "../lib/lint.mjs";
 import { draws } from "../lib/mutations.mjs";
-import { fresh, pooled, started, write } from "../lib/pooled.mjs";
 import { inFolder, launch, recordings, test, tool, top } from "../lib/testing.mjs";
 
 const CHANGED_DISKS = 120;
@@ -28,31 +27,27 @@ function dumped(parts) {
 
 const cachesOf = (parts) => JSON.parse(asJson(readJournal(parts), keptAfter(readJournal(parts).changes))).caches;
 
-// A folder for the time of an asynchronous run.
-async function inRoom(run) {
-  const folder = fs.mkdtempSync(path.join(os.tmpdir(), "swhost-tools-"));
-  try {
-    return await run(folder);
-  } finally {
-    fs.rmSync(folder, { recursive: true });
-  }
+// What a run of the program prints, and its status.
+async function ran(program, word, folder, input) {
+  const { status, output } = await launch.later(program, [word], { folder, input });
+  return { status, output };
 }
 
 async function agree(program, folder, name) {
-  assert.deepEqual(dumped(readParts(folder)), await started(program, ["show"], folder), name);
+  assert.deepEqual(dumped(readParts(folder)), await ran(program, "show", folder), name);
 }
 
-// The recording of a disk's caches makes them on a fresh disk.
+// The recording of a disk's caches, if it has any, makes them on a fresh disk.
 async function makesTheSame(program, format, folder, name) {
   const caches = cachesOf(readParts(folder));
-  if (caches.length === 0) return 0;
+  if (caches.length === 0) return false;
   const recording = asRecording(keptAfter(readJournal(readParts(folder)).changes));
-  await inRoom(async (other) => {
+  await inFolder.later(async (other) => {
     format(other);
-    assert.equal((await started(program, ["replay"], other, recording)).status, 0, name);
+    assert.equal((await ran(program, "replay", other, recording)).status, 0, name);
     assert.deepEqual(cachesOf(readParts(other)), caches, name);
   });
-  return 1;
+  return true;
 }
 
 // A recording with a bad line leaves its disk alone.
@@ -61,25 +56,25 @@ const isRefused = (name) => badLines(fs.readFileSync(name)).next().value !== und
 test.ofProgram("dump shows what each recording leaves, and makes its caches again", async (program) => {
   const format = fresh(program);
   let made = 0;
-  await pooled(recordings().filter((name) => !isRefused(name)), (name) => inRoom(async (folder) => {
+  await pooled(recordings().filter((name) => !isRefused(name)), (name) => inFolder.later(async (folder) => {
     format(folder);
-    await started(program, ["replay"], folder, fs.readFileSync(name));
+    await ran(program, "replay", folder, fs.readFileSync(name));
     await agree(program, folder, name);
-    made += await makesTheSame(program, format, folder, name);
+    if (await makesTheSame(program, format, folder, name)) made++;
   }));
   assert.ok(made > 50, `${made} disks with caches`);
 });
 
-test.ofProgram("dump shows a disk on which many recordings ran, and one behind a checkpoint", (program) => inRoom(async (folder) => {
+test.ofProgram("dump shows a disk on which many recordings ran, and one behind a checkpoint", (program) => inFolder.later(async (folder) => {
   const names = recordings().filter((name) => name.includes("/small/")).filter((_, at) => at % 8 === 0);
   fresh(program)(folder);
   for (const name of names) {
-    await started(program, ["replay"], folder, fs.readFileSync(name));
+    await ran(program, "replay", folder, fs.readFileSync(name));
     await agree(program, folder, name);
   }
   const place = { lane: 0, at: "https://a.test/", name: "large" };
   const lines = [{ ...place, do: "cacheOpen" }, { ...place, do: "put", request: "/x", response: { status: 200, text: "a".repeat(2 ** 20) } }];
-  await started(program, ["replay"], folder, lines.map((line) => JSON.stringify(line)).join("\n"));
+  await ran(program, "replay", folder, lines.map((line) => JSON.stringify(line)).join("\n"));
   assert.equal(readJournal(readParts(folder)).part, "right");
   await agree(program, folder, "behind a checkpoint");
 }));
@@ -131,10 +126,10 @@ test("dump reads disks that are made by hand", () => {
   for (const { name, parts, wanted } of BY_HAND) assert.deepEqual(dumped(parts), wanted, name);
 });
 
-test.ofProgram("the program reads them so", (program) => inRoom(async (folder) => {
+test.ofProgram("the program reads them so", (program) => inFolder.later(async (folder) => {
   for (const { name, parts, wanted } of BY_HAND) {
     write(folder, parts);
-    assert.deepEqual(await started(program, ["show"], folder), wanted, name);
+    assert.deepEqual(await ran(program, "show", folder), wanted, name);
   }
 }));
 
@@ -173,24 +168,24 @@ test("dump carries batches out", () => {
   for (const { name, payloads, pairs } of BATCHES) assert.equal(dumped(disk(payloads)).output, `registrations 0\ncaches 1\ncache "k" "v" ${pairs}\n`, name);
 });
 
-test.ofProgram("the program carries them out so", (program) => inRoom(async (folder) => {
+test.ofProgram("the program carries them out so", (program) => inFolder.later(async (folder) => {
   for (const { name, payloads } of BATCHES) {
     write(folder, disk(payloads));
     await agree(program, folder, name);
   }
 }));
 
-test.ofProgram(`dump and the program agree on ${CHANGED_DISKS} changed disks`, (program) => inRoom(async (folder) => {
+test.ofProgram(`dump and the program agree on ${CHANGED_DISKS} changed disks`, (program) => inFolder.later(async (folder) => {
   const draw = draws(SEED), names = recordings().filter((name) => name.includes("/small/")), format = fresh(program), statuses = new Set();
   for (let count = 0; count < CHANGED_DISKS; count++) {
     if (count % 10 === 0) {
       format(folder);
-      for (let runs = 0; runs < 3; runs++) await started(program, ["replay"], folder, fs.readFileSync(names[draw(names.length)]));
+      for (let runs = 0; runs < 3; runs++) await ran(program, "replay", folder, fs.readFileSync(names[draw(names.length)]));
     }
     const parts = readParts(folder), left = Buffer.from(parts.left);
     left[draw(left.length)] = draw(4) === 0 ? draw(256) : draw(3);
     const changed = { ...parts, left: draw(6) === 0 ? left.subarray(0, draw(left.length)) : left };
-    await inRoom(async (other) => {
+    await inFolder.later(async (other) => {
       write(other, changed);
       await agree(program, other, changed.left.toString("hex"));
     });
