@@ -2,7 +2,7 @@
 // What each event of a transcript does to the state (lib/state.mjs), besides what its notices tell: EVENTS has under its
 // word a function of the state, the entry and the recorded action.
 import { parsed, parsedScope } from "./recording.mjs";
-import { rowOf } from "./rows.mjs";
+import { rowOf, there } from "./rows.mjs";
 
 // The text of a promise's value.
 export function valueText(value) {
@@ -37,7 +37,7 @@ function registering(state, entry, { client, script, scope }) {
 
 function updating(state, entry, action) {
   const registration = entry.by === "lane" ? state.named(action) : rowOf(state.workers, entry.worker).registration;
-  return { key: registration.key, scope: registration.scope, script: rowOf([state.newest(registration)], 0).script };
+  return { key: registration.key, scope: registration.scope, script: there(state.newest(registration)).script };
 }
 
 function unregistering(state, entry, { client, scope }) {
@@ -61,7 +61,7 @@ function run(state, job, { fetch }) {
 }
 
 function installed(state, job, answer) {
-  rowOf([state.slot(job.registration, "installing")], 0).handler = null;
+  there(state.slot(there(job.registration), "installing")).handler = null;
   if (answer === "ok") job.registration.owed = state.line;
 }
 
@@ -69,7 +69,7 @@ function installed(state, job, answer) {
 
 // The worker that an action names by a slot, or the one whose handler makes the call.
 function meant(state, entry, action) {
-  return entry.by === "handler" ? rowOf(state.workers, entry.worker) : rowOf([state.slot(state.named(action), action.slot)], 0);
+  return entry.by === "handler" ? rowOf(state.workers, entry.worker) : there(state.slot(state.named(action), action.slot));
 }
 
 function skipWaiting(state, entry, action) {

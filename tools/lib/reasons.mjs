@@ -36,8 +36,8 @@ export function nextOf({ handler }) {
 
 function awaits(state, lane, { of }) {
   const awaited = state.promises.get(`${lane}.${of}`) ?? null;
-  const settled = awaited !== null && (awaited.value ?? awaited.job?.settled ?? awaited.task?.settled ?? null);
-  return settled === null || awaited === null ? { awaited } : null;
+  const settled = awaited?.value ?? awaited?.job?.settled ?? awaited?.task?.settled ?? null;
+  return settled === null ? { awaited } : null;
 }
 
 function readies(state, page) {

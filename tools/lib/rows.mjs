@@ -4,9 +4,11 @@
 // What a line says of the state before it isn't so.
 export class Unfollowed extends Error {}
 
-// The row of a number.
-export function rowOf(rows, number) {
-  const row = rows instanceof Map ? rows.get(number) : rows[number];
-  if (row === undefined || row === null) throw new Unfollowed();
-  return row;
+// What must be there.
+export function there(found) {
+  if (found === undefined || found === null) throw new Unfollowed();
+  return found;
 }
+
+// The row of a number.
+export const rowOf = (rows, number) => there(rows instanceof Map ? rows.get(number) : rows[number]);

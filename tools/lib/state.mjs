@@ -20,7 +20,7 @@
 import { Refused, STATUS } from "./cli.mjs";
 import { EVENTS, valueText } from "./events.mjs";
 import { isTrustworthy, keyOf, parsedScope } from "./recording.mjs";
-import { rowOf, Unfollowed } from "./rows.mjs";
+import { rowOf, there, Unfollowed } from "./rows.mjs";
 import { readLine } from "./transcript.mjs";
 
 const SLOTS = { installing: ["installing"], waiting: ["installed"], active: ["activating", "activated"] };
@@ -105,7 +105,7 @@ export class State {
   // The registration that an action names by its client and a scope.
   named({ client, scope }) {
     const page = rowOf(this.clients, client);
-    return this.mapped(page.key, parsedScope(scope, page.url)) ?? rowOf([], 0);
+    return there(this.mapped(page.key, parsedScope(scope, page.url)));
   }
 
   users(registration) {
@@ -144,7 +144,7 @@ export class State {
 
   add(worker, state, cause) {
     this.workers[worker.number] = { ...worker, state: null, skip: null, handler: null, fault: null, states: [] };
-    worker.registration.workers.push(this.workers[worker.number]);
+    there(worker.registration).workers.push(this.workers[worker.number]);
     this.advance(this.workers[worker.number], state, cause);
   }
 
