@@ -10,7 +10,6 @@ use Rattle.sw_data.specs.declared.recordings.FetchLine.{FetchLine}
 use Rattle.sw_data.specs.declared.recordings.Recording.{Recording}
 use Rattle.sw_data.specs.declared.storage.Kept.{Kept}
 use Rattle.sw_codec.specs.Spelling.{spelled_all}
-use Rattle.sw_disk.specs.DiskRule.{capped}
 use Rattle.sw_journal.specs.Format.{format_2, needed_length}
 use Rattle.sw_lane.specs.declared.picks.Pick.{Pick}
 use Rattle.sw_lane.specs.Left.{Left}
@@ -20,7 +19,7 @@ use Rattle.sw_laws.specs.Laws.{changes_along}
 use Rattle.sw_laws.proofs.LawProofs.{is_always_coherent}
 use Rattle.sw_lock.specs.Entries.{ThenOwn}
 use Rattle.sw_turns.specs.Flights.{AreInFlight, Spares}
-use Rattle.sw_turns.specs.Coming.{HasNoRoom, IsPickedNext}
+use Rattle.sw_turns.specs.Coming.{NextHasNoRoom, IsPickedNext}
 use Rattle.sw_turns.specs.Groups.{HasSome, IsBarren, IsByPick, IsHeld, IsRefused, IsTaken, IsUnderWay, KeepsLanes, LacksRoom, Leaves, StaysOut, Stops, stop_by}
 use Rattle.sw_turns.specs.Playing.{ComesNext, IsSoFar}
 use Rattle.sw_turns.specs.declared.ends.Refusal.{Refusal}
@@ -114,7 +113,7 @@ module _ (old new : StoreState) (same : IsSame old new) where
     more = long.more;
     spelled = ap (λ (state : State). spelled_all (changes_of state happened)) same.state ∙ long.spelled;
     some = long.some;
-    needs = long.needs ∙ ap (λ (payload : List ℕ). capped (needed_length format_2 (length (payload ++ long.more)))) (sym same_payload);
+    needs = long.needs ∙ ap (λ (payload : List ℕ). needed_length format_2 (length (payload ++ long.more))) (sym same_payload);
     passes = omega (arith, long.passes, same_gate, same_limit);
   }
 
@@ -241,11 +240,11 @@ module _ (stopped : Stop) (why : Refusal) (is : stopped ≡ stop_by why) where
       each refusal.NoMemory some = tt
 
   pub stop_lacks : (lines : List FetchLine) (lanes : List Left) (flights : List (Option Task)) (store : StoreState)
-      → ((kept : Event) → why ≡ refusal.NoRoom kept → HasNoRoom lines (state_of store.core) flights lanes store.payload store.twin)
+      → ((kept : Event) → why ≡ refusal.NoRoom kept → NextHasNoRoom lines (state_of store.core) flights lanes store.payload store.twin)
       → LacksRoom stopped lines lanes flights store
   stop_lacks lines lanes flights store lacks = by_why (λ s. LacksRoom s lines lanes flights store) (each why lacks)
     where
-      each : (why : Refusal) → ((kept : Event) → why ≡ refusal.NoRoom kept → HasNoRoom lines (state_of store.core) flights lanes store.payload store.twin)
+      each : (why : Refusal) → ((kept : Event) → why ≡ refusal.NoRoom kept → NextHasNoRoom lines (state_of store.core) flights lanes store.payload store.twin)
           → LacksRoom (stop_by why) lines lanes flights store
       each (refusal.NoRoom kept) lacks = lacks kept refl
       each (refusal.Full kept from needed) lacks = tt
@@ -280,7 +279,7 @@ barren_lacks stop.NoMemory lines lanes flights store barren = tt
 pub no_room : (lines : List FetchLine) (flights : List (Option Task)) (lanes left : List Left) (happened : Event) (old new : StoreState) (needed : ℕ)
     → IsPickedNext lines (state_of old.core) flights lanes happened left → state_of new.core ≡ state_of old.core
     → IsTooLong (changes_of (state_of new.core) happened) new.payload new.twin needed
-    → HasNoRoom lines (state_of new.core) flights lanes new.payload new.twin
+    → NextHasNoRoom lines (state_of new.core) flights lanes new.payload new.twin
 no_room lines flights lanes left happened old new needed next still long = record {
   happened = happened;
   left = left;

@@ -32,7 +32,7 @@ use Rattle.sw_turns.proofs.ChangeLemmas.{along_stamped}
 use Rattle.sw_turns.proofs.ComingLemmas.{of_turn_none, of_turn_stamped}
 use Rattle.sw_turns.proofs.EndLemmas.{ends_done, ends_full, ends_stalled, ends_unmade, played, so_far_here}
 use Rattle.sw_turns.proofs.SettleLemmas.{tended_alike, under_way}
-use Rattle.sw_turns.specs.Coming.{AreOfTurn, HasNoRoom}
+use Rattle.sw_turns.specs.Coming.{AreOfTurn, NextHasNoRoom}
 use Rattle.sw_turns.specs.Ends.{IsCutShort, IsKept}
 use Rattle.sw_turns.specs.Flights.{AreInFlight, Flies, IsDue}
 use Rattle.sw_turns.specs.Groups.{Begins, HasSome, IsBarren, IsUnderWay, KeepsLanes, LacksRoom, Leaves, Stops, over_by}
@@ -311,7 +311,7 @@ had_no_room clock before after store group same core lacks =
       payload = store.payload;
       spelled = ap (λ (all : List Change). spelled_all all) (along_stamped clock (state_of before.store.core) store.staged) ∙ group.spelled;
       lacks =
-          subst (λ (host : Hosted). HasNoRoom before.net (state_of host) flights after.lanes store.payload before.store.twin) (sym core)
+          subst (λ (host : Hosted). NextHasNoRoom before.net (state_of host) flights after.lanes store.payload before.store.twin) (sym core)
           (record {
             happened = lacks.happened;
             left = lacks.left;

@@ -61,7 +61,7 @@ pub record GrowsByPick (lines : List FetchLine) (flights : List (Option Task)) (
   pub state : after_entries (state_of old.core) more ≡ state_of new.core
 
 -- own: what the pick order has next has changes that pass the limit in a record behind this payload
-pub record HasNoRoom (lines : List FetchLine) (state : State) (flights : List (Option Task)) (lanes : List Left) (payload : List ℕ) (twin : TwinState) : Type 0 where
+pub record NextHasNoRoom (lines : List FetchLine) (state : State) (flights : List (Option Task)) (lanes : List Left) (payload : List ℕ) (twin : TwinState) : Type 0 where
   pub happened : Event
   pub left : List Left
   pub next : IsPickedNext lines state flights lanes happened left

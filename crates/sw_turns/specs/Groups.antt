@@ -11,7 +11,7 @@ use Rattle.sw_lane.specs.Left.{Left}
 use Rattle.sw_lane.specs.Picked.{in_flight, picked}
 use Rattle.sw_lane.specs.declared.picks.Pick.TheVariants as pick
 use Rattle.sw_lane.specs.declared.picks.Work.TheVariants as work
-use Rattle.sw_turns.specs.Coming.{HasNoRoom}
+use Rattle.sw_turns.specs.Coming.{NextHasNoRoom}
 use Rattle.sw_turns.specs.Flights.{Flies}
 use Rattle.sw_turns.specs.Machines.{IsEventOf}
 use Rattle.sw_turns.specs.Playing.{ComesNext, IsSoFar}
@@ -126,7 +126,7 @@ HasSome _ staged = Unit {0}
 -- own: with the changes of what comes next, for which a group has no room, its record would pass the limit
 abbrev pub LacksRoom : Stop → List FetchLine → List Left → List (Option Task) → StoreState → Type 0
 LacksRoom stop.NoRoom lines lanes flights store =
-    HasNoRoom lines (state_of store.core) flights lanes store.payload store.twin
+    NextHasNoRoom lines (state_of store.core) flights lanes store.payload store.twin
 LacksRoom _ lines lanes flights store = Unit {0}
 
 -- own: there was no memory for an event, or no room on the disk for its changes alone

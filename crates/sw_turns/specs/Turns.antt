@@ -16,7 +16,7 @@ use Rattle.sw_lane.specs.declared.picks.Work.TheVariants as work
 use Rattle.sw_laws.specs.Laws.{changes_along}
 use Rattle.sw_rules.specs.History.{after}
 use Rattle.sw_store.specs.Stores.{IsQuiet, IsTended}
-use Rattle.sw_turns.specs.Coming.{AreOfTurn, HasNoRoom}
+use Rattle.sw_turns.specs.Coming.{AreOfTurn, NextHasNoRoom}
 use Rattle.sw_turns.specs.Ends.{Ended}
 use Rattle.sw_turns.specs.Flights.{AreInFlight, Flies, IsDue}
 use Rattle.sw_turns.specs.Groups.{IsUnderWay}
@@ -84,7 +84,7 @@ IsOneGroup pass before after = (left : List Left) × HasPicked pass before after
 pub record HadNoRoom (before after : Progress) (added : List Entry) : Type 0 where
   pub payload : List ℕ
   pub spelled : spelled_all (changes_along (state_of before.store.core) added) ≡ Some payload
-  pub lacks : HasNoRoom before.net (state_of after.store.core) after.flights.items after.lanes payload before.store.twin
+  pub lacks : NextHasNoRoom before.net (state_of after.store.core) after.flights.items after.lanes payload before.store.twin
 
 -- own: a turn added entries, until there were sixteen, or nothing was ready but what is in flight, or what comes next had no room
 -- in their record

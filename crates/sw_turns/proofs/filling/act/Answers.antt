@@ -12,7 +12,7 @@ use Rattle.sw_turns.proofs.GroupLemmas.{next_of, next_pick, no_room}
 use Rattle.sw_turns.proofs.filling.act.Goals as goal
 use Rattle.sw_turns.proofs.filling.act.Goals.{After-put_back}
 use Rattle.sw_turns.specs.Acting.{IsTaking}
-use Rattle.sw_turns.specs.Coming.{HasNoRoom}
+use Rattle.sw_turns.specs.Coming.{NextHasNoRoom}
 use Rattle.sw_turns.specs.Groups.{IsUnderWay, StaysOut}
 use Rattle.sw_turns.specs.declared.ends.Refusal.{Refusal}
 use Rattle.sw_work.specs.Hosted.{Hosted, state_of}
@@ -82,7 +82,7 @@ returns-in-Err-NoRoom-clause-some c =
 pub returns-in-Err-NoRoom-clause-lacks : goal.returns-in-Err-NoRoom-clause-lacks
 returns-in-Err-NoRoom-clause-lacks c =
     let none = c.in-Err-NoRoom.ensures.no_room c.in-Err-NoRoom.event (ap (λ (why : Refusal). Err why) c.in-Err-NoRoom.field-0-is) in
-    subst (λ (lanes : List Left). HasNoRoom c.args.net.now (state_of c.enter.new.store.core) c.args.flights.now lanes c.enter.new.store.payload c.enter.new.store.twin) (sym (back c))
+    subst (λ (lanes : List Left). NextHasNoRoom c.args.net.now (state_of c.enter.new.store.core) c.args.flights.now lanes c.enter.new.store.payload c.enter.new.store.twin) (sym (back c))
     (no_room c.args.net.now c.args.flights.now c.args.lanes.now c.action_event-event.new.lanes c.action_event-event.result c.args.store.now c.enter.new.store none.2.0
     (next_pick c.args.net.now c.args.flights.now c.args.lanes.now c.action_event-event.new.lanes c.core.result.now c.args.store.now.core c.action_event-event.result
     c.core.ensures c.action_event-event.ensures.picked)
