@@ -1,4 +1,11 @@
-//! Rows of `url`: addresses, trust and storage keys.
+//! Addresses, trust and storage keys.
+//!
+//! - `url resolve TEXT BASE`, `url script TEXT BASE`, `url scope TEXT? SCRIPT BASE`, `url http TEXT`, `url serialized TEXT`: the
+//!   address
+//! - `url bare ADDRESS`, `url path ADDRESS`: the address without its fragment, and also without its query
+//! - `url bound SCRIPT ALLOWED?`: the bound of the scopes that a script may have
+//! - `url within SCOPE BOUND`, `url trusted ADDRESS`, `url same LEFT RIGHT`: whether it holds
+//! - `url key ADDRESS PARTITION?`, `url page ADDRESS PARTITION?`: the storage key
 
 use crate::row::{Answer, Fault, quoted, quoted_or_none, text, text_or_none, truth, word};
 use serde_json::Value;

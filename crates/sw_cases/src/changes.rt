@@ -1,6 +1,10 @@
-//! Durable changes in rows, and rows of `change`: the content that they make.
+//! Durable changes, and the content that they make. CHANGE is one of these arrays; BATCH is an object with the `name` of a cache
+//! and `operations`, as in a lane line.
 //!
-//! A change is an array of its word and its parts, in the order of their spelling.
+//! - `waiting KEY SCOPE MODE SCRIPT KIND BODY`, `active KEY SCOPE`, `activated KEY SCOPE`, `mode KEY SCOPE MODE`, `gone KEY SCOPE`,
+//!   `preload KEY SCOPE ON VALUE`, `cacheNew KEY NAME`, `cacheDrop KEY NAME`, `cacheOps KEY BATCH`, `forgot KEY`, `restarted`
+//! - `change counts CHANGE..`: how many registrations and caches are kept
+//! - `change again CHANGE..`: how many changes make the content again, and how many the content that these make
 
 use crate::row::{Answer, Fault, bytes, form, list_of, part, text, word};
 use serde_json::Value;

@@ -1,4 +1,9 @@
-//! Rows of `http`: requests, responses and media types.
+//! Requests, responses and media types. HEADERS is an array of pairs.
+//!
+//! - `http request METHOD ADDRESS HEADERS`: the request as it is kept, with each name and value of its headers
+//! - `http response STATUS HEADERS TEXT COUNT`, with TEXT so many times as its body: the status, the length of the body, whether
+//!   it is the one that was given, and the headers
+//! - `http javascript HEADERS`: whether the media type is one of JavaScript
 
 use crate::row::{Answer, Fault, headers, number, quoted, repeated, text, truth};
 use serde_json::Value;

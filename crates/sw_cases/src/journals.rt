@@ -1,4 +1,15 @@
-//! Rows of `journal`, `twin` and `kept`: what the bytes of a disk's parts are opened as, and what is written to them.
+//! What the bytes of a disk's parts are opened as, and what is written to them.
+//!
+//! - `journal records LEFT`: how many records the part has, or why it isn't opened
+//! - `journal moved LEFT`: its format and next free offset, and both once the journal went over to a whole part without records
+//! - `journal filled LIMIT FIRST SECOND`: an empty part is formatted and two payloads are appended within a limit: the next free
+//!   offset before, what the first needs, the answer to the second, and the bytes
+//! - `twin whole PAYLOAD`: the bytes of a whole part
+//! - `twin current ROOT LEFT RIGHT PICKS`, with whole parts of one payload: the payloads of the current part, before and after a
+//!   crash that leaves what is picked
+//! - `twin checkpoint LEFT RIGHT LIMIT PAYLOAD`, with a whole part of one payload at left, and bytes at right: the format, the next
+//!   free offset, what a byte needs, the bytes of root and of left, and the payloads of the current part
+//! - `kept open LEFT`: `opened`, or why it isn't
 ghost use Rattle.std.specs.Prelude.{◌≡◌, ◌≤◌, ◌<◌, ◌^◌, [], ◌∷◌, length, IfOk, IfSome};
 ghost use Rattle.sw_journal.specs.Format.{format_2};
 ghost use Rattle.sw_journal.specs.WholePart.{IsWhole};

@@ -1,4 +1,11 @@
-//! The tables of the lifecycle, as rows call them: flags, workers, registrations, draws, jobs and clients.
+//! The tables of the lifecycle.
+//!
+//! - on `flags`: `add COUNT`, `set PLACE`, `clear PLACE`, `get PLACE`, `first FROM`
+//! - on `worker`: `make`, `advance WORKER STATE`, `begin WORKER EVENT`
+//! - on `reg`: `make KEY SCOPE`, `scope NUMBER`, `len`
+//! - on `ledgers`: `draw ADDRESS`, `next ADDRESS`
+//! - on `queue`: `schedule KEY SCOPE COUNT` (what becomes of the last of so many equal jobs), `start KEY SCOPE`, `followers JOB`
+//! - on `client`: `open NUMBER`, `openAll COUNT`, `closeAll COUNT`, `users REGISTRATION`, `len`
 ghost use Rattle.std.specs.Prelude.{◌≡◌, IfOk};
 
 use crate::row::{

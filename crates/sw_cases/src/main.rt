@@ -1,14 +1,14 @@
 //! Single calls of the crates below the host, as data: each row of standard input is a call, and each line of standard output
 //! its answer. No proof speaks of the answers: the expected ones stand in `stdout`, and come from outside.
 //!
-//! A row is a JSON array: the name of a crate without `sw_`, the word of a call, and the call's parts; or, of a table, the
-//! calls on a fresh one, each an array of its word and its parts. Blank rows are skipped. What isn't the row of a call is
-//! answered by `bad row`. Want of memory, or a stream that fails, ends the program with status 1.
+//! A row is a JSON array: the name of a crate without `sw_`, the word of a call, and its parts; or the name, and the calls on a
+//! fresh table of the crate one after the other, each an array of its word and its parts, which are answered in one line. Empty
+//! rows are skipped. What is no such row is answered by `bad row`. Want of memory, and a stream that fails, end the program
+//! with status 1.
 //!
-//! In rows and answers a text stands as JSON, bytes as a text in hexadecimal, and what is absent as `null` in a row and as
-//! `none` in an answer. A refusal is answered by its name. In the table, `[..]?` may be `null`, HEADERS is an array of pairs,
-//! PUT, MATCH and BATCH are objects with the members of a lane line (`docs/FORMATS.md`), and CHANGE is an array of a word and
-//! the parts of a durable change in the order of their spelling.
+//! Texts stand as JSON in rows and in answers, bytes as texts in hexadecimal, and what is absent as `null` in a row and as
+//! `none` in an answer. A refusal is answered by its name. Each module's head lists its calls; a part with a question mark may
+//! be `null`.
 #![tactic(auto)]
 
 mod addresses;

@@ -1,7 +1,16 @@
-//! Rows of `record`, `gen`, `net` and `print`: recordings, generated ones, what the network answers, and how a run ended.
+//! Recordings, generated ones, what the network answers, and how a run ended.
+//!
+//! - `record read PIECE..`: `read`, or why the recording isn't read that the pieces are one behind the other; a piece is a text,
+//!   or an array of a text and how often it stands there
+//! - `gen lines NUMBER SIZE`: how many lines the generated recording has
+//! - `net fetches [LINE..] [FETCH..]`: the count of the lines, and the status of each fetch; a line is an array of an address and
+//!   a status, or `null` for a network error, and a fetch one of an address and the fetch's ordinal
+//! - `print end done`, `print end stalled LANE`, `print end disk [EVENT..]`, `print end full EVENT`, `print end spent`: the last
+//!   line of a transcript; an event is an array of a lane, a position, and `cacheOpen` or `put`
 
 use crate::row::{
-    Answer, Fault, list, list_of, part, plain, quoted, repeated, small_number, text, word,
+    Answer, Fault, list, list_of, number_or_none, part, plain, quoted, repeated, small_number,
+    text, word,
 };
 use serde_json::Value;
 use std::alloc::Global;
@@ -100,16 +109,12 @@ fn drawn(alloc: Global, net: &Net, parts: &[Value]) -> Answer {
     let address = text(alloc, parts, 0)?;
     let ordinal = small_number(parts, 1)?;
     NoGate.pass(&address, ordinal);
-    let Some(line) = net.fetch(&address, ordinal) else {
-        return plain(alloc, "none");
-    };
-    match &line.fetched {
-        Some(fetched) => {
-            let status = fetched.response.status;
-            Ok(format!(in alloc; "{status}")?)
-        }
-        None => plain(alloc, "error"),
-    }
+    let line = net.fetch(&address, ordinal);
+    let fetched = line.and_then(|line| line.fetched.as_ref());
+    number_or_none(
+        alloc,
+        fetched.map(|fetched| u64::from(fetched.response.status)),
+    )
 }
 
 // How many lines a network has, and what it answers to each fetch.

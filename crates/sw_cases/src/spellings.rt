@@ -1,4 +1,9 @@
-//! Rows of `codec`: durable changes as bytes, and bytes as changes.
+//! Durable changes as bytes, and bytes as changes.
+//!
+//! - `codec write CHANGE..`: the bytes, or `refused`
+//! - `codec read BYTES`: how many changes they spell, and the bytes that these are written as; or where they are bad
+//! - `codec cuts BYTES..`, `codec flips BYTES..`, each the spelling of a change: the first place at which they are told wrong, where
+//!   all of them in a row are cut there, or their byte there is another
 
 use crate::changes::changes;
 use crate::row::{Answer, Fault, bytes, bytes_of, place_or_none, spelled};

@@ -1,4 +1,13 @@
-//! Rows of `match` and `copy`, and the tables of caches and of values under keys and names.
+//! What matches a query, copies of calls, and the tables of caches and of values under keys and names. PUT, MATCH and BATCH are
+//! objects with the members that they have in a lane line.
+//!
+//! - `match combined HEADERS NAME`: the combined value
+//! - `match query [PUT..] MATCH`: how many of the puts a query finds, and their places
+//! - `copy batch BATCH`: whether the copy of the call is the same as it, and whether it is the same as a claim
+//! - on `caches`: `make KEY NAME`, `batch KEY BATCH`, `large KEY NAME ADDRESS SIZE` (a put with a body of this size), `len KEY NAME`,
+//!   `names KEY`, and `apply BATCH` (how many pairs a batch makes of none)
+//! - on `index`: `add KEY NAME VALUE`, `set PLACE VALUE`, `values`, `place KEY NAME`, `next KEY FROM`, `removeNamed KEY NAME`,
+//!   `removeKey KEY`, `len`
 
 use crate::row::{
     Answer, Fault, count, form, headers, list, part, place_or_none, plain, quoted, quoted_or_none,
@@ -9,7 +18,7 @@ use serde_json::Value;
 use std::alloc::Global;
 use sw_caches::{BatchFault, Caches, apply_ops};
 use sw_copy::{copy_call, same_call};
-use sw_data::{Bytes, Call, Items, Op, Request, Response, Text};
+use sw_data::{Bytes, CacheBatch, Call, Items, Op, Request, Response, Text};
 use sw_forms::{batch_parts, match_parts, put_parts};
 use sw_index::Named;
 use sw_match::{combined, query};
@@ -118,10 +127,10 @@ fn put_large(alloc: Global, caches: &mut Caches, parts: &[Value]) -> Answer {
 
 fn batch(alloc: Global, caches: &mut Caches, parts: &[Value]) -> Answer {
     let key = text(alloc, parts, 1)?;
-    let batch = form(batch_parts(alloc, part(parts, 2)?))?;
+    let CacheBatch { name, operations } = form(batch_parts(alloc, part(parts, 2)?))?;
     batched(
         alloc,
-        caches.batch(alloc, &key, &batch.name, batch.operations.into_vec()),
+        caches.batch(alloc, &key, &name, operations.into_vec()),
     )
 }
 
