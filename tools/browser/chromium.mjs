@@ -10,6 +10,11 @@ const SWITCHES = [
   "--ignore-certificate-errors", "--use-mock-keychain", "--password-store=basic", "--mute-audio",
 ];
 
+const SILENCE = 60000;
+
+// The browser refuses a command, doesn't answer it, or has ended.
+export class Silent extends Error {}
+
 export class Chromium extends EventEmitter {
   #child;
   #next = 1;
@@ -30,7 +35,7 @@ export class Chromium extends EventEmitter {
   }
 
   #fail(text) {
-    for (const { reject } of this.#waiting.values()) reject(new Error(text));
+    for (const { reject } of this.#waiting.values()) reject(new Silent(text));
     this.#waiting.clear();
   }
 
@@ -47,16 +52,18 @@ export class Chromium extends EventEmitter {
     if (id === undefined) return this.emit(method, params, sessionId);
     const waiting = this.#waiting.get(id);
     this.#waiting.delete(id);
-    if (error) waiting?.reject(new Error(`${waiting.method}: ${error.message}`));
+    if (error) waiting?.reject(new Silent(`${waiting.method}: ${error.message}`));
     else waiting?.resolve(result);
   }
 
   send(method, params = {}, sessionId) {
     const id = this.#next++;
-    return new Promise((resolve, reject) => {
+    const answered = new Promise((resolve, reject) => {
       this.#waiting.set(id, { resolve, reject, method });
       this.#child.stdio[3].write(JSON.stringify({ id, method, params, sessionId }) + "\0");
     });
+    const late = setTimeout(() => this.#take({ id, error: { message: "no answer" } }), SILENCE);
+    return answered.finally(() => clearTimeout(late));
   }
 
   async end() {

@@ -146,27 +146,50 @@ export class Player {
 
   async #evaluate({ sessionId }, call, ...words) {
     const expression = `page.${call}(${words.map((word) => JSON.stringify(word) ?? "undefined").join(", ")})`;
-    const { result, exceptionDetails } =
-      await this.chromium.send("Runtime.evaluate", { expression, awaitPromise: true, returnByValue: true }, sessionId);
+    const answered = this.chromium.send("Runtime.evaluate", { expression, awaitPromise: true, returnByValue: true }, sessionId);
+    const given = await within(2 * LATE, answered.catch(() => NOTHING));
+    if (given === NOTHING) return NOTHING;
+    const { result, exceptionDetails } = given;
     return exceptionDetails === undefined ? result.value : `(${exceptionDetails.exception?.description ?? exceptionDetails.text})`;
   }
 
   // A browser waits for an activating worker where the recording's page doesn't: then the handlers go on.
   async #patient(promise) {
-    const first = await within(SOON, promise);
-    if (first !== NOTHING) return first;
-    await this.#activateNow();
+    for (let turn = 0; turn < 3; turn++) {
+      const given = await within(SOON, promise);
+      if (given !== NOTHING) return given;
+      await this.#activateNow();
+    }
     return within(LATE, promise);
   }
 
   async #activateNow() {
-    for (const entry of this.transcript) {
-      if (this.#done.has(entry) || (entry.phase !== "activate" && !/^(added|activated) /.test(entry.event))) continue;
-      const worker = entry.worker ?? this.#tasks.get(entry.event.split(" ")[1])?.worker ?? entry.event.split(" ")[1];
-      if (!this.#names.has(worker) || !this.#question(worker, "activate")) continue;
-      this.#done.set(entry, await this.#host(entry));
+    for (const name of [...this.#names.keys()].filter((each) => this.#question(each, "activate"))) {
       this.early = true;
+      for (const entry of this.transcript) {
+        if (this.#isOfActivation(entry, name) && !this.#done.has(entry)) this.#done.set(entry, await this.#host(entry));
+      }
+      if (!this.transcript.some(({ event }) => event === `activated ${name}`)) await this.#activateUnseen(name);
     }
+  }
+
+  #isOfActivation({ worker, phase, event }, name) {
+    if (worker === name) return phase === "activate";
+    const [word, task] = event.split(" ");
+    if (word === "added") return this.#tasks.get(task)?.worker === name && this.#tasks.get(task).phase === "activate";
+    return event === `activated ${name}`;
+  }
+
+  // A worker that the browser activates and the transcript doesn't: its recorded handler, whole.
+  async #activateUnseen(name) {
+    for (const call of this.#jobOfWorker(name)?.line?.activate?.calls ?? []) {
+      await this.#order(name, "activate", { do: "call", call, wait: call.do !== "update" });
+    }
+    await this.#activated(name);
+  }
+
+  #jobOfWorker(name) {
+    return [...this.#jobs.values()].find(({ worker }) => worker === name);
   }
 
   // ---- names: what the transcript calls a worker or registration
@@ -227,7 +250,8 @@ export class Player {
   }
 
   #note(entry, { browser, reason }) {
-    this.results.push({ number: entry.number, text: entry.text, event: entry.event, ours: seen(entry.answer), browser, reason, early: this.early === true });
+    const unseen = browser === "started" ? "the number of a job or an addAll" : reason;
+    this.results.push({ number: entry.number, text: entry.text, event: entry.event, ours: seen(entry.answer), browser, reason: unseen, early: this.early === true });
   }
 
   // ---- what the host does
@@ -342,7 +366,7 @@ export class Player {
   }
 
   async #installed(name) {
-    const line = [...this.#jobs.values()].find((job) => job.worker === name)?.line;
+    const line = this.#jobOfWorker(name)?.line;
     if (!this.#names.has(name)) return {};
     await this.#order(name, "install", { do: "end", fail: line?.install?.end === "fail" });
     await this.#until(() => [undefined, "installing", "new"].includes(this.#statusOf(name)) ? undefined : true);
@@ -359,7 +383,7 @@ export class Player {
   // A call of a handler.
   async #call({ worker, phase, call, event, answer }) {
     if (!this.#names.has(worker)) return { reason: "the browser has no such worker" };
-    const job = [...this.#jobs.values()].find((each) => each.worker === worker);
+    const job = this.#jobOfWorker(worker);
     const recorded = job.line?.[phase]?.calls?.[call];
     const task = /^a\d+$/.exec(answer), made = /^(j\d+)/.exec(answer);
     if (made) this.#jobs.set(made[1], { state: "made", script: job.script, scope: job.scope });
