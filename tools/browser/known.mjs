@@ -2,6 +2,11 @@
 // `is` looks at one answer that differs, with the recording's text and its transcript.
 const ON_CACHES = ["match", "matchAll", "keys", "delete"];
 const ON_WORKERS = ["open", "ready", "skipWaiting", "claim", "begin", "registration", "registrations"];
+const OF_JOBS = ["await", ...ON_WORKERS];
+const OF_FETCHES = ["await", "added", ...ON_CACHES];
+
+// Credentials in an address, a method, a status, a character past U+00FF.
+const NOT_OF_PAGES = [/\/\/[^/"]*@/, /"(TRACE|TRACK|CONNECT)"/i, /"status":([16-9]\d\d|204|205|304)\b/, /[\u0100-\uffff]/];
 
 const hasNotice = (entry, notice) => entry.notices.some((each) => notice.test(each));
 
@@ -14,10 +19,10 @@ function isOwed({ number, transcript }) {
   }));
 }
 
-// An earlier `register` came while a worker of a settled job was installing.
+// An earlier `register` or `update` came while a worker of a settled job was installing.
 function isJoined({ number, transcript }) {
   return transcript.some((line) => {
-    if (line.event !== "register" || line.number >= number) return false;
+    if (!["register", "update"].includes(line.event) || line.number >= number) return false;
     return transcript.some((job) => {
       const installing = /^evaluated (j\d+)$/.exec(job.event);
       if (!installing || job.answer !== "installing" || job.number > line.number) return false;
@@ -31,6 +36,11 @@ function isRevived({ number, transcript }) {
   return gone !== undefined && transcript.some((entry) => entry.event === "register" && entry.number > gone.number && entry.number < number);
 }
 
+// A page had asked for `ready` before.
+function isLasting({ event, number, transcript }) {
+  return event === "ready" && transcript.some((entry) => entry.event === "ready" && entry.number < number);
+}
+
 // The transcript has a later end of an activation, of a registration that this `unregister` removed.
 function isCleared({ event, browser, transcript, number }) {
   const gone = transcript.some((entry) => entry.number < number && hasNotice(entry, /^unmapped /));
@@ -39,20 +49,24 @@ function isCleared({ event, browser, transcript, number }) {
 
 const differences = [
   { name: "pages that aren't trustworthy have no interface", is: ({ browser }) => browser === "no interface" },
-  { name: "`ready` is one promise that lasts", is: ({ event, recording }) => event === "ready" && /"do":"unregister"/.test(recording) },
-  { name: "a redirect is followed by `addAll` and refused by `register`", is: ({ recording }) => /"status":30[12378]\b/.test(recording) },
+  { name: "`ready`, asked again", is: isLasting },
+  { name: "`getRegistration` of an address that doesn't parse", is: ({ event, browser, text }) =>
+    event === "registration" && text.includes("TypeError unparsed") && browser === "SecurityError" },
+  { name: "a redirect", is: ({ event, recording }) =>
+    OF_FETCHES.includes(event.split(" ")[0]) && /"status":30[12378]\b/.test(recording) },
   { name: "Content-Type with several values", is: ({ event, ours, recording }) => event === "await" && ours === "SecurityError"
     && (/"Content-Type"[^\]]*,[^\]]*,/i.test(recording) || /"Content-Type".*"Content-Type"/i.test(recording)) },
   { name: "a script's status is tested before its type and folder", is: ({ event, ours, browser, recording }) =>
     event === "await" && ours === "SecurityError" && browser === "TypeError" && /"status":[345]\d\d/.test(recording) },
-  { name: "requests and responses that a page can't make", is: ({ browser, recording }) => browser === "TypeError"
-    && (/\/\/[^/"]*@/.test(recording) || /"(TRACE|TRACK|CONNECT)"/i.test(recording) || /"status":([6-9]\d\d|1\d\d|204|205|304)/.test(recording) || /[\u0100-\uffff]/.test(recording)) },
+  { name: "requests and responses that a page can't make", is: ({ browser, recording }) =>
+    browser === "TypeError" && NOT_OF_PAGES.some((form) => form.test(recording)) },
+  { name: "several Vary lines of a response that a page made", is: ({ event, recording }) =>
+    ON_CACHES.includes(event) && /\["Vary",[^\]]*\](, ?\[[^\]]*\])*, ?\["Vary"/i.test(recording) },
   { name: "items of one address that Vary tells apart", is: ({ event, recording }) => ON_CACHES.includes(event) && /"vary"/i.test(recording) },
   { name: "an unregistered registration is cleared under its handlers", is: isCleared },
-  { name: "`register` after unregistering, under a controlled page", is: isRevived },
-  { name: "`register` joins a job whose promise has settled", is: isJoined },
+  { name: "`register` after unregistering, under a controlled page", is: (given) => OF_JOBS.includes(given.event) && isRevived(given) },
   { name: "Try Activate comes at once behind an install", is: (given) => ON_WORKERS.includes(given.event) && isOwed(given) },
-  { name: "a page opens, and skipWaiting answers, when the worker is activated", is: ({ early }) => early },
+  { name: "`register` or `update` again while the worker of a settled job installs", is: (given) => OF_JOBS.includes(given.event) && isJoined(given) },
 ];
 
 export const known = (answer, played) => differences.find(({ is }) => is({ ...answer, ...played }))?.name;
