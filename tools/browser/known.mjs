@@ -41,10 +41,10 @@ function isLasting({ event, number, transcript }) {
   return event === "ready" && transcript.some((entry) => entry.event === "ready" && entry.number < number);
 }
 
-// The transcript has a later end of an activation, of a registration that this `unregister` removed.
-function isCleared({ event, browser, transcript, number }) {
+// A handler goes on behind the `unregister` of its registration.
+function isCleared({ text, browser, transcript, number }) {
   const gone = transcript.some((entry) => entry.number < number && hasNotice(entry, /^unmapped /));
-  return gone && ["nothing", "pending"].includes(browser);
+  return gone && /^(w|- added)/.test(text) && ["nothing", "pending"].includes(browser);
 }
 
 const differences = [
