@@ -29,9 +29,10 @@ export class Chromium extends EventEmitter {
     this.#child = spawn(program, [...switches, "about:blank"], { stdio: ["ignore", "ignore", "ignore", "pipe", "pipe"] });
     this.#child.stdio[4].on("data", (bytes) => this.#read(bytes));
     this.#child.stdio[3].on("error", () => {});
-    this.ended = new Promise((resolve) => this.#child.on("exit", resolve));
-    this.ended.then(() => this.#fail("Chromium has ended"));
-    this.#child.on("error", (fault) => this.#fail(fault.message));
+    this.ended = new Promise((resolve) => {
+      for (const end of ["exit", "error"]) this.#child.on(end, resolve);
+    });
+    this.ended.then(() => this.#fail("it has ended"));
   }
 
   #fail(text) {
