@@ -146,7 +146,7 @@ function paging(cacheCall) {
       worker.postMessage(message, [channel.port2]);
     });
   }
-  const idOf = (worker) => Promise.race([tell(worker, "id"), new Promise((resolve) => setTimeout(resolve, 1000, "silent"))]);
+  const idOf = (worker) => Promise.race([tell(worker, "id"), new Promise((resolve) => setTimeout(resolve, 5000, "silent"))]);
   async function described(registration) {
     seen.set(registration.scope, registration);
     const newest = registration.installing ?? registration.waiting ?? registration.active;
