@@ -2,8 +2,8 @@
 //!
 //! - `journal records LEFT`: how many records the part has, or why it isn't opened
 //! - `journal moved LEFT`: its format and next free offset, and both once the journal went over to a whole part without records
-//! - `journal filled LIMIT FIRST SECOND`: an empty part is formatted and two payloads are appended within a limit: the next free
-//!   offset before, what the first needs, the answer to the second, and the bytes
+//! - `journal init LEFT`: the bytes of the part once it is formatted, or why it isn't
+//! - `journal append LIMIT LEFT PAYLOAD`: the next free offset, what the payload needs, the answer to it, and the bytes then
 //! - `twin whole PAYLOAD`: the bytes of a whole part
 //! - `twin current ROOT LEFT RIGHT PICKS`, with whole parts of one payload: the payloads of the current part, before and after a
 //!   crash that leaves what is picked
@@ -20,9 +20,9 @@ use serde_json::Value;
 use std::alloc::Global;
 use sw_data::Bytes;
 use sw_disk::{Disk, MemoryDisk, Part};
-use sw_journal::{AppendError, Journal, ReopenError};
+use sw_journal::{AppendError, Journal, ReopenError, init};
 use sw_kept::{OpenError, open};
-use sw_twin::{CheckpointError, Twin, init, part_of};
+use sw_twin::{CheckpointError, Twin, part_of};
 
 const MOST: u64 = 4_294_967_296;
 
@@ -92,35 +92,38 @@ fn appended(alloc: Global, answer: Result<(), AppendError>) -> Answer {
     }
 }
 
-// What an empty part that is formatted answers to two payloads within a limit, and its bytes then.
-fn filled(alloc: Global, parts: &[Value]) -> Answer {
-    let limit = limit(parts, 0)?;
-    let (first, second) = (bytes(alloc, parts, 1)?, bytes(alloc, parts, 2)?);
-    let mut disk = disk_with(alloc, Bytes::from_vec(Vec::new(alloc)));
-    match sw_journal::init(&mut disk, Part::Left) {
-        Ok(()) => {}
-        Err(why) => return Ok(format!(in alloc; "{why:?}")?),
-    }
-    let mut journal = match Journal::reopen(alloc, &mut disk, Part::Left, limit) {
+// The next free offset, what a payload needs, and the answer to it within a limit.
+fn answer_to<D: Disk>(alloc: Global, disk: &mut D, limit: u64, payload: &[u8]) -> Answer
+    requires { limit ≤ 2 ^ 32 }
+{
+    let mut journal = match Journal::reopen(alloc, disk, Part::Left, limit) {
         Ok((journal, _)) => journal,
         Err(why) => return refused(alloc, why),
     };
-    let (next, needed) = (
-        journal.next(),
-        journal.needed(first.as_bytes().len() as u64),
-    );
     if journal.format() != 2 {
-        return Err(Fault::BadRow);
+        return plain(alloc, "older format");
     }
-    journal.reserve(first.as_bytes().len() as u64)?;
-    journal.reserve(second.as_bytes().len() as u64)?;
-    match journal.append(&mut disk, first.as_bytes()) {
-        Ok(()) => {}
-        Err(why) => return appended(alloc, Err(why)),
-    }
-    let answer = appended(alloc, journal.append(&mut disk, second.as_bytes()))?;
+    let (next, needed) = (journal.next(), journal.needed(payload.len() as u64));
+    journal.reserve(payload.len() as u64)?;
+    let answer = appended(alloc, journal.append(disk, payload))?;
+    Ok(format!(in alloc; "{next} {needed} {answer}")?)
+}
+
+fn append(alloc: Global, parts: &[Value]) -> Answer {
+    let limit = limit(parts, 0)?;
+    let mut disk = disk_with(alloc, bytes(alloc, parts, 1)?);
+    let payload = bytes(alloc, parts, 2)?;
+    let answer = answer_to(alloc, &mut disk, limit, payload.as_bytes())?;
     let image = spelled(alloc, disk.image(Part::Left))?;
-    Ok(format!(in alloc; "{next} {needed} {answer} {image}")?)
+    Ok(format!(in alloc; "{answer} {image}")?)
+}
+
+fn formatted(alloc: Global, parts: &[Value]) -> Answer {
+    let mut disk = disk_with(alloc, bytes(alloc, parts, 0)?);
+    match init(&mut disk, Part::Left) {
+        Ok(()) => spelled(alloc, disk.image(Part::Left)),
+        Err(why) => Ok(format!(in alloc; "{why:?}")?),
+    }
 }
 
 /// The answer to a row of `journal`.
@@ -128,7 +131,8 @@ pub fn answer(alloc: Global, call: &str, parts: &[Value]) -> Answer {
     match call {
         "records" => records(alloc, parts),
         "moved" => moved(alloc, parts),
-        "filled" => filled(alloc, parts),
+        "init" => formatted(alloc, parts),
+        "append" => append(alloc, parts),
         _ => Err(Fault::BadRow),
     }
 }
@@ -171,17 +175,20 @@ fn payloads<D: Disk>(alloc: Global, disk: &mut D) -> Answer {
     }
 }
 
-// The payloads of the current part, where left and right are whole parts with one payload, before and after a crash.
+// The payloads of the current part, before and after a crash.
+fn before_and_after(alloc: Global, mut disk: MemoryDisk, picks: &[u8]) -> Answer {
+    let before = payloads(alloc, &mut disk)?;
+    let mut left = disk.crash(picks)?;
+    let after = payloads(alloc, &mut left)?;
+    Ok(format!(in alloc; "{before} {after}")?)
+}
+
 fn current(alloc: Global, parts: &[Value]) -> Answer {
     let root = bytes(alloc, parts, 0)?;
     let left = whole(alloc, payload(alloc, parts, 1)?)?;
     let right = whole(alloc, payload(alloc, parts, 2)?)?;
     let picks = bytes(alloc, parts, 3)?;
-    let mut disk = disk(alloc, root, left, right);
-    let before = payloads(alloc, &mut disk)?;
-    let mut left = disk.crash(picks.as_bytes())?;
-    let after = payloads(alloc, &mut left)?;
-    Ok(format!(in alloc; "{before} {after}")?)
+    before_and_after(alloc, disk(alloc, root, left, right), picks.as_bytes())
 }
 
 // Makes a part with a payload the current one.
@@ -198,27 +205,40 @@ fn checkpoint<D: Disk>(
     Ok(twin.checkpoint(disk, contents.as_bytes()))
 }
 
-// What a checkpoint with a payload makes of a disk, where left is a whole part with one: the format, the next free offset
-// and what a record of one byte needs, the bytes of root and of left, and the payloads of the current part.
+// The format, the next free offset and what a record of one byte needs, after a checkpoint with a payload.
+fn checkpointed<D: Disk>(alloc: Global, disk: &mut D, limit: u64, payload: Bytes) -> Answer
+    requires limit { limit ≤ 2 ^ 32 }
+    requires payload { length payload < 2 ^ 32 }
+{
+    let mut twin = match Twin::reopen(alloc, disk, limit) {
+        Ok((twin, _)) => twin,
+        Err(why) => return refused(alloc, why),
+    };
+    match checkpoint(alloc, &mut twin, disk, payload)? {
+        Ok(()) => {}
+        Err(why) => return Ok(format!(in alloc; "{why:?}")?),
+    }
+    let (format, next, needed) = (twin.format(), twin.next(), twin.needed(1));
+    Ok(format!(in alloc; "{format} {next} {needed}")?)
+}
+
+// The bytes of root and of left, and the payloads of the current part.
+fn images(alloc: Global, disk: &mut MemoryDisk) -> Answer {
+    let root = spelled(alloc, disk.image(Part::Root))?;
+    let left = spelled(alloc, disk.image(Part::Left))?;
+    let payloads = payloads(alloc, disk)?;
+    Ok(format!(in alloc; "{root} {left} {payloads}")?)
+}
+
 fn went_over(alloc: Global, parts: &[Value]) -> Answer {
     let left = whole(alloc, payload(alloc, parts, 0)?)?;
     let right = bytes(alloc, parts, 1)?;
     let limit = limit(parts, 2)?;
     let new = payload(alloc, parts, 3)?;
     let mut disk = disk(alloc, Bytes::from_vec(Vec::new(alloc)), left, right);
-    let mut twin = match Twin::reopen(alloc, &mut disk, limit) {
-        Ok((twin, _)) => twin,
-        Err(why) => return refused(alloc, why),
-    };
-    match checkpoint(alloc, &mut twin, &mut disk, new)? {
-        Ok(()) => {}
-        Err(why) => return Ok(format!(in alloc; "{why:?}")?),
-    }
-    let (format, next, needed) = (twin.format(), twin.next(), twin.needed(1));
-    let root = spelled(alloc, disk.image(Part::Root))?;
-    let left = spelled(alloc, disk.image(Part::Left))?;
-    let payloads = payloads(alloc, &mut disk)?;
-    Ok(format!(in alloc; "{format} {next} {needed} {root} {left} {payloads}")?)
+    let answer = checkpointed(alloc, &mut disk, limit, new)?;
+    let images = images(alloc, &mut disk)?;
+    Ok(format!(in alloc; "{answer} {images}")?)
 }
 
 /// The answer to a row of `twin`.

@@ -65,7 +65,6 @@ fn call_answer(alloc: Global, name: &str, call: &str, parts: &[Value]) -> Answer
         "match" => stores::answer(alloc, call, parts),
         "net" => recordings::net_answer(alloc, call, parts),
         "print" => recordings::print_answer(alloc, call, parts),
-        "record" => recordings::answer(alloc, call, parts),
         "twin" => journals::twin_answer(alloc, call, parts),
         "url" => addresses::answer(alloc, call, parts),
         _ => Err(Fault::BadRow),

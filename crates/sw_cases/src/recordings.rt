@@ -1,7 +1,5 @@
-//! Recordings, generated ones, what the network answers, and how a run ended.
+//! Generated recordings, what the network answers, and how a run ended.
 //!
-//! - `record read PIECE..`: `read`, or why the recording isn't read that the pieces are one behind the other; a piece is a text,
-//!   or an array of a text and how often it stands there
 //! - `gen lines NUMBER SIZE`: how many lines the generated recording has
 //! - `net fetches [LINE..] [FETCH..]`: the count of the lines, and the status of each fetch; a line is an array of an address and
 //!   a status, or `null` for a network error, and a fetch one of an address and the fetch's ordinal
@@ -9,8 +7,7 @@
 //!   line of a transcript; an event is an array of a lane, a position, and `cacheOpen` or `put`
 
 use crate::row::{
-    Answer, Fault, list, list_of, number_or_none, part, plain, quoted, repeated, small_number,
-    text, word,
+    Answer, Fault, list, list_of, number_or_none, part, plain, quoted, small_number, text, word,
 };
 use serde_json::Value;
 use std::alloc::Global;
@@ -21,29 +18,6 @@ use sw_data::{
 use sw_gen::generate;
 use sw_net::{Gate, Net, NoGate};
 use sw_print::print_history;
-use sw_record::{RecordingError, read_recording};
-
-// A piece of a recording: a text, or an array of a text and how often it stands there.
-fn piece(alloc: Global, value: &Value) -> Answer {
-    match value.as_str() {
-        Some(text) => plain(alloc, text),
-        None => repeated(alloc, list_of(value)?, 0),
-    }
-}
-
-// Whether the recording of these pieces is read, or why not.
-fn read(alloc: Global, parts: &[Value]) -> Answer {
-    let mut all = String::new(alloc);
-    for value in parts {
-        let piece = piece(alloc, value)?;
-        all.push_str(piece.as_str())?;
-    }
-    match read_recording(alloc, all.as_bytes()) {
-        Ok(_) => plain(alloc, "read"),
-        Err(RecordingError::NoMemory) => Err(Fault::NoMemory),
-        Err(why) => Ok(format!(in alloc; "{why:?}")?),
-    }
-}
 
 // How many lines the recording of a number and a size has.
 fn generated(alloc: Global, parts: &[Value]) -> Answer {
@@ -199,14 +173,6 @@ fn printed(alloc: Global, parts: &[Value]) -> Answer {
     let end = end(alloc, parts)?;
     let text = print_history(alloc, &[], &end)?;
     quoted(alloc, text.as_str())
-}
-
-/// The answer to a row of `record`.
-pub fn answer(alloc: Global, call: &str, parts: &[Value]) -> Answer {
-    match call {
-        "read" => read(alloc, parts),
-        _ => Err(Fault::BadRow),
-    }
 }
 
 /// The answer to a row of `gen`.
