@@ -37,3 +37,15 @@ returns-in-Err-clause-stepped g c = record {
   group = search rules;
   calls = search rules;
 }
+
+pub returns-in-Ok-clause-stepped : goal.returns-in-Ok-clause-stepped
+returns-in-Ok-clause-stepped g c = record {
+  stands = search rules;
+  origin = search rules;
+  kept = search rules;
+  over = search rules;
+  ends = search rules;
+  turns = search rules;
+  group = search rules;
+  calls = search rules;
+}
