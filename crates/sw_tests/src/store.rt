@@ -35,12 +35,20 @@ fn a_disk_is_opened_or_refused(rt: HostRuntime) -> Result<(), Fail> {
     assert_eq!(rt; opens(alloc, &mut disk, 31), 0);
     assert_eq!(rt; opens(alloc, &mut disk, 31), 1000 + 31 * 100 + 14);
     assert_eq!(rt; opens(alloc, &mut disk, LIMIT), 0);
-    let mut older = with_left(alloc, b"SWHOST-JOURNAL-1\x01\x00\x00\x00\x01\x0a\x00", Vec::new(alloc))?;
+    let mut older = with_left(
+        alloc,
+        b"SWHOST-JOURNAL-1\x01\x00\x00\x00\x01\x0a\x00",
+        Vec::new(alloc),
+    )?;
     assert_eq!(rt; opens(alloc, &mut older, 16), 1000 + 17 * 100);
     assert_eq!(rt; opens(alloc, &mut older, 17), 1000 + 17 * 100 + 14);
     assert_eq!(rt; opens(alloc, &mut older, LIMIT), 0);
     assert_eq!(rt; opens(alloc, &mut older, 31), 1000 + 31 * 100 + 14);
-    let mut bad = with_left(alloc, b"SWHOST-JOURNAL-1\x01\x00\x00\x00\x01\x0c\x00", Vec::new(alloc))?;
+    let mut bad = with_left(
+        alloc,
+        b"SWHOST-JOURNAL-1\x01\x00\x00\x00\x01\x0c\x00",
+        Vec::new(alloc),
+    )?;
     assert_eq!(rt; opens(alloc, &mut bad, LIMIT), 116);
     Ok(())
 }

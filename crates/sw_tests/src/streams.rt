@@ -17,6 +17,8 @@ struct ByteByByte {
 impl Sink for ByteByByte {
     ghost held = { λ _. None };
 
+    ghost handed = { λ s. s.bytes.items };
+
     ghost faults = { λ s. s.faults };
 
     fn write(&mut self, piece: &[u8]) -> Result<usize, Failed> {
