@@ -19,7 +19,8 @@ function comesBack(text, name) {
 
 test("each line of all transcripts comes back", () => {
   const names = transcripts();
-  assert.equal(names.length, recordings().length);
+  // a recording for several threads has what each lane prints, and no transcript
+  assert.equal(names.length, recordings().filter((name) => !fs.existsSync(name.replace(/jsonl$/, "lanes"))).length);
   for (const name of names) comesBack(fs.readFileSync(name, "utf8"), name);
 });
 
