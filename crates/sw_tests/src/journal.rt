@@ -1,4 +1,4 @@
-//! A journal: its limit, what a crash leaves of it, calls that fail, and real files.
+//! A journal: what a crash leaves of it, calls that fail, and real files.
 ghost use Rattle.std.specs.Prelude.{◌≤◌, IfOk};
 
 use crate::devices::{LIMIT, failing, nameless, stopping, with_left};
@@ -53,39 +53,6 @@ fn play<D: Disk>(alloc: Global, disk: &mut D) -> Result<usize, NoMemory>
         Ok(()) => Ok(2),
         Err(_) => Ok(1),
     }
-}
-
-#[test]
-fn the_limit_is_exact(rt: HostRuntime) -> Result<(), Fail> {
-    let alloc = rt.alloc();
-    let mut disk = with_left(alloc, &[], Vec::new(alloc))?;
-    assert_eq!(rt; init(&mut disk, Part::Left), Ok(()));
-    let (mut journal, _) = match Journal::reopen(alloc, &mut disk, Part::Left, 31) {
-        Ok(found) => found,
-        Err(_) => return Err(Fail::new("not reopened")),
-    };
-    if journal.format() != 2 {
-        return Err(Fail::new("not format 2"));
-    }
-    assert_eq!(rt; journal.next(), 17);
-    assert_eq!(rt; journal.needed(1), 14);
-    journal.reserve(1)?;
-    match journal.append(&mut disk, &[10]) {
-        Ok(()) => {}
-        Err(_) => return Err(Fail::new("not appended")),
-    }
-    assert_eq!(rt;
-        journal.append(&mut disk, &[10]),
-        Err(AppendError::Full {
-            length: 31,
-            needed: 14
-        })
-    );
-    assert_eq!(rt;
-        disk.image(Part::Left),
-        b"SWHOST-JOURNAL-2\x01\x00\x00\x00\x01\x00\x00\x00\x00\x00\x00\x00\x00\x0a\x00".as_slice()
-    );
-    Ok(())
 }
 
 // Whether a crash has left so many records, or one more.

@@ -1,4 +1,4 @@
-//! Two parts: a checkpoint, and what a crash leaves at every moment of a run with checkpoints.
+//! Two parts: what a crash leaves at every moment of a run with checkpoints.
 ghost use Rattle.std.specs.Prelude.{◌≡◌, ◌≤◌, ◌<◌, ◌^◌, [], ◌∷◌, length, IfOk, IfSome, IsTrue};
 ghost use Rattle.sw_journal.specs.Format.{format_2};
 ghost use Rattle.sw_journal.specs.WholePart.{IsWhole};
@@ -73,30 +73,6 @@ fn replaced<D: Disk>(
         Ok(()) => Ok(true),
         Err(_) => Ok(false),
     }
-}
-
-#[test]
-fn a_checkpoint_goes_over_to_the_other_part(rt: HostRuntime) -> Result<(), Fail> {
-    let alloc = rt.alloc();
-    let left = whole(alloc, &[7])?;
-    let right = Bytes::of(alloc, b"rest")?;
-    let mut disk = MemoryDisk::new(
-        Bytes::of(alloc, &[])?,
-        left.copy(alloc)?,
-        right,
-        Vec::new(alloc),
-    );
-    let Some(mut twin) = reopened(alloc, &mut disk, 31) else {
-        return Err(Fail::new("not reopened"));
-    };
-    if !replaced(alloc, &mut twin, &mut disk, 9)? {
-        return Err(Fail::new("no checkpoint"));
-    }
-    assert_eq!(rt; (twin.format(), twin.next(), twin.needed(1)), (2, 31, 14));
-    assert_eq!(rt; disk.image(Part::Root), [1, 0].as_slice());
-    assert_eq!(rt; disk.image(Part::Left), left.as_bytes());
-    assert_eq!(rt; last_of(alloc, &mut disk), Some(9));
-    Ok(())
 }
 
 // Formats, appends 1, makes 2 by a checkpoint, appends 3 and makes 4 by a checkpoint, up to the first fault. Says how
