@@ -25,6 +25,11 @@ abbrev pub by_lane : Who → Option Outcome → Option Outcome
 by_lane (who.Lane lane at) outcome = outcome
 by_lane _ outcome = None
 
+-- what an action comes to that no handler makes: a lane's, or the host's own
+abbrev pub by_page : Who → Option Outcome → Option Outcome
+by_page (who.Handler worker phase number) outcome = None
+by_page _ outcome = outcome
+
 -- what an event of the host comes to, where the host made it
 abbrev pub by_host : Who → Option Outcome → Option Outcome
 by_host who.Host outcome = outcome
@@ -52,7 +57,7 @@ step state (event.CacheOpen who place name) = by_lane who (Some (with_key state 
 step state (event.CacheHas who place name) = by_lane who (Some (with_key state place (has_cache state name)))
 step state (event.CacheDelete who place name) = by_lane who (Some (with_key state place (delete_cache state name)))
 step state (event.CacheKeys who place) = by_lane who (Some (with_key state place (cache_names state)))
-step state (event.Forget who place) = by_lane who (Some (with_key state place (forget state)))
+step state (event.Forget who place) = by_page who (Some (with_key state place (forget state)))
 step state (event.Match who place asked) = by_lane who (Some (with_key state place (match_request state place.at asked)))
 step state (event.MatchAll who place asked) = by_lane who (Some (with_key state place (query_cache state place.at asked)))
 step state (event.Keys who place asked) = by_lane who (Some (with_key state place (query_cache state place.at asked)))
