@@ -51,6 +51,16 @@ pub record HasNotedOn (base : Kept) (after : TwinState) (image : Image) : Type 0
   pub stands : StandsIn before image
   pub noted : HasNoted base before after
 
+-- own: an image keeps this content, and the record of its restart is within the limit: behind the next free offset of a part in the
+-- newer format, or behind the contents that a part in the older one is written anew with
+pub record CanRestart (limit : ℕ) (base : Kept) (image : Image) : Type 0 where
+  pub kept : HasKept base image
+  pub before : TwinState
+  pub stands : StandsIn before image
+  pub newer : before.journal.format ≡ format_2 → before.journal.gate + 1 + needed_length format_2 1 ≤ limit
+  pub older : before.journal.format ≢ format_2
+      → (contents : List ℕ) × IsContents base contents × (length contents + needed_length format_2 1 ≤ limit)
+
 -- own: a disk was opened: the store's base is what it kept, it keeps that restarted, and a crash leaves one of these; but for
 -- moments before the first call was over, when it may leave what it might have left before
 pub record HasOpened {D : Type 0} (disk : Ghosts D) (old new : D) (store : StoreState) : Type 0 where

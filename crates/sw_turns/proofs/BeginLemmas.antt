@@ -30,7 +30,7 @@ use Rattle.sw_turns.specs.declared.progress.Progress.{Progress}
 use Rattle.sw_rules.specs.History.{IsOpening, after_entries}
 use Rattle.sw_rules.specs.Restart.{restart, restored_registration}
 use Rattle.sw_rules.specs.State.{Registration, State}
-use Rattle.sw_store.specs.Opened.{HasOpened, IsFresh, IsLeft, kept_restarted}
+use Rattle.sw_store.specs.Opened.{CanRestart, HasNotedOn, HasOpened, IsFresh, IsLeft, kept_restarted}
 use Rattle.sw_store.specs.Stores.{StoreState, all_stamped}
 use Rattle.sw_work.specs.Hosted.{state_of}
 
@@ -147,6 +147,21 @@ module _ {D : Type 0} (disk : Ghosts D) (start now : D) (store : StoreState) (op
       acknowledged = acknowledged;
     }
 
+  can_restart : store.twin.journal.limit ≡ 2 ^ 32 → (image : Image) → disk.seen start ≡ Some image → CanRestart (2 ^ 32) base image
+  can_restart limit image is =
+      let on : HasNotedOn base store.twin image = told_at (disk.seen start) (HasNotedOn base store.twin) image is opened.noted in
+      record {
+        kept = told_at (disk.seen start) (HasKept base) image is opened.kept;
+        before = on.before;
+        stands = on.stands;
+        newer = λ format. omega (arith, (on.noted.appended format).1, on.noted.fits, limit);
+        older = λ format. (
+          (on.noted.anew format).0,
+          (on.noted.anew format).1.0,
+          omega (arith, (on.noted.anew format).1.1, on.noted.fits, limit)
+        );
+      }
+
   works : store.twin.journal.limit ≡ 2 ^ 32 → IsAtWork disk start now base history store
   works limit = record {
     told = opened.told;
@@ -154,7 +169,7 @@ module _ {D : Type 0} (disk : Ghosts D) (start now : D) (store : StoreState) (op
     calls = opened.calls;
     faults = opened.faults;
     keeps = opened.keeps;
-    opened = opened.kept;
+    opened = told_some (disk.seen start) (CanRestart (2 ^ 32) base) (can_restart limit);
     survives = told_some (disk.seen start) (λ image. Survives disk start now base history []) survives;
     stamped = ((opened.later, omega arith), λ k entry got. absurd cc);
     paced = omega arith;

@@ -34,6 +34,7 @@ use Rattle.sw_rules.specs.Step.{changes_of, step}
 use Rattle.sw_rules.specs.Tasks.{ready_tasks}
 use Rattle.sw_rules.specs.Told.{Outcome}
 use Rattle.sw_store.specs.Groups.{IsEntry, IsTooLong}
+use Rattle.sw_store.specs.Opened.{CanRestart}
 use Rattle.sw_store.specs.Stores.{StoreState, all_stamped}
 use Rattle.sw_work.specs.Hosted.{state_of}
 
@@ -69,7 +70,7 @@ module _ (workers : ℕ) (recording : Recording) (base : Kept) where
 
   -- a run on a disk, however it has ended
   pub run_on : {D : Type 0} (disk : Ghosts D) (start now : D) (history refused : List Entry) (HasEnded : List Entry → State → Type 0) → IsPlayed workers recording base history
-      → Stamped base (disk.clock start) (disk.clock now) history → ForTold (disk.seen start) (HasKept base) → ForTold (disk.seen start) (λ image. Survives disk start now base history refused)
+      → Stamped base (disk.clock start) (disk.clock now) history → ForTold (disk.seen start) (CanRestart (2 ^ 32) base) → ForTold (disk.seen start) (λ image. Survives disk start now base history refused)
       → HasEnded history (after base history) → IsRunOn disk start now workers recording base history refused HasEnded
   run_on disk start now history refused HasEnded is stamps opened survives ended = record {
     run = record {

@@ -20,6 +20,7 @@ use Rattle.sw_rules.specs.Run.{IsRun, whole_run}
 use Rattle.sw_rules.specs.State.{State}
 use Rattle.sw_rules.specs.Step.{changes_of}
 use Rattle.sw_store.specs.Groups.{IsTooLong}
+use Rattle.sw_store.specs.Opened.{CanRestart}
 use Rattle.sw_twin.specs.Twin.{TwinState}
 
 -- own: a history of so many workers goes on with these entries, in the pick order where there is one
@@ -33,7 +34,7 @@ pub record GoesOn (workers : ℕ) (recording : Recording) (base : Kept) (history
 pub record IsRunOn {D : Type 0} (disk : Ghosts D) (start now : D) (workers : ℕ) (recording : Recording) (base : Kept) (history refused : List Entry) (HasEnded : List Entry → State → Type 0) : Type 0 where
   pub run : IsRun (record (whole_run recording base (disk.clock start) (disk.clock now)) { workers = workers; HasEnded = HasEnded }) history
   pub picked : workers ≡ 1 → Seq recording base history
-  pub opened : ForTold (disk.seen start) (HasKept base)
+  pub opened : ForTold (disk.seen start) (CanRestart (2 ^ 32) base)
   pub survives : ForTold (disk.seen start) (λ image. Survives disk start now base history refused)
 
 -- own: in what reads give, the next free offset of the current part and what the record of this entry's changes needs pass the

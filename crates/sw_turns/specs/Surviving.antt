@@ -11,6 +11,7 @@ use Rattle.sw_laws.specs.Laws.{changes_of_history}
 use Rattle.sw_rules.specs.History.{Stamped, changing}
 use Rattle.sw_rules.specs.Restart.{restart}
 use Rattle.sw_rules.specs.Storage.{kept_after}
+use Rattle.sw_store.specs.Opened.{CanRestart}
 use Rattle.sw_store.specs.Stores.{StoreState}
 
 -- own: what the changes of a history make of its base
@@ -55,7 +56,7 @@ pub record IsAtWork {D : Type 0} (disk : Ghosts D) (start now : D) (base : Kept)
   pub calls : capped (disk.clock start + 4) ≤ disk.clock now
   pub faults : disk.faults start ≤ disk.faults now
   pub keeps : KeepsNow store.twin (kept_of base history) disk now
-  pub opened : ForTold (disk.seen start) (HasKept base)
+  pub opened : ForTold (disk.seen start) (CanRestart (2 ^ 32) base)
   pub survives : ForTold (disk.seen start) (λ image. Survives disk start now base history [])
   pub stamped : Stamped base (disk.clock start) (disk.clock now) history
   pub paced : disk.clock now ≤ latest base history
