@@ -34,6 +34,7 @@ pub mod KeptWorkers
 pub mod LawProofs
 pub mod Lists
 pub mod MakeSteps
+pub mod MapTold
 pub mod Moves
 pub mod Ordered
 pub mod Places

@@ -1,6 +1,10 @@
 -- Laws of every legal history, each the clause of the call of `sw_laws::laws` that has its name.
-use Rattle.std.specs.Prelude.{◌≡◌, ◌⊎◌, ℕ, suc, Bool, true, false, ◌&&◌, ◌==◌, List, [], ◌∷◌, ◌++◌, take, filter, find, is_none, is_some, Option, Some, option_and_then}
+use Rattle.std.specs.Prelude.{◌≡◌, ◌⊎◌, ℕ, suc, Bool, true, false, ◌&&◌, ◌==◌, List, [], ◌∷◌, ◌++◌, take, filter, find, bytes_eq, is_none, is_some, Option, Some, option_map, option_and_then}
 use Rattle.std.specs.List.{list_any}
+use Rattle.std.specs.Option.{option_map_or}
+use Rattle.sw_data.specs.declared.answers.Answer.{Answer}
+use Rattle.sw_data.specs.declared.answers.Notice.{Notice}
+use Rattle.sw_data.specs.declared.answers.Notice.TheVariants as notice
 use Rattle.sw_data.specs.declared.answers.Settlement.{Settlement}
 use Rattle.sw_data.specs.declared.events.Event.{Event}
 use Rattle.sw_data.specs.declared.events.Event.TheVariants as event
@@ -14,9 +18,9 @@ use Rattle.sw_data.specs.declared.workers.WorkerState.TheVariants as worker_stat
 use Rattle.sw_rules.specs.Durable as kept
 use Rattle.sw_rules.specs.History.{Controlled, Legal, after, moved}
 use Rattle.sw_rules.specs.Restart.{restart}
-use Rattle.sw_rules.specs.Rows.{in_phase, is_fetching, is_unfinished, is_worker, job_row, worker_row}
+use Rattle.sw_rules.specs.Rows.{in_phase, is_fetching, is_unfinished, is_worker, job_row, mapped_registration, registration_row, worker_row}
 use Rattle.sw_rules.specs.State.{State, Worker}
-use Rattle.sw_rules.specs.Step.{changes_of, state_after}
+use Rattle.sw_rules.specs.Step.{Step, changes_of, state_after}
 use Rattle.sw_rules.specs.Storage.{IsMade, applied, kept_after}
 use Rattle.sw_rules.specs.Tasks.{ready_tasks}
 use Rattle.sw_laws.specs.Coherent.{Coherent, apart, share_slot}
@@ -122,6 +126,30 @@ pub record FetchesStay : Type 0 where
   pub tasks : (state : State) (happened : Event) (task : ℕ)
       → Coherent state → ends_add_all task happened ≡ false
       → is_open_task state task ≡ true → is_open_task (state_after state happened) task ≡ true
+
+-- ---- the map
+
+-- the number of the registration that a key and a scope map to, if any
+abbrev pub mapped_number : State → List ℕ → List ℕ → Option ℕ
+mapped_number state key scope = option_map (λ row. row.number) (mapped_registration state key scope)
+
+-- the registration of this number has this key and scope
+abbrev pub has_key_and_scope : State → List ℕ → List ℕ → ℕ → Bool
+has_key_and_scope state key scope number =
+    option_map_or (λ row. bytes_eq row.key key && bytes_eq row.scope scope) (registration_row state number) false
+
+-- a notice tells that a registration of this key and scope has got into the map, or has left it
+abbrev pub tells_move : State → List ℕ → List ℕ → Notice → Bool
+tells_move state key scope (notice.Mapped number) = has_key_and_scope state key scope number
+tells_move state key scope (notice.Unmapped number) = has_key_and_scope state key scope number
+tells_move state key scope _ = false
+
+-- own: a step leaves what a key and a scope map to, unless a notice of it names a registration of theirs
+pub record TellsItsMap : Type 0 where
+  pub stays : (old new : State) (happened : Event) (reply : Answer) (notices : List Notice) (key scope : List ℕ)
+      → Coherent old → Step old happened reply notices new
+      → list_any (tells_move new key scope) notices ≡ false
+      → mapped_number new key scope ≡ mapped_number old key scope
 
 -- ---- what is kept
 

@@ -1,6 +1,6 @@
 //! The laws. A call does nothing; its clause is the law.
 
-ghost use Rattle.sw_laws.specs.Laws.{DurableIsKept, FetchesStay, HasSlots, IsAlwaysCoherent, IsAlwaysControlled, RestartsOnce, RestsWithoutWork, SettlesOnce};
+ghost use Rattle.sw_laws.specs.Laws.{DurableIsKept, FetchesStay, HasSlots, IsAlwaysCoherent, IsAlwaysControlled, RestartsOnce, RestsWithoutWork, SettlesOnce, TellsItsMap};
 
 /// A restart leaves a coherent state, and each event keeps it so: the rows of every state after a legal history fit
 /// together.
@@ -53,4 +53,10 @@ pub fn changes_keep_the_durable_part()
 #[tactic(auto, using(crate::proofs::FetchesStay::fetches_stay))]
 pub fn fetches_stay()
     ensures { FetchesStay }
+{}
+
+/// A step leaves what a key and a scope map to, unless a notice of it names a registration of theirs.
+#[tactic(auto, using(crate::proofs::MapTold::tells_its_map))]
+pub fn notices_tell_the_map()
+    ensures { TellsItsMap }
 {}
