@@ -54,7 +54,7 @@ coherent_law = record {
   carrying = λ state key name ops pairs new there is sound. carry_out-coherent state key name ops new sound;
   forgetting = λ state key free sound. forget-coherent state key free sound;
   awaiting = λ state maker key name requests runs sound. add_task-coherent state maker key name requests runs sound;
-  answering = λ state number result faulted sound. settle_task-coherent state number result faulted sound;
+  answering = λ state number result faulted may sound. settle_task-coherent state number result faulted sound;
   noting = λ state worker faulted sound. note_call-coherent state worker faulted sound;
 }
 

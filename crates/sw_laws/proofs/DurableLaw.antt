@@ -178,6 +178,6 @@ all_law = record {
   carrying = λ state key name ops pairs new there is sound. (coherent_law.carrying state key name ops pairs new there is sound, still_keeps state (carry_out state key name ops new) refl (λ n. refl) (λ jobs. jobs) (carried_rows state key name ops new));
   forgetting = λ state key free sound. (coherent_law.forgetting state key free sound, forget_keeps state key free sound);
   awaiting = λ state maker key name requests runs sound. (coherent_law.awaiting state maker key name requests runs sound, still_keeps state (add_task state maker key name requests) refl (λ n. refl) (λ is. is) (λ kept. refl));
-  answering = λ state number result faulted sound. (coherent_law.answering state number result faulted sound, still_keeps state (settle_task state number result faulted) refl (settled_slots state number result faulted) (λ is. is) (λ kept. refl));
+  answering = λ state number result faulted may sound. (coherent_law.answering state number result faulted may sound, still_keeps state (settle_task state number result faulted) refl (settled_slots state number result faulted) (λ is. is) (λ kept. refl));
   noting = λ state worker faulted sound. (coherent_law.noting state worker faulted sound, still_keeps state (note_call state worker faulted) refl (slots_plain (is_worker worker) _ (λ x. looks_plain x _ refl refl refl) state.workers) (λ is. is) (λ kept. refl));
 }

@@ -217,7 +217,7 @@ module _ (jobs tasks : ℕ → Bool) where
     };
     running = run-by Lasts running;
     fetching = λ state maker number line none. fetched-by Lasts state number (λ row registration own at. fetching state row registration (rw own none.0)) line;
-    adding = λ state maker number lines none. added-by Lasts state number (λ row there. adding state row (λ task of. grind (arith, nat_tests, find_passes (is_task number) state.tasks row there, none.1 task of))) lines;
+    adding = λ state maker number lines none. added-by Lasts state number (λ row there unsettled. adding state row (λ task of. grind (arith, nat_tests, find_passes (is_task number) state.tasks row there, none.1 task of))) lines;
   }
 
   lasts_after : (state : State) (o : Option Outcome) → IfSome o (λ outcome. Lasts state outcome.told) → Coherent state → Stay jobs tasks state (option_map_or (λ outcome. outcome.told.state) o state)

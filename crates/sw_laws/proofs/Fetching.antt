@@ -177,6 +177,6 @@ module _ (jobs tasks : ℕ → Bool) where
     carrying = λ state key name ops pairs new there is. unmoved state _ refl refl;
     forgetting = λ state key free. unmoved state _ refl refl;
     awaiting = λ state maker key name requests runs. record { fetching = λ job of is. is; unsettled = tasks_pushed tasks state.tasks _ };
-    answering = λ state number result faulted. tt;
+    answering = λ state number result faulted may. tt;
     noting = λ state worker faulted. unmoved state _ refl refl;
   }

@@ -5,38 +5,49 @@ use Rattle.std.specs.Prelude.{find, option_and_then}
 use Rattle.std.specs.Option.{option_or}
 use Rattle.std.proofs.lemmas.List.Folds.{find-append}
 use Rattle.sw_data.specs.declared.answers.Settlement.{Settlement}
-use Rattle.sw_data.specs.declared.rows.Job.{Job}
 use Rattle.sw_data.specs.declared.rows.JobRow.{JobRow}
 use Rattle.sw_data.specs.declared.workers.WorkerState.{WorkerState}
 use Rattle.sw_data.specs.declared.workers.WorkerState.TheVariants as worker_state
-use Rattle.sw_rules.specs.Rows.{is_job, is_worker}
-use Rattle.sw_rules.specs.State.{Worker}
+use Rattle.sw_rules.specs.Rows.{is_worker}
+use Rattle.sw_rules.specs.State.{Worker, AddAll}
 use Rattle.sw_laws.specs.Laws.{GoesOnTo, next_state}
 use Rattle.sw_laws.proofs.Lists.{find_changed}
 use Rattle.sw_laws.proofs.Moves.{Keeps}
 use Rattle.sw_laws.proofs.Places.{all_at_found}
 
+module _ {X : Type 0} (number : X → ℕ) (settled : X → Option Settlement) where
+  -- the value of the promise of the row of a number
+  abbrev value_in : List X → ℕ → Option Settlement
+  value_in rows n = option_and_then settled (find (λ row. number row == n) rows)
+
+  -- promises keep their values
+  abbrev pub KeepValues : List X → List X → Type 0
+  KeepValues old new = (n : ℕ) (result : Settlement) → value_in old n ≡ Some result → value_in new n ≡ Some result
+
+  value_plain : (g : X → X) (found : Option X) (result : Settlement) → ((x : X) → found ≡ Some x → settled x ≡ Some result → settled (g x) ≡ Some result) → option_and_then settled found ≡ Some result → option_and_then settled (option_map g found) ≡ Some result
+  value_plain g None result keeps is = absurd cc
+  value_plain g (Some row) result keeps is = keeps row refl is
+
+  value_there : (found other : Option X) (result : Settlement) → option_and_then settled found ≡ Some result → option_and_then settled (option_or found other) ≡ Some result
+  value_there None other result is = absurd cc
+  value_there (Some row) other result is = is
+
+  -- a change keeps them that keeps the values of the rows that are found by a number
+  pub values_changed : (g : X → X) → ((x : X) → number (g x) ≡ number x) → (rows : List X) → ((n : ℕ) (x : X) (result : Settlement) → find (λ row. number row == n) rows ≡ Some x → settled x ≡ Some result → settled (g x) ≡ Some result) → KeepValues rows (map g rows)
+  values_changed g same rows keeps n result is =
+      rw (find_changed (λ row. number row == n) (λ row. number row == n) g (λ x. ap (λ m. m == n) (same x)) rows) (value_plain g (find (λ row. number row == n) rows) result (λ x. keeps n x result) is)
+
+  pub values_pushed : (rows : List X) (new : X) → KeepValues rows (rows ++ new ∷ [])
+  values_pushed rows new n result is =
+      rw (find-append (λ row. number row == n) rows (new ∷ [])) (value_there (find (λ row. number row == n) rows) (find (λ row. number row == n) (new ∷ [])) result is)
+
 -- jobs keep their values
-abbrev pub value_in : List JobRow → ℕ → Option Settlement
-value_in jobs job = option_and_then (λ row. row.settled) (find (is_job job) jobs)
+abbrev pub KeepJobs : List JobRow → List JobRow → Type 0
+KeepJobs = KeepValues (λ row. row.job.number) (λ row. row.settled)
 
-abbrev pub KeepValues : List JobRow → List JobRow → Type 0
-KeepValues old new = (job : ℕ) (result : Settlement) → value_in old job ≡ Some result → value_in new job ≡ Some result
-
-value_plain : (g : JobRow → JobRow) → ((x : JobRow) (result : Settlement) → x.settled ≡ Some result → (g x).settled ≡ Some result) → (found : Option JobRow) (result : Settlement) → option_and_then (λ (row : JobRow). row.settled) found ≡ Some result → option_and_then (λ (row : JobRow). row.settled) (option_map g found) ≡ Some result
-value_plain g keeps None result is = absurd cc
-value_plain g keeps (Some row) result is = keeps row result is
-
-value_there : (found other : Option JobRow) (result : Settlement) → option_and_then (λ (row : JobRow). row.settled) found ≡ Some result → option_and_then (λ (row : JobRow). row.settled) (option_or found other) ≡ Some result
-value_there None other result is = absurd cc
-value_there (Some row) other result is = is
-
-pub values_changed : (g : JobRow → JobRow) → ((x : JobRow) → (g x).job ≡ x.job) → ((x : JobRow) (result : Settlement) → x.settled ≡ Some result → (g x).settled ≡ Some result) → (jobs : List JobRow) → KeepValues jobs (map g jobs)
-values_changed g job keeps jobs number result is =
-    rw (find_changed (is_job number) (is_job number) g (λ x. ap (λ (j : Job). j.number == number) (job x)) jobs) (value_plain g keeps (find (is_job number) jobs) result is)
-
-pub values_pushed : (jobs : List JobRow) (new : JobRow) → KeepValues jobs (jobs ++ new ∷ [])
-values_pushed jobs new number result is = rw (find-append (is_job number) jobs (new ∷ [])) (value_there (find (is_job number) jobs) (find (is_job number) (new ∷ [])) result is)
+-- addAlls keep theirs
+abbrev pub KeepTasks : List AddAll → List AddAll → Type 0
+KeepTasks = KeepValues (λ row. row.number) (λ row. row.settled)
 
 -- ---- workers move
 

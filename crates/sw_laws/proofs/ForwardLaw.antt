@@ -1,13 +1,15 @@
 -- Each event keeps the values of promises, and leaves each worker's state, moves it to the next one, or makes it redundant.
-use Rattle.std.proofs.Common.{◌≡◌, ◌∙◌, inl, inr, ℕ, Bool, true, false, not, ◌&&◌, ◌||◌, ◌==◌, List, [], ◌∷◌, map, filter, Option, Some, None, IfSome, refl, sym, subst, arith, if◌then◌else◌}
-use Rattle.std.specs.Prelude.{is_none}
+use Rattle.std.proofs.Common.{◌≡◌, ◌∙◌, inl, inr, ℕ, Bool, true, false, not, ◌&&◌, ◌||◌, ◌==◌, List, [], ◌∷◌, map, filter, Option, Some, None, IfSome, refl, sym, ap, subst, true≢false, arith, if◌then◌else◌}
+use Rattle.std.specs.Prelude.{find, is_none}
 use Rattle.std.specs.Option.{option_map_or}
+use Rattle.std.proofs.lemmas.Bool.Decides.{nat_tests}
 use Rattle.sw_data.specs.declared.answers.Settlement.{Settlement}
 use Rattle.sw_data.specs.declared.answers.Cause.TheVariants as cause
 use Rattle.sw_data.specs.declared.answers.Settlement.TheVariants as settlement
 use Rattle.sw_data.specs.declared.events.Event.{Event}
 use Rattle.sw_data.specs.declared.events.Who.{Who}
 use Rattle.sw_data.specs.declared.events.Who.TheVariants as who
+use Rattle.sw_data.specs.declared.rows.Job.{Job}
 use Rattle.sw_data.specs.declared.rows.JobRow.{JobRow}
 use Rattle.sw_data.specs.declared.workers.Mode.{Mode}
 use Rattle.sw_data.specs.declared.workers.WorkerState.{WorkerState}
@@ -21,8 +23,8 @@ use Rattle.sw_rules.specs.Jobs.{finish, gets_value, promise, schedule, settle}
 use Rattle.sw_rules.specs.Preloading.{set_preload}
 use Rattle.sw_rules.specs.Registering.{fetch_script}
 use Rattle.sw_rules.specs.Registrations.{activate, clear, clear_state, drop_registration, map_registration, promote, recheck, set_mode, unload, unmap}
-use Rattle.sw_rules.specs.Rows.{changed, client_row, is_activating, is_evaluating, is_install, is_job, is_worker, newest_worker, worker_row}
-use Rattle.sw_rules.specs.State.{State, Worker, Awaited, Handler}
+use Rattle.sw_rules.specs.Rows.{changed, client_row, is_activating, is_evaluating, is_install, is_job, is_task, is_worker, newest_worker, worker_row}
+use Rattle.sw_rules.specs.State.{State, Worker, AddAll, Awaited, Handler}
 use Rattle.sw_rules.specs.Step.{state_after, step}
 use Rattle.sw_rules.specs.Told.{Told, Outcome, followed, quiet, type_error}
 use Rattle.sw_laws.specs.Coherent.{Coherent, is_parsed}
@@ -31,18 +33,23 @@ use Rattle.sw_laws.proofs.BeginSteps.{parsed_rows}
 use Rattle.sw_laws.proofs.ClaimSteps.{rechecks_coherently}
 use Rattle.sw_laws.proofs.CoherentLaw.{coherent_law}
 use Rattle.sw_laws.proofs.Events.{activated-by, step-law-beside}
-use Rattle.sw_laws.proofs.Forward.{EndsActivating, KeepValues, Move, Rechecked, ended_goes, moved_both, rechecked_both, rechecked_goes, values_changed, values_pushed, workers_changed, workers_pushed, workers_stand}
+use Rattle.sw_laws.proofs.Forward.{EndsActivating, KeepJobs, KeepTasks, Move, Rechecked, ended_goes, moved_both, rechecked_both, rechecked_goes, values_changed, values_pushed, workers_changed, workers_pushed, workers_stand}
 use Rattle.sw_laws.proofs.HandlerSteps.{activating_rows, ended_from, ended_in, ended_in_keeps, ends_in}
 use Rattle.sw_laws.proofs.HeldLaw.{keeps_if}
 use Rattle.sw_laws.proofs.JobEvents.{evaluated-by, installed-by, mode_at, mode_made}
-use Rattle.sw_laws.proofs.Lists.{all_true, by_test}
+use Rattle.sw_laws.proofs.Lists.{all_true, by_test, find_passes}
 use Rattle.sw_laws.proofs.RegistrationSteps.{paid-coherent}
 use Rattle.sw_laws.proofs.Split.{IsAt, IsLawBeside, IsMoveLaw, IsRecheckLaw, recheck-law, unload-law}
 
 -- ---- what a step leaves of values and states
 
+-- the promises of jobs and addAlls keep their values
+pub record KeepPromises (old_jobs new_jobs : List JobRow) (old_tasks new_tasks : List AddAll) : Type 0 where
+  pub jobs : KeepJobs old_jobs new_jobs
+  pub tasks : KeepTasks old_tasks new_tasks
+
 pub record GoesBy (Moves : WorkerState → WorkerState → Type 0) (old new : State) : Type 0 where
-  pub values : KeepValues old.jobs new.jobs
+  pub values : KeepPromises old.jobs new.jobs old.tasks new.tasks
   pub workers : Move Moves old.workers new.workers
 
 -- no worker moves but as a recheck moves it
@@ -53,12 +60,25 @@ Stays old new = GoesBy Rechecked old new
 same_workers : (state : State) → Move Rechecked state.workers state.workers
 same_workers state = workers_stand Rechecked (λ s. inl refl) state.workers
 
+same_values : (state : State) → KeepPromises state.jobs state.jobs state.tasks state.tasks
+same_values state = record { jobs = λ job result is. is; tasks = λ task result is. is }
+
+-- a change of jobs, or of addAlls, that keeps their values
+by_jobs : (state : State) (jobs : List JobRow) → KeepJobs state.jobs jobs → KeepPromises state.jobs jobs state.tasks state.tasks
+by_jobs state jobs keeps = record { jobs = keeps; tasks = λ task result is. is }
+
+by_tasks : (state : State) (tasks : List AddAll) → KeepTasks state.tasks tasks → KeepPromises state.jobs state.jobs state.tasks tasks
+by_tasks state tasks keeps = record { jobs = λ job result is. is; tasks = keeps }
+
 stays : (state : State) → Stays state state
-stays state = record { values = λ job result is. is; workers = same_workers state }
+stays state = record { values = same_values state; workers = same_workers state }
 
 both-by : (First Second Both : WorkerState → WorkerState → Type 0) → ((a b c : WorkerState) → First a b → Second b c → Both a c) → (one two three : State) → GoesBy First one two → GoesBy Second two three → GoesBy Both one three
 both-by First Second Both joins one two three first second = record {
-  values = λ job result is. second.values job result (first.values job result is);
+  values = record {
+    jobs = λ job result is. second.values.jobs job result (first.values.jobs job result is);
+    tasks = λ task result is. second.values.tasks task result (first.values.tasks task result is);
+  };
   workers = moved_both First Second Both joins one.workers two.workers three.workers first.workers second.workers;
 }
 
@@ -116,12 +136,12 @@ unfolding followed activate clear
 rechecks_go = record {
   nothing = λ state. stays state;
   further = λ state told next one other. both state told.state (next told.state).state one other;
-  activating = λ state registration worker is. record { values = λ job result was. was; workers = some_go (λ row. row.registration == registration) promote (λ x. promote_number x.state x) (λ x. promote_registration x.state x) (λ x. promoted_moves x.state x) state.workers };
-  clearing = λ state registration gone unused calm. record { values = λ job result was. was; workers = some_go (λ row. row.registration == registration) (λ row. record row { state = clear_state row.state }) (λ x. refl) (λ x. refl) (λ x. clear_moves x.state) state.workers };
+  activating = λ state registration worker is. record { values = same_values state; workers = some_go (λ row. row.registration == registration) promote (λ x. promote_number x.state x) (λ x. promote_registration x.state x) (λ x. promoted_moves x.state x) state.workers };
+  clearing = λ state registration gone unused calm. record { values = same_values state; workers = some_go (λ row. row.registration == registration) (λ row. record row { state = clear_state row.state }) (λ x. refl) (λ x. refl) (λ x. clear_moves x.state) state.workers };
 }
 
 unload_goes : (state : State) (client : ℕ) → Goes state (unload state client)
-unload_goes state client = unload-law Goes rechecks_go (λ before number. record { values = λ job result was. was; workers = same_workers before }) state client
+unload_goes state client = unload-law Goes rechecks_go (λ before number. record { values = same_values before; workers = same_workers before }) state client
 
 leave_goes : (state : State) (client : ℕ) → Goes state (leave state client)
 unfolding leave followed remove_client
@@ -142,39 +162,51 @@ abbrev GoesForward : State → Told → Type 0
 GoesForward state told = Coherent state → (Coherent told.state) × Stays state told.state
 
 -- a change of some jobs, which keeps the values
-some_values : (test : JobRow → Bool) (g : JobRow → JobRow) → ((x : JobRow) → (g x).job ≡ x.job) → ((x : JobRow) → (g x).settled ≡ x.settled) → (jobs : List JobRow) → KeepValues jobs (changed test g jobs)
+some_values : (test : JobRow → Bool) (g : JobRow → JobRow) → ((x : JobRow) → (g x).job ≡ x.job) → ((x : JobRow) → (g x).settled ≡ x.settled) → (jobs : List JobRow) → KeepJobs jobs (changed test g jobs)
 some_values test g job settled jobs =
-    values_changed _ (λ x. by_test (λ (r : JobRow). r.job ≡ x.job) (test x) _ x (λ is. job x) (λ other. refl))
-    (λ x result is. by_test (λ (r : JobRow). r.settled ≡ Some result) (test x) _ x (λ here. settled x ∙ is) (λ other. is)) jobs
+    values_changed _ _ _ (λ x. by_test (λ (r : JobRow). r.job.number ≡ x.job.number) (test x) _ x (λ is. ap (λ (j : Job). j.number) (job x)) (λ other. refl)) jobs
+    (λ n x result found is. by_test (λ (r : JobRow). r.settled ≡ Some result) (test x) _ x (λ here. settled x ∙ is) (λ other. is))
 
 -- the values that a settle gives
-given_values : (job : ℕ) (result : Settlement) (jobs : List JobRow) → KeepValues jobs (changed (gets_value job) (λ row. record row { settled = Some result }) jobs)
-given_values job result jobs = values_changed _ (λ x. by_test (λ (r : JobRow). r.job ≡ x.job) (gets_value job x) _ x (λ is. refl) (λ other. refl)) (λ x value is. grind (arith, is)) jobs
+given_values : (job : ℕ) (result : Settlement) (jobs : List JobRow) → KeepJobs jobs (changed (gets_value job) (λ row. record row { settled = Some result }) jobs)
+given_values job result jobs =
+    values_changed _ _ _ (λ x. by_test (λ (r : JobRow). r.job.number ≡ x.job.number) (gets_value job x) _ x (λ is. refl) (λ other. refl)) jobs (λ n x value found is. grind (arith, is))
+
+-- the value that an addAll gets which has not settled
+answered_values : (task : ℕ) (result : Settlement) (tasks : List AddAll) → option_map_or (λ row. is_none row.settled) (find (is_task task) tasks) false ≡ true → KeepTasks tasks (changed (is_task task) (λ row. record row { settled = Some result }) tasks)
+answered_values task result tasks may =
+    values_changed _ _ _ (λ x. by_test (λ (r : AddAll). r.number ≡ x.number) (is_task task x) _ x (λ is. refl) (λ other. refl)) tasks
+    (λ n x value found is. by_test (λ (r : AddAll). r.settled ≡ Some value) (is_task task x) _ x
+    (λ here.
+    let own : n ≡ task = grind (arith, nat_tests, here, find_passes (λ (row : AddAll). row.number == n) tasks x found) in
+    let one : find (is_task task) tasks ≡ Some x = ap (λ m. find (is_task m) tasks) (sym own) ∙ found in
+    absurd (true≢false (sym may ∙ grind (arith, one, is))))
+    (λ other. is))
 
 settle_goes : (state : State) (job : ℕ) (result : Settlement) → Stays state (settle state job result).state
 unfolding settle
-settle_goes state job result = record { values = given_values job result state.jobs; workers = same_workers state }
+settle_goes state job result = record { values = by_jobs state _ (given_values job result state.jobs); workers = same_workers state }
 
 finish_goes : (state : State) (job : ℕ) → Stays state (finish state job).state
 unfolding finish
-finish_goes state job = record { values = some_values (is_job job) _ (λ x. refl) (λ x. refl) state.jobs; workers = same_workers state }
+finish_goes state job = record { values = by_jobs state _ (some_values (is_job job) _ (λ x. refl) (λ x. refl) state.jobs); workers = same_workers state }
 
 discard_goes : (state : State) (worker : ℕ) → Stays state (discard state worker).state
 unfolding discard
-discard_goes state worker = record { values = λ job result is. is; workers = some_go (is_worker worker) _ (λ x. refl) (λ x. refl) (λ x. inr (inl refl)) state.workers }
+discard_goes state worker = record { values = same_values state; workers = some_go (is_worker worker) _ (λ x. refl) (λ x. refl) (λ x. inr (inl refl)) state.workers }
 
 end_goes : (state : State) (worker : ℕ) → Stays state (end_handler state worker).state
 unfolding end_handler
-end_goes state worker = record { values = λ job result is. is; workers = some_go (is_worker worker) _ (λ x. refl) (λ x. refl) (λ x. inl refl) state.workers }
+end_goes state worker = record { values = same_values state; workers = some_go (is_worker worker) _ (λ x. refl) (λ x. refl) (λ x. inl refl) state.workers }
 
 drop_goes : (state : State) (registration : ℕ) → Stays state (drop_registration state registration).state
 unfolding drop_registration unmap
-drop_goes state registration = by_test (λ (told : Told). Stays state told.state) (is_none (newest_worker state registration)) _ _ (λ gone. record { values = λ job result is. is; workers = same_workers state }) (λ there. stays state)
+drop_goes state registration = by_test (λ (told : Told). Stays state told.state) (is_none (newest_worker state registration)) _ _ (λ gone. record { values = same_values state; workers = same_workers state }) (λ there. stays state)
 
 promise_goes : (state : State) (maker : Who) (awaited : Awaited) → Stays state (promise state maker awaited).state
 unfolding promise
 promise_goes state who.Host awaited = stays state
-promise_goes state (who.Lane lane at) awaited = record { values = λ job result is. is; workers = same_workers state }
+promise_goes state (who.Lane lane at) awaited = record { values = same_values state; workers = same_workers state }
 promise_goes state (who.Handler worker in_phase number) awaited = stays state
 
 throw_goes : (state : State) (job registration worker : ℕ) → Stays state (throw state job registration worker).state
@@ -192,11 +224,11 @@ fail_goes state row registration worker =
     let two = (discard one worker).state in
     let three = if is_none row.remembered then unmap two registration else quiet two in
     both state one (finish three.state row.job.number).state (end_goes state worker) (both one two (finish three.state row.job.number).state (discard_goes one worker)
-    (both two three.state (finish three.state row.job.number).state (by_test (λ (told : Told). Stays two told.state) (is_none row.remembered) _ _ (λ gone. record { values = λ job result is. is; workers = same_workers two }) (λ there. stays two)) (finish_goes three.state row.job.number)))
+    (both two three.state (finish three.state row.job.number).state (by_test (λ (told : Told). Stays two told.state) (is_none row.remembered) _ _ (λ gone. record { values = same_values two; workers = same_workers two }) (λ there. stays two)) (finish_goes three.state row.job.number)))
 
 forget_goes : (state : State) (key : List ℕ) → Stays state (forget_key state key).state
 unfolding forget_key
-forget_goes state key = record { values = λ job result is. is; workers = some_go (is_worker_of_any (filter (is_mapped_of key) state.registrations)) (λ worker. record worker { state = clear_state worker.state }) (λ x. refl) (λ x. refl) (λ x. clear_moves x.state) state.workers }
+forget_goes state key = record { values = same_values state; workers = some_go (is_worker_of_any (filter (is_mapped_of key) state.registrations)) (λ worker. record worker { state = clear_state worker.state }) (λ x. refl) (λ x. refl) (λ x. clear_moves x.state) state.workers }
 
 -- the law of the steps that move no worker on
 forward_law : IsLawBeside GoesForward (λ state told. Unit {0}) GoesForward true true
@@ -208,35 +240,35 @@ forward_law = record {
     activating = λ state registration worker is sound. (rechecks_coherently.activating state registration worker is sound, rechecks_go.activating state registration worker is);
     clearing = λ state registration gone unused calm sound. (rechecks_coherently.clearing state registration gone unused calm sound, rechecks_go.clearing state registration gone unused calm);
   };
-  scheduling = λ state job is sound. (coherent_law.scheduling state job is sound, record { values = values_pushed state.jobs _; workers = same_workers state });
+  scheduling = λ state job is sound. (coherent_law.scheduling state job is sound, record { values = by_jobs state _ (values_pushed _ _ state.jobs _); workers = same_workers state });
   promising = λ state maker awaited there sound. (coherent_law.promising state maker awaited there sound, promise_goes state maker awaited);
   settling = λ state job result may sound. (coherent_law.settling state job result may sound, settle_goes state job result);
   finishing = λ state job may sound. (coherent_law.finishing state job may sound, finish_goes state job);
-  mapping = λ state job free sound. (coherent_law.mapping state job free sound, record { values = λ j result is. is; workers = same_workers state });
-  unmapping = λ state registration sound. (coherent_law.unmapping state registration sound, record { values = λ j result is. is; workers = same_workers state });
-  moding = λ state registration mode sound. (coherent_law.moding state registration mode sound, record { values = λ j result is. is; workers = same_workers state });
-  preloading = λ state registration on text sound. (coherent_law.preloading state registration on text sound, record { values = λ j result is. is; workers = same_workers state });
-  fetching = λ state row registration found may mapped sound. (coherent_law.fetching state row registration found may mapped sound, record { values = some_values (is_job row.job.number) _ (λ x. refl) (λ x. refl) state.jobs; workers = same_workers state });
-  making = λ state row registration fetched at sound. (coherent_law.making state row registration fetched at sound, record { values = some_values (is_job row.job.number) _ (λ x. refl) (λ x. refl) state.jobs; workers = workers_pushed Rechecked (λ s. inl refl) state.workers _ });
+  mapping = λ state job free sound. (coherent_law.mapping state job free sound, record { values = same_values state; workers = same_workers state });
+  unmapping = λ state registration sound. (coherent_law.unmapping state registration sound, record { values = same_values state; workers = same_workers state });
+  moding = λ state registration mode sound. (coherent_law.moding state registration mode sound, record { values = same_values state; workers = same_workers state });
+  preloading = λ state registration on text sound. (coherent_law.preloading state registration on text sound, record { values = same_values state; workers = same_workers state });
+  fetching = λ state row registration found may mapped sound. (coherent_law.fetching state row registration found may mapped sound, record { values = by_jobs state _ (some_values (is_job row.job.number) _ (λ x. refl) (λ x. refl) state.jobs); workers = same_workers state });
+  making = λ state row registration fetched at sound. (coherent_law.making state row registration fetched at sound, record { values = by_jobs state _ (some_values (is_job row.job.number) _ (λ x. refl) (λ x. refl) state.jobs); workers = workers_pushed Rechecked (λ s. inl refl) state.workers _ });
   throwing = λ state row registration worker at made sound. (coherent_law.throwing state row registration worker at made sound, throw_goes state row.job.number registration worker.number);
   beginning = λ state row registration worker at made. tt;
   failing = λ state row registration worker handler is sound. (coherent_law.failing state row registration worker handler is sound, fail_goes state row registration worker.number);
   installing = λ state row registration worker handler is. tt;
   paying = λ state registration told owed holds sound. let after = holds (paid-coherent state registration sound) in (after.0, record { values = after.1.values; workers = after.1.workers });
   activated = λ state worker handler next found ended rest. tt;
-  opening = λ may state number key url free sound. (coherent_law.opening may state number key url free sound, record { values = λ j result is. is; workers = same_workers state });
+  opening = λ may state number key url free sound. (coherent_law.opening may state number key url free sound, record { values = same_values state; workers = same_workers state });
   closing = λ state number sound. (coherent_law.closing state number sound, leave_goes state number);
-  flagging = λ state worker sound. (coherent_law.flagging state worker sound, record { values = λ j result is. is; workers = some_go (is_worker worker) _ (λ x. refl) (λ x. refl) (λ x. inl refl) state.workers });
+  flagging = λ state worker sound. (coherent_law.flagging state worker sound, record { values = same_values state; workers = some_go (is_worker worker) _ (λ x. refl) (λ x. refl) (λ x. inl refl) state.workers });
   claiming = λ may state worker active sound. (coherent_law.claiming may state worker active sound, claims_go (map (λ client. client.number) state.clients) state worker.number worker.registration);
-  adding = λ state client number row worker there controls ready free sound. (coherent_law.adding state client number row worker there controls ready free sound, record { values = λ j result is. is; workers = same_workers state });
-  ending = λ state number sound. (coherent_law.ending state number sound, record { values = λ j result is. is; workers = same_workers state });
-  caching = λ state key name free sound. (coherent_law.caching state key name free sound, record { values = λ j result is. is; workers = same_workers state });
-  dropping = λ state key name sound. (coherent_law.dropping state key name sound, record { values = λ j result is. is; workers = same_workers state });
-  carrying = λ state key name ops pairs new there is sound. (coherent_law.carrying state key name ops pairs new there is sound, record { values = λ j result was. was; workers = same_workers state });
+  adding = λ state client number row worker there controls ready free sound. (coherent_law.adding state client number row worker there controls ready free sound, record { values = same_values state; workers = same_workers state });
+  ending = λ state number sound. (coherent_law.ending state number sound, record { values = same_values state; workers = same_workers state });
+  caching = λ state key name free sound. (coherent_law.caching state key name free sound, record { values = same_values state; workers = same_workers state });
+  dropping = λ state key name sound. (coherent_law.dropping state key name sound, record { values = same_values state; workers = same_workers state });
+  carrying = λ state key name ops pairs new there is sound. (coherent_law.carrying state key name ops pairs new there is sound, record { values = same_values state; workers = same_workers state });
   forgetting = λ state key free sound. (coherent_law.forgetting state key free sound, forget_goes state key);
-  awaiting = λ state maker key name requests runs sound. (coherent_law.awaiting state maker key name requests runs sound, record { values = λ j result is. is; workers = same_workers state });
-  answering = λ state number result faulted sound. (coherent_law.answering state number result faulted sound, record { values = λ j value is. is; workers = some_go _ _ (λ x. refl) (λ x. refl) (λ x. inl refl) state.workers });
-  noting = λ state worker faulted sound. (coherent_law.noting state worker faulted sound, record { values = λ j result is. is; workers = some_go (is_worker worker) _ (λ x. refl) (λ x. refl) (λ x. inl refl) state.workers });
+  awaiting = λ state maker key name requests runs sound. (coherent_law.awaiting state maker key name requests runs sound, record { values = by_tasks state _ (values_pushed _ _ state.tasks _); workers = same_workers state });
+  answering = λ state number result faulted may sound. (coherent_law.answering state number result faulted may sound, record { values = by_tasks state _ (answered_values number result state.tasks may); workers = some_go _ _ (λ x. refl) (λ x. refl) (λ x. inl refl) state.workers });
+  noting = λ state worker faulted sound. (coherent_law.noting state worker faulted sound, record { values = same_values state; workers = some_go (is_worker worker) _ (λ x. refl) (λ x. refl) (λ x. inl refl) state.workers });
 }
 
 -- ---- what moves a worker on
@@ -256,19 +288,19 @@ before = both-by GoesOnTo Unmoved GoesOnTo (λ a b c goes same. subst (λ s. Goe
 
 end_unmoved : (state : State) (worker : ℕ) → GoesBy Unmoved state (end_handler state worker).state
 unfolding end_handler
-end_unmoved state worker = record { values = λ job result is. is; workers = some_move Unmoved (λ s. refl) (is_worker worker) _ (λ x. refl) (λ x. refl) (λ x. refl) state.workers }
+end_unmoved state worker = record { values = same_values state; workers = some_move Unmoved (λ s. refl) (is_worker worker) _ (λ x. refl) (λ x. refl) (λ x. refl) state.workers }
 
 finish_unmoved : (state : State) (job : ℕ) → GoesBy Unmoved state (finish state job).state
 unfolding finish
-finish_unmoved state job = record { values = some_values (is_job job) _ (λ x. refl) (λ x. refl) state.jobs; workers = workers_stand Unmoved (λ s. refl) state.workers }
+finish_unmoved state job = record { values = by_jobs state _ (some_values (is_job job) _ (λ x. refl) (λ x. refl) state.jobs); workers = workers_stand Unmoved (λ s. refl) state.workers }
 
 mode_unmoved : (state : State) (registration : ℕ) (mode : Mode) → GoesBy Unmoved state (set_mode state registration mode).state
 unfolding set_mode
-mode_unmoved state registration mode = record { values = λ job result is. is; workers = workers_stand Unmoved (λ s. refl) state.workers }
+mode_unmoved state registration mode = record { values = same_values state; workers = workers_stand Unmoved (λ s. refl) state.workers }
 
 wait_goes : (state : State) (registration : ℕ) (worker : Worker) → GoesOn state (become_waiting state registration worker).state
 unfolding become_waiting
-wait_goes state registration worker = record { values = λ job result is. is; workers = some_move GoesOnTo (λ s. inl refl) (λ row. row.registration == registration) _ (λ x. refl) (λ x. refl) (λ x. install_moves x.state) state.workers }
+wait_goes state registration worker = record { values = same_values state; workers = some_move GoesOnTo (λ s. inl refl) (λ row. row.registration == registration) _ (λ x. refl) (λ x. refl) (λ x. install_moves x.state) state.workers }
 
 installed_goes : (state : State) (job registration : ℕ) (worker : Worker) → GoesOn state (finish_install state job registration worker).state
 unfolding finish_install followed
@@ -300,7 +332,7 @@ activated_goes state worker handler found ended sound =
     let is = ended_from state (λ in_phase. not (is_install in_phase)) worker handler found ended in
     let rows = activating_rows state worker handler is.1 (grind (arith, is.0)) sound in
     record {
-      values = λ job result was. was;
+      values = same_values state;
       workers = rw (ends_in worker_state.Activated worker.number state.workers)
           (workers_changed EndsActivating (ended_in worker_state.Activated worker.number) (ended_in_keeps worker_state.Activated worker.number) (λ row. not (row.number == worker.number) || is_activating row) state.workers rows
           (λ x know. by_test (λ (w : Worker). EndsActivating x.state w.state) (x.number == worker.number) _ x (λ here. activating_ends x.state x (grind (arith, know, here))) (λ other. inl refl)));
@@ -318,7 +350,7 @@ begin_goes : (state : State) (row : JobRow) (registration : ℕ) (worker : Worke
     → GoesOn state (followed (begin_install state row.job.number registration worker.number) (λ begun. followed (settle begun row.job.number (settlement.Registration registration)) (λ settled. tell_update settled registration))).state
 unfolding followed begin_install settle tell_update
 begin_goes state row registration worker at made sound = record {
-  values = λ job result is. given_values row.job.number (settlement.Registration registration) (changed (is_job row.job.number) _ state.jobs) job result (some_values (is_job row.job.number) _ (λ x. refl) (λ x. refl) state.jobs job result is);
+  values = by_jobs state _ (λ job result is. given_values row.job.number (settlement.Registration registration) (changed (is_job row.job.number) _ state.jobs) job result (some_values (is_job row.job.number) _ (λ x. refl) (λ x. refl) state.jobs job result is));
   workers = workers_changed GoesOnTo _ (keeps_if (is_worker worker.number) installing (λ x. refl) (λ x. refl)) (λ w. not (w.number == worker.number) || (is_parsed w && w.registration == registration)) state.workers (parsed_rows state row registration worker at made sound)
       (λ x know. by_test (λ (w : Worker). GoesOnTo x.state w.state) (is_worker worker.number x) _ x (λ here. parsed_begins x.state x (grind (arith, know, here))) (λ other. inl refl));
 }

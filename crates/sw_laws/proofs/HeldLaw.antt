@@ -111,6 +111,6 @@ held_law = record {
   carrying = λ state key name ops pairs new there is sound. (coherent_law.carrying state key name ops pairs new there is sound, λ given holds. holds);
   forgetting = λ state key free sound. (coherent_law.forgetting state key free sound, forget_holds state key);
   awaiting = λ state maker key name requests runs sound. (coherent_law.awaiting state maker key name requests runs sound, λ given holds. holds);
-  answering = λ state number result faulted sound. (coherent_law.answering state number result faulted sound, λ given holds. some_moved given _ _ (λ x. refl) (λ x. refl) state.workers state.clients holds);
+  answering = λ state number result faulted may sound. (coherent_law.answering state number result faulted may sound, λ given holds. some_moved given _ _ (λ x. refl) (λ x. refl) state.workers state.clients holds);
   noting = λ state worker faulted sound. (coherent_law.noting state worker faulted sound, λ given holds. some_moved given (is_worker worker) _ (λ x. refl) (λ x. refl) state.workers state.clients holds);
 }

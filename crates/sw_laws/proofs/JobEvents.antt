@@ -26,12 +26,12 @@ use Rattle.sw_rules.specs.Installing.{ended_handler, evaluated, evaluated_worker
 use Rattle.sw_rules.specs.Matching.{Pair}
 use Rattle.sw_rules.specs.Registering.{fetch_script, has_script, is_registered, may_run, register_refusal, rejected, run, run_allowed_register, run_job, run_register, run_unregister, run_update, scheduled_by, unregister_mapped}
 use Rattle.sw_rules.specs.Registrations.{clear, drop_registration, map_registration, new_registration, set_mode, try_clear, unmap}
-use Rattle.sw_rules.specs.Rows.{changed, in_phase, is_evaluating, is_fetching, is_install, is_installing, is_job, is_mapped, is_registration, is_mapped_to, job_row, mapped_registration, task_row}
+use Rattle.sw_rules.specs.Rows.{changed, in_phase, is_evaluating, is_fetching, is_install, is_installing, is_job, is_mapped, is_registration, is_mapped_to, is_task, job_row, mapped_registration, task_row}
 use Rattle.sw_rules.specs.State.{State, Registration, Worker, AddAll, Handler, of_job, value}
 use Rattle.sw_rules.specs.Told.{Told, Outcome, followed, quiet}
 use Rattle.sw_laws.specs.Coherent.{is_there}
 use Rattle.sw_laws.proofs.Lists.{bound_holds, bytes_eq_same, by_option, by_result, by_test, find_changed, find_passes, length_pushed, mapped_holds}
-use Rattle.sw_laws.proofs.Split.{IsLawBeside, IsLawWhere, IsAt, IsInstalled, IsLeavingLaw, LeavesMap, may_end, may_finish, try_clear-law}
+use Rattle.sw_laws.proofs.Split.{IsLawBeside, IsLawWhere, IsAt, IsInstalled, IsLeavingLaw, LeavesMap, may_end, may_finish, may_settle, try_clear-law}
 
 -- ---- look-ups along the chains
 
@@ -107,6 +107,16 @@ run_may_end state row is may = grind (arith, is, may)
 
 fetching_may_end : (state : State) (row : JobRow) (registration : ℕ) → IsAt state is_fetching row registration → may_end state row.job.number ≡ true
 fetching_may_end state row registration at = grind (arith, at.found, at.phase)
+
+-- an addAll that was found, and has not settled, may settle
+task_may_settle : (state : State) (number : ℕ) (row : AddAll) → task_row state number ≡ Some row → is_none row.settled ≡ true → may_settle state row.number ≡ true
+task_may_settle state number row is unsettled =
+    let own : row.number ≡ number = grind (arith, nat_tests, find_passes (is_task number) state.tasks row is) in
+    ap (may_settle state) own ∙ grind (arith, is, unsettled)
+
+carried_may_settle : (state : State) (key name : List ℕ) (ops : List Op) (new : List Pair) (task : ℕ) → may_settle state task ≡ true → may_settle (carry_out state key name ops new).state task ≡ true
+unfolding carry_out
+carried_may_settle state key name ops new task may = may
 
 by_kind : (P : Outcome → Type 0) (what : JobKind) (one two three : Outcome) → P one → P two → P three
     → P (elim what [ job_kind.Register ↦ one | job_kind.Update ↦ two | job_kind.Unregister ↦ three ])
@@ -260,10 +270,10 @@ module _ (Law : State → Told → Type 0) where
       (λ pairs there. store_task-by state row law (puts_of row.requests lines) pairs there))
       (λ why is. law.refusing why)
 
-  pub added-by : (state : State) (number : ℕ) → ((row : AddAll) → task_row state number ≡ Some row → IsAddLaw Law state row) → (lines : List (Option FetchLine)) → HoldsIf Law state (added state number lines)
+  pub added-by : (state : State) (number : ℕ) → ((row : AddAll) → task_row state number ≡ Some row → is_none row.settled ≡ true → IsAddLaw Law state row) → (lines : List (Option FetchLine)) → HoldsIf Law state (added state number lines)
   added-by state number adding lines =
       bound_holds (Holds Law state) _ (task_row state number) (λ row there.
-      by_test (HoldsIf Law state) (is_none row.settled) _ _ (λ open_task. task_ended-by state row (adding row there) lines) (λ done. tt))
+      by_test (HoldsIf Law state) (is_none row.settled) _ _ (λ unsettled. task_ended-by state row (adding row there unsettled) lines) (λ done. tt))
 
 -- ---- what the promise of an action waits for
 
@@ -365,14 +375,14 @@ module _ (Law Own : State → Told → Type 0) (controls : Bool) {anywhere : Boo
 
   -- ---- the fetches of an addAll
 
-  adding : (state : State) (row : AddAll) → IsAddLaw Law state row
-  adding state row = record {
-    storing = λ ops pairs new there is. further state _ _ (law.carrying state row.key row.name ops pairs new there is) (law.answering (carry_out state row.key row.name ops new).state row.number settlement.Done false);
-    refusing = λ why. law.answering state row.number _ true;
+  adding : (state : State) (row : AddAll) → may_settle state row.number ≡ true → IsAddLaw Law state row
+  adding state row may = record {
+    storing = λ ops pairs new there is. further state _ _ (law.carrying state row.key row.name ops pairs new there is) (law.answering (carry_out state row.key row.name ops new).state row.number settlement.Done false (carried_may_settle state row.key row.name ops new row.number may));
+    refusing = λ why. law.answering state row.number _ true may;
   }
 
   pub added-law : (state : State) (number : ℕ) (lines : List (Option FetchLine)) → HoldsIf Law state (added state number lines)
-  added-law state number = added-by Law state number (λ row there. adding state row)
+  added-law state number = added-by Law state number (λ row there unsettled. adding state row (task_may_settle state number row there unsettled))
 
 module _ (Law : State → Told → Type 0) (controls : Bool) {anywhere : Bool} (law : IsLawWhere Law controls anywhere) where
   -- ---- the evaluation of a script

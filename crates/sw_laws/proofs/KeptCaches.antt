@@ -223,6 +223,6 @@ cache_law = record {
   carrying = λ state key name ops pairs new there is. carried state key name ops pairs new there is;
   forgetting = λ state key free kept same. ap (filter (λ row. not (bytes_eq row.key key))) same;
   awaiting = λ state maker key name requests runs kept same. same;
-  answering = λ state number result faulted kept same. same;
+  answering = λ state number result faulted may kept same. same;
   noting = λ state worker faulted kept same. same;
 }

@@ -313,7 +313,7 @@ tell_law = record {
   carrying = λ state key name ops pairs new there is. stand state.registrations _;
   forgetting = λ state key free. some_left (is_mapped_of key) (λ row. clear_notices state row.number) state.registrations;
   awaiting = λ state maker key name requests runs. stand state.registrations _;
-  answering = λ state number result faulted. stand state.registrations _;
+  answering = λ state number result faulted may. stand state.registrations _;
   noting = λ state worker faulted. stand state.registrations _;
 }
 

@@ -29,13 +29,13 @@ use Rattle.sw_rules.specs.Matching.{Pair}
 use Rattle.sw_rules.specs.Preloading.{set_preload}
 use Rattle.sw_rules.specs.Registering.{fetch_script, may_run, run}
 use Rattle.sw_rules.specs.Registrations.{activate, chosen, clear, left_by, map_registration, recheck, release, set_mode, try_activate, try_clear, unload, unmap}
-use Rattle.sw_rules.specs.Rows.{active_worker, client_row, event_row, has_pending_worker, has_worker, in_phase, is_activating, is_active, is_evaluating, is_fetching, is_install, is_installing, is_mapped, is_used, job_row, maker_worker, mapped_registration, worker_row}
+use Rattle.sw_rules.specs.Rows.{active_worker, client_row, event_row, has_pending_worker, has_worker, in_phase, is_activating, is_active, is_evaluating, is_fetching, is_install, is_installing, is_mapped, is_used, job_row, maker_worker, mapped_registration, task_row, worker_row}
 use Rattle.sw_rules.specs.State.{State, Registration, Worker, Awaited, Handler}
 use Rattle.sw_rules.specs.Told.{Told, followed, quiet}
 use Rattle.sw_laws.specs.Coherent.{is_running, is_settled_phase, is_there}
 use Rattle.sw_laws.proofs.Lists.{by_option}
 
--- ---- jobs that may come to their end
+-- ---- jobs and addAlls that may come to their end
 
 -- a job that joined no other is there, and is before its installing
 abbrev pub may_end : State → ℕ → Bool
@@ -46,6 +46,10 @@ may_end state job =
 abbrev pub may_finish : State → ℕ → Bool
 may_finish state job =
     option_map_or (λ row. is_none row.leader && not (is_settled_phase row.phase) && is_some row.settled) (job_row state job) false
+
+-- an addAll is there, and has not settled
+abbrev pub may_settle : State → ℕ → Bool
+may_settle state task = option_map_or (λ row. is_none row.settled) (task_row state task) false
 
 -- ---- a job in a phase
 
@@ -148,7 +152,7 @@ pub record IsLawBeside (Law Own Ends : State → Told → Type 0) (controls anyw
   pub carrying : (state : State) (key name : List ℕ) (ops : List Op) (pairs new : List Pair) → pairs_of key name state.caches ≡ Some pairs → batch pairs ops ≡ Ok new → Law state (carry_out state key name ops new)
   pub forgetting : (state : State) (key : List ℕ) → is_busy state key ≡ false → Law state (forget_key state key)
   pub awaiting : (state : State) (who : Who) (key name : List ℕ) (requests : List Request) → is_running state.workers (maker_worker who) ≡ true → Law state (add_task state who key name requests)
-  pub answering : (state : State) (number : ℕ) (result : Settlement) (faulted : Bool) → Ends state (settle_task state number result faulted)
+  pub answering : (state : State) (number : ℕ) (result : Settlement) (faulted : Bool) → may_settle state number ≡ true → Ends state (settle_task state number result faulted)
   pub noting : (state : State) (worker : ℕ) (faulted : Bool) → Law state (note_call state worker faulted)
 
 -- a law that is asked of all steps alike

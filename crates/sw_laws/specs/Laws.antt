@@ -1,5 +1,5 @@
 -- Laws of every legal history, each the clause of the call of `sw_laws::laws` that has its name.
-use Rattle.std.specs.Prelude.{◌≡◌, ◌⊎◌, ℕ, suc, Bool, true, false, ◌&&◌, ◌==◌, List, [], ◌∷◌, ◌++◌, take, filter, find, bytes_eq, is_none, is_some, Option, Some, option_map, option_and_then}
+use Rattle.std.specs.Prelude.{◌≡◌, ◌⊎◌, ℕ, suc, Bool, true, false, ◌&&◌, ◌==◌, List, [], ◌∷◌, ◌++◌, take, filter, find, bytes_eq, is_none, is_some, Option, Some, option_map}
 use Rattle.std.specs.List.{list_any}
 use Rattle.std.specs.Option.{option_map_or}
 use Rattle.sw_data.specs.declared.answers.Answer.{Answer}
@@ -17,9 +17,10 @@ use Rattle.sw_data.specs.declared.workers.WorkerState.{WorkerState}
 use Rattle.sw_data.specs.declared.workers.WorkerState.TheVariants as worker_state
 use Rattle.sw_rules.specs.Durable as kept
 use Rattle.sw_rules.specs.History.{Controlled, Legal, after, moved}
+use Rattle.sw_rules.specs.Jobs.{awaited_value}
 use Rattle.sw_rules.specs.Restart.{restart}
 use Rattle.sw_rules.specs.Rows.{in_phase, is_fetching, is_unfinished, is_worker, job_row, mapped_registration, registration_row, worker_row}
-use Rattle.sw_rules.specs.State.{State, Worker}
+use Rattle.sw_rules.specs.State.{State, Worker, Awaited, of_job}
 use Rattle.sw_rules.specs.Step.{Step, changes_of, state_after}
 use Rattle.sw_rules.specs.Storage.{IsMade, applied, kept_after}
 use Rattle.sw_rules.specs.Tasks.{ready_tasks}
@@ -56,10 +57,6 @@ pub record RestartsOnce : Type 0 where
 
 -- ---- promises and slots
 
--- the value of a job's promise, where it has settled
-abbrev pub settled_value : State → ℕ → Option Settlement
-settled_value state job = option_and_then (λ row. row.settled) (job_row state job)
-
 -- the state behind this one (Service Workers, "state" of a service worker); behind a redundant one there is none
 abbrev pub next_state : WorkerState → WorkerState
 next_state worker_state.Parsed = worker_state.Installing
@@ -80,14 +77,15 @@ pub record HasGoneOn (before : Worker) (workers : List Worker) (number : ℕ) : 
   pub registration : now.registration ≡ before.registration
   pub state : GoesOnTo before.state now.state
 
--- own: a promise settles at most once: the value that it has it keeps; and a job that joined another has that one's value
+-- own: a promise, of a job or an addAll, settles at most once: the value that it has it keeps; and a job that joined
+-- another has that one's value
 pub record SettlesOnce : Type 0 where
-  pub stays : (base : Kept) (history : List Entry) (happened : Event) (job : ℕ) (result : Settlement)
-      → Legal base history → settled_value (after base history) job ≡ Some result
-      → settled_value (state_after (after base history) happened) job ≡ Some result
+  pub stays : (base : Kept) (history : List Entry) (happened : Event) (awaited : Awaited) (result : Settlement)
+      → Legal base history → awaited_value (after base history) awaited ≡ Some result
+      → awaited_value (state_after (after base history) happened) awaited ≡ Some result
   pub joined : (base : Kept) (history : List Entry) (row : JobRow) (job leader : ℕ)
       → Legal base history → job_row (after base history) job ≡ Some row → row.leader ≡ Some leader
-      → settled_value (after base history) leader ≡ row.settled
+      → awaited_value (after base history) (of_job leader) ≡ row.settled
 
 -- own: a registration has at most one worker in each slot, and each event leaves a worker's state, moves it to the next
 -- one, or makes it redundant

@@ -36,7 +36,7 @@ pub fn slots_hold_one_worker()
     ensures { HasSlots }
 {}
 
-/// A promise settles at most once, and a job that joined another has its value.
+/// A promise, of a job or an addAll, settles at most once, and a job that joined another has its value.
 #[tactic(auto, using(crate::proofs::LawProofs::settles_once))]
 pub fn promises_settle_once()
     ensures { SettlesOnce }
