@@ -42,7 +42,7 @@ use Rattle.sw_rules.specs.Preloading.{preload_set}
 use Rattle.sw_rules.specs.Registering.{register, soft_update, soft_update_named, unregister, update, update_named, with_client}
 use Rattle.sw_rules.specs.Rows.{active_worker, client_row, event_row, is_active, is_install, is_activating, is_worker, maker_worker, mapped_registration, named_scope, newest_worker, registration_of, registration_row, slot_worker, worker_row}
 use Rattle.sw_rules.specs.State.{State, Registration, Worker, Handler, of_task}
-use Rattle.sw_rules.specs.Step.{by_host, by_lane, step}
+use Rattle.sw_rules.specs.Step.{by_host, by_lane, by_page, step}
 use Rattle.sw_rules.specs.Told.{Told, Outcome, followed, quiet}
 use Rattle.sw_laws.specs.Coherent.{is_running, is_there}
 use Rattle.sw_laws.proofs.JobEvents.{added-law, evaluated-law, fetched-law, installed-law, rejected-law, run-law, scheduled_by-law}
@@ -351,6 +351,11 @@ module _ (Law Own Ends : State → Told → Type 0) (controls : Bool) {anywhere 
   by_lane-law state (who.Lane lane at) outcome holds = holds lane at refl
   by_lane-law state (who.Handler worker in_phase number) outcome holds = tt
 
+  by_page-law : (state : State) (maker : Who) (outcome : Option Outcome) → HoldsIf state outcome → HoldsIf state (by_page maker outcome)
+  by_page-law state who.Host outcome holds = holds
+  by_page-law state (who.Lane lane at) outcome holds = holds
+  by_page-law state (who.Handler worker in_phase number) outcome holds = tt
+
   by_host-law : (Held : State → Told → Type 0) (state : State) (maker : Who) (outcome : Option Outcome) → IfSome outcome (λ o. Held state o.told) → IfSome (by_host maker outcome) (λ o. Held state o.told)
   by_host-law Held state who.Host outcome holds = holds
   by_host-law Held state (who.Lane lane at) outcome holds = tt
@@ -381,7 +386,7 @@ module _ (Law Own Ends : State → Told → Type 0) (controls : Bool) {anywhere 
   step-law-by Allowed Whole whole host state (event.CacheHas maker place name) may allowed = whole-holds Law Whole whole state _ (by_lane-law state maker _ (λ lane at is. with_key-law state place _ (λ key. nothing state)))
   step-law-by Allowed Whole whole host state (event.CacheDelete maker place name) may allowed = whole-holds Law Whole whole state _ (by_lane-law state maker _ (λ lane at is. with_key-law state place _ (delete_cache-law state name)))
   step-law-by Allowed Whole whole host state (event.CacheKeys maker place) may allowed = whole-holds Law Whole whole state _ (by_lane-law state maker _ (λ lane at is. with_key-law state place _ (λ key. nothing state)))
-  step-law-by Allowed Whole whole host state (event.Forget maker place) may allowed = whole-holds Law Whole whole state _ (by_lane-law state maker _ (λ lane at is. with_key-law state place _ (forget-law state)))
+  step-law-by Allowed Whole whole host state (event.Forget maker place) may allowed = whole-holds Law Whole whole state _ (by_page-law state maker _ (with_key-law state place _ (forget-law state)))
   step-law-by Allowed Whole whole host state (event.Match maker place asked) may allowed = whole-holds Law Whole whole state _ (by_lane-law state maker _ (λ lane at is. with_key-law state place _ (match_request-law state place.at asked)))
   step-law-by Allowed Whole whole host state (event.MatchAll maker place asked) may allowed = whole-holds Law Whole whole state _ (by_lane-law state maker _ (λ lane at is. with_key-law state place _ (query_cache-law state place.at asked)))
   step-law-by Allowed Whole whole host state (event.Keys maker place asked) may allowed = whole-holds Law Whole whole state _ (by_lane-law state maker _ (λ lane at is. with_key-law state place _ (query_cache-law state place.at asked)))
