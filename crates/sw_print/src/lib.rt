@@ -6,10 +6,9 @@
 
 ghost use Rattle.std.specs.Prelude.{◌≡◌, IfOk};
 ghost use Rattle.sw_print.specs.Showing.{shown};
-ghost use Rattle.sw_print.specs.Transcript.{transcript};
+ghost use Rattle.sw_print.specs.Transcript.{line_of_entry, transcript};
 
 use kept::kept_text;
-use lines::{end_line, line_of_entry};
 use std::alloc::Global;
 use sw_data::{End, Entry, Kept, NoMemory, Text};
 
@@ -26,12 +25,19 @@ pub fn print_history(alloc: Global, history: &[Entry], end: &End) -> Result<Text
 {
     let mut text = String::new(alloc);
     for entry in history {
-        let line = line_of_entry(alloc, entry)?;
+        let line = lines::line_of_entry(alloc, entry)?;
         text.push_str(line.as_str())?;
     }
-    let last = end_line(alloc, end)?;
+    let last = lines::end_line(alloc, end)?;
     text.push_str(last.as_str())?;
     Ok(Text::from_string(text))
+}
+
+/// The line of an entry, in UTF-8.
+pub fn print_entry(alloc: Global, entry: &Entry) -> Result<Text, NoMemory>
+    ensures { IfOk result (λ text. text ≡ line_of_entry entry.now) }
+{
+    Ok(Text::from_string(lines::line_of_entry(alloc, entry)?))
 }
 
 /// What is kept, as lines in UTF-8: the count of the registrations and the lines of each, then the count of the caches
