@@ -73,7 +73,7 @@ same_name k l m n a b is =
 -- ---- the forms of the host's events
 
 -- an event of the host: its kind, and its maker
-abbrev HostForm : Event → Type 0
+abbrev pub HostForm : Event → Type 0
 HostForm (event.Run maker job) = maker ≡ who.Host
 HostForm (event.Fetched maker job line) = maker ≡ who.Host
 HostForm (event.Evaluated maker job) = maker ≡ who.Host

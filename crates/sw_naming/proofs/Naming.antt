@@ -34,7 +34,7 @@ use Rattle.sw_naming.proofs.SameCalls.{equal_calls}
 
 -- ---- one event
 
-some_same : {A : Type 0} (x y : A) → Some x ≡ Some y → x ≡ y
+pub some_same : {A : Type 0} (x y : A) → Some x ≡ Some y → x ≡ y
 some_same x y is = cc
 
 same_lane_event : (recording : Recording) (b c : List Entry) (one other : Entry) (lane at : ℕ) → one.who ≡ who.Lane lane at → other.who ≡ who.Lane lane at
@@ -44,7 +44,7 @@ same_lane_event recording b c one other lane at is is' next next' =
     let n = subst (λ (w : Who). IsNextOfLane recording c other w) is' next' in
     some_same one.event other.event (sym m.1 ∙ n.1)
 
-guard : {A : Type 0} (b : Bool) (x : Option A) (o : A) → (if b then x else None) ≡ Some o → b ≡ true
+pub guard : {A : Type 0} (b : Bool) (x : Option A) (o : A) → (if b then x else None) ≡ Some o → b ≡ true
 guard true x o is = refl
 guard false x o is = cc
 
@@ -112,11 +112,11 @@ cut_lines m n r q f g t a b is =
 longer : (line f t : List ℕ) → 0 < length line → t ≡ (line ++ f) ++ t → ⊥
 longer line f t some is = omega (arith, some, ap length is, length-append (line ++ f) t, length-append line f)
 
-line_length : (entry : Entry) → 0 < length (line_of_entry entry)
+pub line_length : (entry : Entry) → 0 < length (line_of_entry entry)
 line_length entry = omega (arith, length-append (mark entry.event) (codes " -> " ++ rest_of_line entry))
 
 -- steps of one state by one event have one outcome
-same_outcome : (b c : List Entry) (state : State) (one other : Entry) → IsStep b state one → IsStep c state other → one.event ≡ other.event
+pub same_outcome : (b c : List Entry) (state : State) (one other : Entry) → IsStep b state one → IsStep c state other → one.event ≡ other.event
     → IsSameEntry one other
 same_outcome b c state one other s t is =
     let o : Outcome = record { answer = one.answer; told = record { state = moved state one; notices = one.notices; changes = s.step.0 } } in
@@ -159,14 +159,14 @@ named recording t b c state (x ∷ xs) (y ∷ ys) s s' f f' a a' is =
           (append_cancel_left (rest_of_line x) (flat_map line_of_entry xs ++ t) (flat_map line_of_entry ys ++ t) rests),
     )
 
-same_opening : (base : Kept) (one other : Entry) → IsOpening base one → IsOpening base other → IsSameEntry one other
+pub same_opening : (base : Kept) (one other : Entry) → IsOpening base one → IsOpening base other → IsSameEntry one other
 same_opening base one other a b = record {
   event = a.event ∙ sym b.event;
   answer = a.answer ∙ sym b.answer;
   notices = a.notices ∙ sym b.notices;
 }
 
-same_line : (one other : Entry) → IsSameEntry one other → line_of_entry one ≡ line_of_entry other
+pub same_line : (one other : Entry) → IsSameEntry one other → line_of_entry one ≡ line_of_entry other
 same_line one other same =
     ap (λ (e : Event). mark e ++ (codes " -> " ++ rest_of_line one)) same.event
     ∙ ap (λ (r : List ℕ). mark other.event ++ (codes " -> " ++ r)) (same_rest one other same)
