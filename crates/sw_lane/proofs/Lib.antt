@@ -1,3 +1,4 @@
+pub mod ActionEvents
 pub mod Finding
 pub mod Following
 pub mod Saying

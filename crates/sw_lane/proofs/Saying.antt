@@ -41,7 +41,7 @@ absent f None none is = absurd cc
 absent f (Some x) none is = absurd cc
 
 -- a lane with actions left goes on at the number of its entries
-at_is : (history : List Entry) (number : ℕ) (actions : Option (List Action)) (left : Option Left)
+pub at_is : (history : List Entry) (number : ℕ) (actions : Option (List Action)) (left : Option Left)
     → left ≡ option_map (left_after history number) actions
     → is_some (option_and_then (λ (lane : Left). slice_get lane.actions 0) left) ≡ true
     → option_map_or (λ (lane : Left). lane.at) left 0 ≡ made_by number history

@@ -1,6 +1,6 @@
 //! The lanes of a recording.
 
-ghost use Rattle.std.specs.Prelude.{◌≡◌, ◌++◌, ◌∷◌, [], ℕ, List, true, map, is_some, Some, option_map, IfOk};
+ghost use Rattle.std.specs.Prelude.{◌≡◌, ◌++◌, ◌∷◌, [], ℕ, List, length, true, map, is_some, Some, option_map, IfOk};
 ghost use Rattle.sw_data.specs.declared.events.Who.TheVariants as who;
 ghost use Rattle.sw_data.specs.declared.histories.Entry.{Entry};
 ghost use Rattle.sw_data.specs.declared.recordings.Recording.{Recording};
@@ -61,6 +61,13 @@ impl Lanes {
         Ok(Lanes { lanes })
     }
 
+    /// How many lanes there are; it takes no memory.
+    pub fn len(&self) -> u32
+        ensures { result ≡ length self.now }
+    {
+        self.lanes.len() as u32
+    }
+
     /// The next action of a lane, none where the lane is at its end; it takes no memory.
     pub fn action(&self, lane: u32) -> Option<&Action>
         ensures { option_map (λ action. action.now) result ≡ action_of self.now lane }
@@ -99,8 +106,8 @@ impl Lanes {
         self.lanes[lane as usize].put_back(action);
     }
 
-    // The position of a lane.
-    fn at(&self, lane: u32) -> u32
+    /// The position of the next action of a lane, 0 where there is no such lane; it takes no memory.
+    pub fn at(&self, lane: u32) -> u32
         ensures { result ≡ at_of self.now lane }
     {
         match self.lanes.get(lane as usize) {

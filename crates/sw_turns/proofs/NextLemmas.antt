@@ -12,7 +12,6 @@ use Rattle.sw_data.specs.declared.histories.Entry.{Entry}
 use Rattle.sw_data.specs.declared.histories.Task.{Task}
 use Rattle.sw_data.specs.declared.histories.Task.TheVariants as task
 use Rattle.sw_data.specs.declared.recordings.Action.{Action}
-use Rattle.sw_data.specs.declared.recordings.Action.TheVariants as action
 use Rattle.sw_data.specs.declared.recordings.Call.{Call}
 use Rattle.sw_data.specs.declared.recordings.FetchLine.{FetchLine}
 use Rattle.sw_data.specs.declared.recordings.Recording.{Recording}
@@ -25,6 +24,7 @@ use Rattle.sw_lane.specs.declared.picks.Work.TheVariants as work
 use Rattle.sw_lane.specs.Left.{Left, action_of, at_of, numbers, taken}
 use Rattle.sw_lane.specs.Picked.{in_flight, is_fetch, is_ready, is_task, lane_left, picked, ready_lane, task_left}
 use Rattle.sw_lane.specs.Recorded.{AreLanesOf}
+use Rattle.sw_lane.proofs.ActionEvents.{lines_of_action, unforced, who_of-event_of_action}
 use Rattle.sw_lane.proofs.Following.{goes_on, next_is, stays}
 use Rattle.sw_lane.proofs.Saying.{says}
 use Rattle.sw_laws.specs.Coherent.{Coherent}
@@ -106,25 +106,6 @@ module _ (state : State) (in_flight : List Task) (lanes : List Left) where
   picked_task one is = found_ready _ (ready_tasks state) one (left_picked one is)
 
 -- ---- actions and tasks as entries
-
--- the maker of an action's event
-who_of-event_of_action : (maker : Who) (happened : Action) → who_of (event_of_action maker happened) ≡ maker
-unfolding event_of_action who_of
-who_of-event_of_action maker (action.Open client url partition) = refl
-who_of-event_of_action maker _ = refl
-
--- an action's event carries no fetch lines
-lines_of_action : (recording : Recording) (state : State) (maker : Who) (happened : Action) → HasLines recording state (event_of_action maker happened)
-unfolding event_of_action
-lines_of_action recording state maker (action.Open client url partition) = tt
-lines_of_action recording state maker _ = tt
-
--- a lane's action isn't one of the host
-unforced : (lane at : ℕ) (happened : Action) → is_host_forget (event_of_action (who.Lane lane at) happened) ≡ false
-unfolding event_of_action
-unforced lane at (action.Open client url partition) = refl
-unforced lane at (action.Forget place) = refl
-unforced lane at _ = refl
 
 -- own: an event that no lane made, with the recorded lines
 pub record IsOfHost (recording : Recording) (state : State) (happened : Event) : Type 0 where

@@ -14,12 +14,12 @@ ghost use Rattle.sw_turns.specs.Machines.{IsEventOf};
 ghost use Rattle.sw_turns.specs.Playing.{ComesNext};
 ghost use Rattle.sw_work.specs.Hosted.{state_of};
 
-use crate::acting::{action_of_event, event_of_action};
+use crate::acting::action_of_event;
 use crate::fetching::task_event;
 use std::alloc::Global;
 use sw_core::Core;
 use sw_data::{Event, NoMemory, Task, Who};
-use sw_lane::Lanes;
+use sw_lane::{Lanes, event_of_action};
 use sw_net::Net;
 
 // The event of the next action of a lane, which is taken.
