@@ -1,5 +1,6 @@
 -- The transcript: the text of a history and its end.
-use Rattle.std.specs.Prelude.{ℕ, Bool, true, false, List, [], ◌∷◌, ◌++◌, take, length, flat_map, codes, decimal, Option, Some, None}
+use Rattle.std.specs.Prelude.{ℕ, ◌==◌, Bool, true, false, List, [], ◌∷◌, ◌++◌, take, length, flat_map, codes, decimal, Option, Some, None}
+use Rattle.std.specs.List.{before_last}
 use Rattle.json.specs.Print.{quoted}
 use Rattle.sw_data.specs.declared.answers.Answer.{Answer}
 use Rattle.sw_data.specs.declared.answers.Answer.TheVariants as answer
@@ -24,11 +25,13 @@ use Rattle.sw_data.specs.declared.histories.End.TheVariants as end
 use Rattle.sw_data.specs.declared.histories.Entry.{Entry}
 use Rattle.sw_data.specs.declared.recordings.Call.{Call}
 use Rattle.sw_data.specs.declared.recordings.Call.TheVariants as call
+use Rattle.sw_data.specs.declared.recordings.Place.{Place}
 use Rattle.sw_data.specs.declared.workers.Phase.{Phase}
 use Rattle.sw_data.specs.declared.workers.Phase.TheVariants as phase
 use Rattle.sw_data.specs.declared.workers.WorkerState.{WorkerState}
 use Rattle.sw_data.specs.declared.workers.WorkerState.TheVariants as worker_state
 use Rattle.sw_data.specs.Events.{who_of}
+use Rattle.sw_data.specs.Keys.{partitioned}
 
 -- ---- numbers, names and lists
 
@@ -122,6 +125,15 @@ call_word (call.Delete delete) = codes "delete"
 call_word (call.Batch batch) = codes "batch"
 call_word (call.AddAll add) = codes "addAll"
 
+-- the key of a place at the root of an origin: what stands before its last slash, and its partition (own)
+abbrev pub root_key : Place → List ℕ
+root_key place = partitioned place.partition (before_last (λ b. b == 47) place.at)
+
+-- the name of a forget, and the key of the host's as a JSON string behind a space (own)
+abbrev pub forget_text : Who → Place → List ℕ
+forget_text who.Host place = codes "forget" ++ spaced (quoted (root_key place))
+forget_text _ place = codes "forget"
+
 abbrev pub event_text : Event → List ℕ
 event_text (event.Open who client url partition) = codes "open"
 event_text (event.Close who client) = codes "close"
@@ -141,7 +153,7 @@ event_text (event.CacheOpen who place name) = codes "cacheOpen"
 event_text (event.CacheHas who place name) = codes "cacheHas"
 event_text (event.CacheDelete who place name) = codes "cacheDelete"
 event_text (event.CacheKeys who place) = codes "cacheKeys"
-event_text (event.Forget who place) = codes "forget"
+event_text (event.Forget who place) = forget_text who place
 event_text (event.Match who place find) = codes "match"
 event_text (event.MatchAll who place query) = codes "matchAll"
 event_text (event.Keys who place query) = codes "keys"

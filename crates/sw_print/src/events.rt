@@ -1,10 +1,12 @@
 //! The texts of makers and of events.
 
-ghost use Rattle.std.specs.Prelude.{◌≡◌, IfOk, string_bytes};
-ghost use Rattle.sw_print.specs.Transcript.{phase_word, who_text, call_word, event_text, mark};
+ghost use Rattle.std.specs.Prelude.{◌≡◌, ◌==◌, IfOk, string_bytes};
+ghost use Rattle.std.specs.List.{before_last};
+ghost use Rattle.sw_print.specs.Transcript.{phase_word, who_text, call_word, root_key, forget_text, event_text, mark};
 
+use crate::lists::quoted;
 use std::alloc::{AllocError, Global};
-use sw_data::{Call, Event, Phase, Who};
+use sw_data::{Call, Event, Phase, Place, Text, Who};
 
 // The word for a worker's handler.
 fn phase_word(phase: Phase) -> &'static str
@@ -56,7 +58,45 @@ fn call_word(call: &Call) -> &'static str
     }
 }
 
-// The name of an event, and the number of what a host's event is about.
+// What stands before the last slash of a text.
+fn before_slash(text: &str) -> &str
+    ensures { result.now ≡ before_last (λ b. b == 47) text.now }
+{
+    match text.rsplit_once('/') {
+        Some((front, _)) => front,
+        None => "",
+    }
+}
+
+// The key of a place at the root of an origin.
+fn root_key(alloc: Global, place: &Place) -> Result<String, AllocError>
+    ensures { IfOk result (λ key. string_bytes key ≡ root_key place.now) }
+{
+    let origin = before_slash(place.at.as_str());
+    match &place.partition {
+        None => String::from_str(alloc, origin),
+        Some(partition) => {
+            let partition = partition.as_str();
+            format!(in alloc; "{origin}^{partition}")
+        }
+    }
+}
+
+// The name of a forget, and the key of the host's.
+fn forget_text(alloc: Global, who: Who, place: &Place) -> Result<String, AllocError>
+    ensures { IfOk result (λ text. string_bytes text ≡ forget_text who place.now) }
+{
+    match who {
+        Who::Host => {
+            let key = Text::from_string(root_key(alloc, place)?);
+            let key = quoted(alloc, &key)?;
+            format!(in alloc; "forget {key}")
+        }
+        Who::Lane { .. } | Who::Handler { .. } => String::from_str(alloc, "forget"),
+    }
+}
+
+// The name of an event, and what a host's event is about.
 fn event_text(alloc: Global, event: &Event) -> Result<String, AllocError>
     ensures { IfOk result (λ text. string_bytes text ≡ event_text event.now) }
 {
@@ -79,7 +119,7 @@ fn event_text(alloc: Global, event: &Event) -> Result<String, AllocError>
         Event::CacheHas { .. } => String::from_str(alloc, "cacheHas"),
         Event::CacheDelete { .. } => String::from_str(alloc, "cacheDelete"),
         Event::CacheKeys { .. } => String::from_str(alloc, "cacheKeys"),
-        Event::Forget { .. } => String::from_str(alloc, "forget"),
+        Event::Forget { who, place } => forget_text(alloc, *who, place),
         Event::Match { .. } => String::from_str(alloc, "match"),
         Event::MatchAll { .. } => String::from_str(alloc, "matchAll"),
         Event::Keys { .. } => String::from_str(alloc, "keys"),

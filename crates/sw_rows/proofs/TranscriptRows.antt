@@ -108,6 +108,15 @@ more_notices :
 unfolding digits who_of
 more_notices = refl
 
+-- what the host forgets is told with its key
+forget_row :
+    map mark
+    (event.Forget who.Host (record { at = codes "https://a.test/"; partition = None }) ∷ event.Forget who.Host (record { at = codes "https://a.test:8443/"; partition = Some (codes "p") })
+    ∷ event.Forget (who.Lane 0 2) (record { at = codes "https://a.test/"; partition = None }) ∷ [])
+    ≡ codes "- forget \"https://a.test\"" ∷ codes "- forget \"https://a.test:8443^p\"" ∷ codes "L0.2 forget" ∷ []
+unfolding digits who_of escape_byte
+forget_row = refl
+
 host_row :
     map mark
     (event.Run who.Host 1 ∷ event.Fetched who.Host 1 None ∷ event.Installed who.Host 1 ∷ event.TryActivate who.Host 2 ∷ event.Activated who.Host 3
