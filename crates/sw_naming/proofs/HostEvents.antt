@@ -1,5 +1,5 @@
 -- Which events a maker makes, and what the name of a host's event tells of it.
-use Rattle.std.proofs.Common.{◌≡◌, ◌∙◌, ◌⊎◌, ℕ, ◌<◌, ◌^◌, ◌==◌, List, [], ◌∷◌, ◌++◌, Option, Some, None, refl, sym, ap, decimal, codes, inl, inr, ⊎_elim, option_map, option_and_then, if◌then◌else◌}
+use Rattle.std.proofs.Common.{◌≡◌, ◌∙◌, ◌⊎◌, ℕ, ◌<◌, ◌^◌, false, ◌==◌, List, [], ◌∷◌, ◌++◌, Option, Some, None, refl, sym, ap, decimal, codes, inl, inr, ⊎_elim, option_map, option_and_then, if◌then◌else◌}
 use Rattle.std.proofs.lemmas.Fmt.{decimal_injective}
 use Rattle.std.proofs.lemmas.List.{append_cancel_left}
 use Rattle.sw_data.specs.declared.events.Event.{Event}
@@ -13,7 +13,7 @@ use Rattle.sw_data.specs.declared.workers.Phase.{Phase}
 use Rattle.sw_data.specs.Events.{who_of}
 use Rattle.sw_print.specs.Transcript.{event_text}
 use Rattle.sw_rules.specs.Calls.{make_call}
-use Rattle.sw_rules.specs.Picks.{HasLines}
+use Rattle.sw_rules.specs.Picks.{HasLines, is_host_forget}
 use Rattle.sw_rules.specs.Rows.{job_row, task_row}
 use Rattle.sw_rules.specs.State.{State}
 use Rattle.sw_rules.specs.Step.{by_host, by_lane, step}
@@ -148,52 +148,54 @@ not_by_lane who.Host x o is host = cc
 not_by_lane (who.Lane lane at) x o is host = cc
 not_by_lane (who.Handler worker p number) x o is host = cc
 
--- what the host makes is one of its own events
-pub host_form : (state : State) (happened : Event) (o : Outcome) → step state happened ≡ Some o → who_of happened ≡ who.Host → HostForm happened
+-- what the host makes, but for what it forgets, is one of its own events
+pub host_form : (state : State) (happened : Event) (o : Outcome) → step state happened ≡ Some o → who_of happened ≡ who.Host → is_host_forget happened ≡ false → HostForm happened
 unfolding step who_of
-host_form state (event.Open maker client url partition) o is host = not_by_lane maker _ o is host
-host_form state (event.Close maker client) o is host = not_by_lane maker _ o is host
-host_form state (event.Register maker asked) o is host = not_by_lane maker _ o is host
-host_form state (event.Update maker of) o is host = not_by_lane maker _ o is host
-host_form state (event.SoftUpdate maker of) o is host = not_by_lane maker _ o is host
-host_form state (event.Unregister maker of) o is host = not_by_lane maker _ o is host
-host_form state (event.Await who.Host of) o is host = cc
-host_form state (event.Await (who.Lane lane at) of) o is host = cc
-host_form state (event.Await (who.Handler worker p number) of) o is host = cc
-host_form state (event.Ready maker client) o is host = not_by_lane maker _ o is host
-host_form state (event.Registration maker client url) o is host = not_by_lane maker _ o is host
-host_form state (event.Registrations maker client) o is host = not_by_lane maker _ o is host
-host_form state (event.SkipWaiting maker of place) o is host = not_by_lane maker _ o is host
-host_form state (event.Claim maker of place) o is host = not_by_lane maker _ o is host
-host_form state (event.Begin maker client number) o is host = not_by_lane maker _ o is host
-host_form state (event.End maker number) o is host = not_by_lane maker _ o is host
-host_form state (event.CacheOpen maker place name) o is host = not_by_lane maker _ o is host
-host_form state (event.CacheHas maker place name) o is host = not_by_lane maker _ o is host
-host_form state (event.CacheDelete maker place name) o is host = not_by_lane maker _ o is host
-host_form state (event.CacheKeys maker place) o is host = not_by_lane maker _ o is host
-host_form state (event.Forget maker place) o is host = not_by_lane maker _ o is host
-host_form state (event.Match maker place asked) o is host = not_by_lane maker _ o is host
-host_form state (event.MatchAll maker place asked) o is host = not_by_lane maker _ o is host
-host_form state (event.Keys maker place asked) o is host = not_by_lane maker _ o is host
-host_form state (event.Put maker place put) o is host = not_by_lane maker _ o is host
-host_form state (event.Delete maker place asked) o is host = not_by_lane maker _ o is host
-host_form state (event.Batch maker place asked) o is host = not_by_lane maker _ o is host
-host_form state (event.AddAll maker place asked) o is host = not_by_lane maker _ o is host
-host_form state (event.PreloadEnable maker of) o is host = not_by_lane maker _ o is host
-host_form state (event.PreloadDisable maker of) o is host = not_by_lane maker _ o is host
-host_form state (event.PreloadValue maker of text) o is host = not_by_lane maker _ o is host
-host_form state (event.PreloadState maker of) o is host = not_by_lane maker _ o is host
-host_form state (event.Call who.Host called) o is host = cc
-host_form state (event.Call (who.Lane lane at) called) o is host = cc
-host_form state (event.Call (who.Handler worker p number) called) o is host = cc
-host_form state (event.Run maker job) o is host = host
-host_form state (event.Fetched maker job line) o is host = host
-host_form state (event.Evaluated maker job) o is host = host
-host_form state (event.Installed maker job) o is host = host
-host_form state (event.TryActivate maker registration) o is host = host
-host_form state (event.Activated maker worker) o is host = host
-host_form state (event.Added maker task lines) o is host = host
-host_form state (event.Restarted maker) o is host = cc
+host_form state (event.Open maker client url partition) o is host unforced = not_by_lane maker _ o is host
+host_form state (event.Close maker client) o is host unforced = not_by_lane maker _ o is host
+host_form state (event.Register maker asked) o is host unforced = not_by_lane maker _ o is host
+host_form state (event.Update maker of) o is host unforced = not_by_lane maker _ o is host
+host_form state (event.SoftUpdate maker of) o is host unforced = not_by_lane maker _ o is host
+host_form state (event.Unregister maker of) o is host unforced = not_by_lane maker _ o is host
+host_form state (event.Await who.Host of) o is host unforced = cc
+host_form state (event.Await (who.Lane lane at) of) o is host unforced = cc
+host_form state (event.Await (who.Handler worker p number) of) o is host unforced = cc
+host_form state (event.Ready maker client) o is host unforced = not_by_lane maker _ o is host
+host_form state (event.Registration maker client url) o is host unforced = not_by_lane maker _ o is host
+host_form state (event.Registrations maker client) o is host unforced = not_by_lane maker _ o is host
+host_form state (event.SkipWaiting maker of place) o is host unforced = not_by_lane maker _ o is host
+host_form state (event.Claim maker of place) o is host unforced = not_by_lane maker _ o is host
+host_form state (event.Begin maker client number) o is host unforced = not_by_lane maker _ o is host
+host_form state (event.End maker number) o is host unforced = not_by_lane maker _ o is host
+host_form state (event.CacheOpen maker place name) o is host unforced = not_by_lane maker _ o is host
+host_form state (event.CacheHas maker place name) o is host unforced = not_by_lane maker _ o is host
+host_form state (event.CacheDelete maker place name) o is host unforced = not_by_lane maker _ o is host
+host_form state (event.CacheKeys maker place) o is host unforced = not_by_lane maker _ o is host
+host_form state (event.Forget who.Host place) o is host unforced = cc
+host_form state (event.Forget (who.Lane lane at) place) o is host unforced = cc
+host_form state (event.Forget (who.Handler worker p number) place) o is host unforced = cc
+host_form state (event.Match maker place asked) o is host unforced = not_by_lane maker _ o is host
+host_form state (event.MatchAll maker place asked) o is host unforced = not_by_lane maker _ o is host
+host_form state (event.Keys maker place asked) o is host unforced = not_by_lane maker _ o is host
+host_form state (event.Put maker place put) o is host unforced = not_by_lane maker _ o is host
+host_form state (event.Delete maker place asked) o is host unforced = not_by_lane maker _ o is host
+host_form state (event.Batch maker place asked) o is host unforced = not_by_lane maker _ o is host
+host_form state (event.AddAll maker place asked) o is host unforced = not_by_lane maker _ o is host
+host_form state (event.PreloadEnable maker of) o is host unforced = not_by_lane maker _ o is host
+host_form state (event.PreloadDisable maker of) o is host unforced = not_by_lane maker _ o is host
+host_form state (event.PreloadValue maker of text) o is host unforced = not_by_lane maker _ o is host
+host_form state (event.PreloadState maker of) o is host unforced = not_by_lane maker _ o is host
+host_form state (event.Call who.Host called) o is host unforced = cc
+host_form state (event.Call (who.Lane lane at) called) o is host unforced = cc
+host_form state (event.Call (who.Handler worker p number) called) o is host unforced = cc
+host_form state (event.Run maker job) o is host unforced = host
+host_form state (event.Fetched maker job line) o is host unforced = host
+host_form state (event.Evaluated maker job) o is host unforced = host
+host_form state (event.Installed maker job) o is host unforced = host
+host_form state (event.TryActivate maker registration) o is host unforced = host
+host_form state (event.Activated maker worker) o is host unforced = host
+host_form state (event.Added maker task lines) o is host unforced = host
+host_form state (event.Restarted maker) o is host unforced = cc
 
 lane_or_host : {P : Type 0} (w : Who) (worker : ℕ) (p : Phase) (number : ℕ) (x : Option Outcome) (o : Outcome) → (by_lane w x ≡ Some o) ⊎ (by_host w x ≡ Some o) → w ≡ who.Handler worker p number → P
 lane_or_host who.Host worker p number x o is handler = cc
@@ -224,7 +226,9 @@ call_form state (event.CacheOpen maker place name) o worker p number is handler 
 call_form state (event.CacheHas maker place name) o worker p number is handler = lane_or_host maker worker p number _ o (inl is) handler
 call_form state (event.CacheDelete maker place name) o worker p number is handler = lane_or_host maker worker p number _ o (inl is) handler
 call_form state (event.CacheKeys maker place) o worker p number is handler = lane_or_host maker worker p number _ o (inl is) handler
-call_form state (event.Forget maker place) o worker p number is handler = lane_or_host maker worker p number _ o (inl is) handler
+call_form state (event.Forget who.Host place) o worker p number is handler = cc
+call_form state (event.Forget (who.Lane lane at) place) o worker p number is handler = cc
+call_form state (event.Forget (who.Handler v q n) place) o worker p number is handler = cc
 call_form state (event.Match maker place asked) o worker p number is handler = lane_or_host maker worker p number _ o (inl is) handler
 call_form state (event.MatchAll maker place asked) o worker p number is handler = lane_or_host maker worker p number _ o (inl is) handler
 call_form state (event.Keys maker place asked) o worker p number is handler = lane_or_host maker worker p number _ o (inl is) handler

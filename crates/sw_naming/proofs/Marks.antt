@@ -1,5 +1,5 @@
 -- What a mark tells of its event.
-use Rattle.std.proofs.Common.{◌≡◌, ◌⊎◌, ℕ, ◌<◌, ◌^◌, true, List, [], ◌∷◌, ◌++◌, refl, arith, decimal, codes, inl, inr}
+use Rattle.std.proofs.Common.{◌≡◌, ◌⊎◌, ℕ, ◌<◌, ◌^◌, true, false, List, [], ◌∷◌, ◌++◌, refl, arith, decimal, codes, inl, inr}
 use Rattle.std.proofs.lemmas.Fmt.{decimal_injective}
 use Rattle.sw_data.specs.declared.events.Event.{Event}
 use Rattle.sw_data.specs.declared.events.Event.TheVariants as event
@@ -11,6 +11,7 @@ use Rattle.sw_data.specs.declared.workers.Phase.{Phase}
 use Rattle.sw_data.specs.declared.workers.Phase.TheVariants as phase
 use Rattle.sw_data.specs.Events.{who_of}
 use Rattle.sw_print.specs.Transcript.{call_word, event_text, mark, phase_word, who_text}
+use Rattle.sw_rules.specs.Picks.{is_host_forget}
 use Rattle.sw_naming.specs.Naming.{WhoFits, named_number}
 use Rattle.sw_naming.proofs.Cuts.{cut, free, free-append, free-decimal}
 
@@ -110,22 +111,25 @@ free_call (call.AddAll asked) = refl
 free_numbered : (word : List ℕ) (n : ℕ) → free 62 word ≡ true → n < 2 ^ 64 → free 62 (word ++ decimal n) ≡ true
 free_numbered word n is fits = free-append 62 word (decimal n) is (free-decimal 62 n (inr (omega arith)) fits)
 
--- the name of an event has no `>`
-pub free_event : (happened : Event) → named_number happened < 2 ^ 64 → free 62 (event_text happened) ≡ true
-free_event (event.Call who called) fits = free_call called
-free_event (event.Run who job) fits = free_numbered (codes "run j") job refl fits
-free_event (event.Fetched who job line) fits = free_numbered (codes "fetched j") job refl fits
-free_event (event.Evaluated who job) fits = free_numbered (codes "evaluated j") job refl fits
-free_event (event.Installed who job) fits = free_numbered (codes "installed j") job refl fits
-free_event (event.TryActivate who registration) fits = free_numbered (codes "tryactivate r") registration refl fits
-free_event (event.Activated who worker) fits = free_numbered (codes "activated w") worker refl fits
-free_event (event.Added who task lines) fits = free_numbered (codes "added a") task refl fits
-free_event _ fits = refl
+-- the name of an event has no `>`, where the host forgets nothing
+pub free_event : (happened : Event) → named_number happened < 2 ^ 64 → is_host_forget happened ≡ false → free 62 (event_text happened) ≡ true
+free_event (event.Call who called) fits unforced = free_call called
+free_event (event.Run who job) fits unforced = free_numbered (codes "run j") job refl fits
+free_event (event.Fetched who job line) fits unforced = free_numbered (codes "fetched j") job refl fits
+free_event (event.Evaluated who job) fits unforced = free_numbered (codes "evaluated j") job refl fits
+free_event (event.Installed who job) fits unforced = free_numbered (codes "installed j") job refl fits
+free_event (event.TryActivate who registration) fits unforced = free_numbered (codes "tryactivate r") registration refl fits
+free_event (event.Activated who worker) fits unforced = free_numbered (codes "activated w") worker refl fits
+free_event (event.Added who task lines) fits unforced = free_numbered (codes "added a") task refl fits
+free_event (event.Forget who.Host place) fits unforced = cc
+free_event (event.Forget (who.Lane lane at) place) fits unforced = refl
+free_event (event.Forget (who.Handler worker p number) place) fits unforced = refl
+free_event _ fits unforced = refl
 
 -- a mark has no `>`
-pub free_mark : (happened : Event) → WhoFits (who_of happened) → named_number happened < 2 ^ 64 → free 62 (mark happened) ≡ true
-free_mark happened maker number =
-    free-append 62 (who_text (who_of happened)) (32 ∷ event_text happened) (free_who 62 arrow (who_of happened) maker) (free_event happened number)
+pub free_mark : (happened : Event) → WhoFits (who_of happened) → named_number happened < 2 ^ 64 → is_host_forget happened ≡ false → free 62 (mark happened) ≡ true
+free_mark happened maker number unforced =
+    free-append 62 (who_text (who_of happened)) (32 ∷ event_text happened) (free_who 62 arrow (who_of happened) maker) (free_event happened number unforced)
 
 -- two events of one mark have one maker and one name
 pub same_mark : (one other : Event) → WhoFits (who_of one) → WhoFits (who_of other) → mark one ≡ mark other

@@ -20,7 +20,7 @@ use Rattle.sw_print.specs.Transcript.{end_line, line_of_entry, mark, rest_of_lin
 use Rattle.sw_rules.specs.Calls.{call_by, is_at, is_next_call}
 use Rattle.sw_rules.specs.History.{EachFrom, IsOpening, IsStep, moved}
 use Rattle.sw_rules.specs.Installing.{calls_of}
-use Rattle.sw_rules.specs.Picks.{IsFollowing, IsNextOfLane, IsRecorded}
+use Rattle.sw_rules.specs.Picks.{IsFollowing, IsNextOfLane}
 use Rattle.sw_rules.specs.Restart.{restart}
 use Rattle.sw_rules.specs.Rows.{free_handler, worker_row}
 use Rattle.sw_rules.specs.State.{State, Worker}
@@ -75,16 +75,16 @@ same_call_event state one other o q worker p number is is' f g =
 
 -- entries of one mark that are steps of one state have one event
 same_event : (recording : Recording) (b c : List Entry) (state : State) (one other : Entry) → IsStep b state one → IsStep c state other
-    → IsRecorded recording b state one → IsRecorded recording c state other → Fits one → Fits other → mark one.event ≡ mark other.event → one.event ≡ other.event
+    → IsFollowing recording b state one → IsFollowing recording c state other → Fits one → Fits other → mark one.event ≡ mark other.event → one.event ≡ other.event
 same_event recording b c state one other s t r q f g is =
     let both = same_mark one.event other.event f.maker g.maker is in
     elim (who_of one.event) as (λ (w : Who). who_of one.event ≡ w → one.event ≡ other.event) [
       | who.Host ↦ λ h.
           same_host_event recording state one.event other.event
-          (host_form state one.event (outcome s) (s.step.1) h) (host_form state other.event (outcome t) (t.step.1) (sym both.0 ∙ h))
-          f.number g.number r.lines q.lines both.1
+          (host_form state one.event (outcome s) (s.step.1) h r.unforced) (host_form state other.event (outcome t) (t.step.1) (sym both.0 ∙ h) q.unforced)
+          f.number g.number r.recorded.lines q.recorded.lines both.1
       | who.Lane lane at ↦ λ h.
-          same_lane_event recording b c one other lane at (s.maker ∙ h) (t.maker ∙ sym both.0 ∙ h) r.action q.action
+          same_lane_event recording b c one other lane at (s.maker ∙ h) (t.maker ∙ sym both.0 ∙ h) r.recorded.action q.recorded.action
       | who.Handler worker p number ↦ λ h.
           same_call_event state one.event other.event (outcome s) (outcome t) worker p number (s.step.1) (t.step.1) h (sym both.0 ∙ h)
     ] refl
@@ -145,8 +145,8 @@ named recording t b c state (x ∷ xs) (y ∷ ys) s s' f f' a a' is =
     let fx = All-head Fits x xs a in
     let fy = All-head Fits y ys a' in
     let both = cut_lines (mark x.event) (mark y.event) (rest_of_line x) (rest_of_line y) (flat_map line_of_entry xs) (flat_map line_of_entry ys) t
-    (free_mark x.event fx.maker fx.number) (free_mark y.event fy.maker fy.number) is in
-    let event_is = same_event recording b c state x y s.0 s'.0 f.0.recorded f'.0.recorded fx fy both.0 in
+    (free_mark x.event fx.maker fx.number f.0.unforced) (free_mark y.event fy.maker fy.number f'.0.unforced) is in
+    let event_is = same_event recording b c state x y s.0 s'.0 f.0 f'.0 fx fy both.0 in
     let same = same_outcome b c state x y s.0 s'.0 event_is in
     let rests : rest_of_line x ++ (flat_map line_of_entry xs ++ t) ≡ rest_of_line x ++ (flat_map line_of_entry ys ++ t) =
     both.1 ∙ ap (λ (r : List ℕ). r ++ (flat_map line_of_entry ys ++ t)) (sym (same_rest x y same)) in
