@@ -1,17 +1,18 @@
 -- Events that the host doesn't make.
-use Rattle.std.proofs.Common.{◌≡◌, ℕ, List, Option, None, refl, sym, subst}
+use Rattle.std.proofs.Common.{◌≡◌, ℕ, List, Option, Some, None, refl, sym, subst}
 use Rattle.sw_data.specs.declared.events.Event.{Event}
 use Rattle.sw_data.specs.declared.events.Event.TheVariants as event
 use Rattle.sw_data.specs.declared.events.Who.{Who}
 use Rattle.sw_data.specs.declared.events.Who.TheVariants as who
 use Rattle.sw_data.specs.declared.recordings.FetchLine.{FetchLine}
+use Rattle.sw_data.specs.declared.recordings.Place.{Place}
 use Rattle.sw_data.specs.Events.{who_of}
 use Rattle.sw_rules.specs.State.{State}
 use Rattle.sw_rules.specs.Activating.{activated, tryactivate}
-use Rattle.sw_rules.specs.Caching.{added}
+use Rattle.sw_rules.specs.Caching.{added, forget, with_key}
 use Rattle.sw_rules.specs.Installing.{evaluated, fetched, installed}
 use Rattle.sw_rules.specs.Registering.{run}
-use Rattle.sw_rules.specs.Step.{by_host, step}
+use Rattle.sw_rules.specs.Step.{by_host, by_page, step}
 use Rattle.sw_rules.specs.Told.{Outcome}
 
 -- own: an event is none of those that the host makes
@@ -23,6 +24,7 @@ pub record IsOther (happened : Event) : Type 0 where
   pub tries : (w : Who) (registration : ℕ) → happened ≡ event.TryActivate w registration → ⊥
   pub activated : (w : Who) (worker : ℕ) → happened ≡ event.Activated w worker → ⊥
   pub added : (w : Who) (task : ℕ) (lines : List (Option FetchLine)) → happened ≡ event.Added w task lines → ⊥
+  pub forgets : (w : Who) (place : Place) → happened ≡ event.Forget w place → ⊥
 
 -- such an event isn't enabled where the host is its maker
 pub host_rests : (state : State) (happened : Event) → who_of happened ≡ who.Host → IsOther happened → step state happened ≡ None
@@ -45,7 +47,6 @@ host_rests state (event.CacheOpen who.Host place name) is rest = refl
 host_rests state (event.CacheHas who.Host place name) is rest = refl
 host_rests state (event.CacheDelete who.Host place name) is rest = refl
 host_rests state (event.CacheKeys who.Host place) is rest = refl
-host_rests state (event.Forget who.Host place) is rest = refl
 host_rests state (event.Match who.Host place asked) is rest = refl
 host_rests state (event.MatchAll who.Host place asked) is rest = refl
 host_rests state (event.Keys who.Host place asked) is rest = refl
@@ -66,12 +67,16 @@ host_rests state (event.Installed w job) is rest = absurd (rest.installed w job 
 host_rests state (event.TryActivate w registration) is rest = absurd (rest.tries w registration refl)
 host_rests state (event.Activated w worker) is rest = absurd (rest.activated w worker refl)
 host_rests state (event.Added w task lines) is rest = absurd (rest.added w task lines refl)
+host_rests state (event.Forget w place) is rest = absurd (rest.forgets w place refl)
 host_rests state _ is rest = absurd cc
 
 -- ---- events that the host makes
 
 by_host_is : (w : Who) (o : Option Outcome) → w ≡ who.Host → by_host w o ≡ o
 by_host_is w o is = subst (λ (x : Who). by_host x o ≡ o) (sym is) refl
+
+by_page_is : (w : Who) (o : Option Outcome) → w ≡ who.Host → by_page w o ≡ o
+by_page_is w o is = subst (λ (x : Who). by_page x o ≡ o) (sym is) refl
 
 module _ (state : State) (happened : Event) (w : Who) (number : ℕ) (host : who_of happened ≡ who.Host) where
   pub run_comes : happened ≡ event.Run w number → step state happened ≡ run state number
@@ -101,3 +106,11 @@ module _ (state : State) (happened : Event) (w : Who) (number : ℕ) (host : who
   pub added_comes : (lines : List (Option FetchLine)) → happened ≡ event.Added w number lines → step state happened ≡ added state number lines
   unfolding step who_of
   added_comes lines is = subst (λ (e : Event). who_of e ≡ who.Host → step state e ≡ added state number lines) (sym is) (λ made. by_host_is w (added state number lines) made) host
+
+-- what the host forgets
+pub forgets_comes : (state : State) (happened : Event) (w : Who) (place : Place) → who_of happened ≡ who.Host → happened ≡ event.Forget w place
+    → step state happened ≡ Some (with_key state place (forget state))
+unfolding step who_of
+forgets_comes state happened w place host is =
+    let comes : Outcome = with_key state place (forget state) in
+    subst (λ (e : Event). who_of e ≡ who.Host → step state e ≡ Some comes) (sym is) (λ made. by_page_is w (Some comes) made) host
