@@ -169,6 +169,7 @@ fn host_enabled(host: &HostTables, event: &Event) -> bool
         Event::TryActivate { registration, .. } => is_owed(host, *registration),
         Event::Activated { worker, .. } => is_at_end(host, Phase::Activate, *worker),
         Event::Added { task, .. } => host.is_unsettled(*task),
+        Event::Forget { .. } => true,
         // The host makes no others.
         _ => false,
     }
