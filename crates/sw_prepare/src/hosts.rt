@@ -11,6 +11,7 @@ ghost use Rattle.sw_rules.specs.Step.{step};
 ghost use Rattle.sw_work.specs.Hosted.{SameRows, state_of};
 ghost use Rattle.sw_work.specs.Plans.{Works};
 
+use crate::lanes::work_of_forget;
 use std::alloc::Global;
 use sw_cachestorage::added;
 use sw_data::{Event, FetchLine, NoMemory};
@@ -112,6 +113,7 @@ pub(crate) fn work_of_host(
         Event::TryActivate { registration, .. } => Ok(Work::TryActivate(*registration)),
         Event::Activated { worker, .. } => Ok(Work::Activated(*worker)),
         Event::Added { task, lines, .. } => { work_of_added(host, alloc, *task, lines.as_slice()) }
+        Event::Forget { place, .. } => work_of_forget(host, alloc, place),
         _ => Ok(Work::Evaluated(0)),
     }
 }

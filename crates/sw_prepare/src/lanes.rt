@@ -219,7 +219,11 @@ fn forget(host: &HostTables, alloc: Global, place: &Place) -> Result<Asked, NoMe
 }
 
 // The work of forgetting a key.
-fn work_of_forget(host: &mut HostTables, alloc: Global, place: &Place) -> Result<Work, NoMemory>
+pub(crate) fn work_of_forget(
+    host: &mut HostTables,
+    alloc: Global,
+    place: &Place,
+) -> Result<Work, NoMemory>
     ensures same { SameRows host.old host.new }
     ensures fits { IfOk result (λ work. FitsWork work host.new) }
     ensures means { IfOk result (λ work. Means work host.old

@@ -329,7 +329,7 @@ fn changes_of_added(
     }
 }
 
-// The durable changes of an action of a lane or of a call that was worked out.
+// The durable changes of an action or of a call that was worked out.
 fn asked_changes(
     host: &HostTables,
     alloc: Global,

@@ -1,13 +1,15 @@
 use Rattle.std.proofs.Common.{◌∙◌, List, Option, ap, subst, sym}
-use Rattle.std.specs.Prelude.{IfOk}
-use Rattle.sw_work.proofs.Others.{activated_comes, added_comes, evaluated_comes, fetched_comes, host_rests, installed_comes, run_comes, tries_comes}
+use Rattle.std.specs.Prelude.{IfOk, IfSome}
+use Rattle.sw_work.proofs.Others.{activated_comes, added_comes, evaluated_comes, fetched_comes, forgets_comes, host_rests, installed_comes, run_comes, tries_comes}
 use Rattle.sw_prepare.proofs.Same.{same_refl}
 use Rattle.sw_data.specs.declared.recordings.FetchLine.{FetchLine}
 use Rattle.sw_rules.specs.Caching.{added}
 use Rattle.sw_rules.specs.Installing.{fetched}
+use Rattle.sw_rules.specs.Step.{step}
 use Rattle.sw_rules.specs.Told.{Outcome}
 use Rattle.sw_work.specs.Hosted.{state_of}
-use Rattle.sw_work.specs.Plans.{Works}
+use Rattle.sw_work.specs.Plans.{Means, Works}
+use Rattle.sw_work.proofs.Calling.{both_ok}
 use Rattle.sw_work.proofs.Working.{comes_so, none_if}
 use Rattle.sw_prepare.proofs.hosts.work_of_host.Goals as goal
 
@@ -57,6 +59,17 @@ returns-in-Added-clause-works c =
     ∙ sym (added_comes (state_of c.args.host.now) c.args.event.now c.in-Added.who c.in-Added.task c.requires.who c.in-Added.lines c.in-Added.is))
     c.work_of_added.ensures.works
 
+pub returns-in-Forget-clause-works : goal.returns-in-Forget-clause-works
+returns-in-Forget-clause-works c =
+    let state = state_of c.args.host.now in
+    let comes = forgets_comes state c.args.event.now c.in-Forget.who c.in-Forget.place c.requires.who c.in-Forget.is in
+    both_ok c.work_of_forget.result _ _ (Works c.args.host.now c.work_of_forget.new.host (step state c.args.event.now))
+    (λ work fits means. record {
+      means = subst (λ (o : Option Outcome). IfSome o (Means work c.args.host.now)) (sym comes) means;
+      fits = fits;
+    })
+    c.work_of_forget.ensures.fits c.work_of_forget.ensures.means
+
 pub returns-in_default : goal.returns-in_default
 returns-in_default c = record {
   same = same_refl c.args.host.now;
@@ -72,6 +85,7 @@ returns-in_default c = record {
           tries = c.in_default.not-TryActivate;
           activated = c.in_default.not-Activated;
           added = c.in_default.not-Added;
+          forgets = c.in_default.not-Forget;
         }));
     fits = tt;
   };
