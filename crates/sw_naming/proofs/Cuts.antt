@@ -1,11 +1,10 @@
 -- Texts that are cut at the first byte of a kind.
-use Rattle.std.proofs.Common.{◌≡◌, ◌∙◌, ◌⊎◌, ℕ, ◌<◌, ◌^◌, Bool, true, false, not, ◌==◌, List, [], ◌∷◌, ◌++◌, refl, arith, decimal}
-use Rattle.std.specs.Int.{IsInRange}
+use Rattle.std.specs.Fmt.{digit_glyph, digits, digits_onto}
+use Rattle.std.proofs.Common.{◌≡◌, ◌∙◌, ◌⊎◌, ℕ, zero, suc, ◌/◌, ◌%◌, ◌<◌, Bool, true, false, not, ◌==◌, List, [], ◌∷◌, ◌++◌, refl, arith, decimal}
 use Rattle.std.specs.List.{list_all}
-use Rattle.std.specs.Str.Parse.{AllDigits}
-use Rattle.std.proofs.lemmas.Fmt.{decimal_is_IsNumeral}
-use Rattle.std.proofs.lemmas.Str.Parse.{digit_from_value}
+use Rattle.std.proofs.lemmas.Bool.Decides.{nat_tests}
 use Rattle.std.proofs.lemmas.List.Folds.{list_all-append}
+use Rattle.sw_laws.proofs.Lists.{by_test}
 
 -- no byte of the text is this one
 abbrev pub free : ℕ → List ℕ → Bool
@@ -27,14 +26,15 @@ cut x (y ∷ a) (z ∷ c) b d fa fc is =
     let both = cut x a c b d ga gc rest in
     (cc (e, both.0), both.1)
 
-free_digits : (x : ℕ) (text : List ℕ) → (x < 48) ⊎ (57 < x) → AllDigits 10 text → free x text ≡ true
-free_digits x [] out all = refl
-free_digits x (b ∷ text) out all =
-    let more = free_digits x text out all.1 in
-    let inside : IsInRange 48 57 b = digit_from_value b all.0 in
-    let other : (b == x) ≡ false = grind (arith, inside, out) in
-    grind (arith, more, other)
+free_onto : (k x n : ℕ) (text : List ℕ) → (x < 48) ⊎ (57 < x) → free x text ≡ true → free x (digits_onto k 10 false n text) ≡ true
+free_onto zero x n text out is = is
+free_onto (suc k) x n text out is =
+    let small : n % 10 < 10 = omega arith in
+    let other : (digit_glyph false (n % 10) == x) ≡ false = grind (arith, nat_tests, small, out) in
+    let more : free x (digit_glyph false (n % 10) ∷ text) ≡ true = grind (arith, other, is) in
+    by_test (λ digits. free x digits ≡ true) (n / 10 == 0) _ _ (λ last. more) (λ longer. free_onto k x (n / 10) (digit_glyph false (n % 10) ∷ text) out more)
 
 -- a number's text has no byte but digits
-pub free-decimal : (x n : ℕ) → (x < 48) ⊎ (57 < x) → n < 2 ^ 64 → free x (decimal n) ≡ true
-free-decimal x n out fits = free_digits x (decimal n) out (decimal_is_IsNumeral n fits).0.1
+pub free-decimal : (x n : ℕ) → (x < 48) ⊎ (57 < x) → free x (decimal n) ≡ true
+unfolding digits
+free-decimal x n out = free_onto 64 x n [] out refl

@@ -19,7 +19,6 @@ use Rattle.sw_rules.specs.State.{State}
 use Rattle.sw_rules.specs.Step.{by_host, by_lane, step}
 use Rattle.sw_rules.specs.Tasks.{add_all_lines, job_line}
 use Rattle.sw_rules.specs.Told.{Outcome}
-use Rattle.sw_naming.specs.Naming.{named_number}
 
 -- ---- the kinds of the host's events
 
@@ -71,6 +70,17 @@ same_name k l m n a b is =
     (kinds, decimal_injective m n a b (append_cancel_left (word k) (decimal m) (decimal n) tails))
 
 -- ---- the forms of the host's events
+
+-- the number that the name of a host's event holds; none of the others' names holds one
+abbrev pub named_number : Event → ℕ
+named_number (event.Run who job) = job
+named_number (event.Fetched who job line) = job
+named_number (event.Evaluated who job) = job
+named_number (event.Installed who job) = job
+named_number (event.TryActivate who registration) = registration
+named_number (event.Activated who worker) = worker
+named_number (event.Added who task lines) = task
+named_number _ = 0
 
 -- an event of the host: its kind, and its maker
 abbrev pub HostForm : Event → Type 0

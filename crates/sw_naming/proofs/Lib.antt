@@ -1,3 +1,4 @@
+pub mod Bounds
 pub mod Cuts
 pub mod HostEvents
 pub mod Marks

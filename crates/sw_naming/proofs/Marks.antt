@@ -12,7 +12,6 @@ use Rattle.sw_data.specs.declared.workers.Phase.TheVariants as phase
 use Rattle.sw_data.specs.Events.{who_of}
 use Rattle.sw_print.specs.Transcript.{call_word, event_text, mark, phase_word, who_text}
 use Rattle.sw_rules.specs.Picks.{is_host_forget}
-use Rattle.sw_naming.specs.Naming.{WhoFits, named_number}
 use Rattle.sw_naming.proofs.Cuts.{cut, free, free-append, free-decimal}
 
 -- ---- makers
@@ -27,8 +26,18 @@ free_phase : (p : Phase) → (free 46 (phase_word p) ≡ true) × (free 32 (phas
 free_phase phase.Install = (refl, refl, refl)
 free_phase phase.Activate = (refl, refl, refl)
 
-same_number : (m n : ℕ) → m < 2 ^ 64 → n < 2 ^ 64 → decimal m ≡ decimal n → m ≡ n
-same_number m n a b is = decimal_injective m n a b is
+-- the numbers of a maker of which its text tells are below 2^64: its lane, or its worker
+abbrev pub WhoFits : Who → Type 0
+WhoFits who.Host = Unit {0}
+WhoFits (who.Lane lane at) = lane < 2 ^ 64
+WhoFits (who.Handler worker phase number) = worker < 2 ^ 64
+
+-- two makers are the host, one lane, or the handler of one phase of one worker
+abbrev pub AreAlike : Who → Who → Type 0
+AreAlike who.Host who.Host = Unit {0}
+AreAlike (who.Lane lane at) (who.Lane other next) = lane ≡ other
+AreAlike (who.Handler worker phase number) (who.Handler other same next) = (worker ≡ other) × (phase ≡ same)
+AreAlike _ _ = ⊥
 
 behind : (x : ℕ) (a b : List ℕ) → x ∷ a ≡ x ∷ b → a ≡ b
 behind x a b is = cc
@@ -36,30 +45,30 @@ behind x a b is = cc
 other_head : {P : Type 0} (x y : ℕ) (a b : List ℕ) → (x ≡ y → ⊥) → x ∷ a ≡ y ∷ b → P
 other_head x y a b apart is = let e : x ≡ y = cc in absurd (apart e)
 
--- two makers have one text only where they are one
-pub same_who : (one other : Who) → WhoFits one → WhoFits other → who_text one ≡ who_text other → one ≡ other
-same_who who.Host who.Host f g is = refl
-same_who who.Host (who.Lane lane at) f g is =
+-- two makers have one text only where they are alike
+alike_who : (one other : Who) → WhoFits one → WhoFits other → who_text one ≡ who_text other → AreAlike one other
+alike_who who.Host who.Host f g is = tt
+alike_who who.Host (who.Lane lane at) f g is =
     other_head 45 76 [] (decimal lane ++ 46 ∷ decimal at) (λ e. omega (arith, e)) is
-same_who who.Host (who.Handler worker p number) f g is =
+alike_who who.Host (who.Handler worker p number) f g is =
     other_head 45 119 [] (decimal worker ++ 46 ∷ (phase_word p ++ 46 ∷ decimal number)) (λ e. omega (arith, e)) is
-same_who (who.Lane lane at) who.Host f g is =
+alike_who (who.Lane lane at) who.Host f g is =
     other_head 76 45 (decimal lane ++ 46 ∷ decimal at) [] (λ e. omega (arith, e)) is
-same_who (who.Lane lane at) (who.Handler worker p number) f g is =
+alike_who (who.Lane lane at) (who.Handler worker p number) f g is =
     other_head 76 119 (decimal lane ++ 46 ∷ decimal at) (decimal worker ++ 46 ∷ (phase_word p ++ 46 ∷ decimal number)) (λ e. omega (arith, e)) is
-same_who (who.Handler worker p number) who.Host f g is =
+alike_who (who.Handler worker p number) who.Host f g is =
     other_head 119 45 (decimal worker ++ 46 ∷ (phase_word p ++ 46 ∷ decimal number)) [] (λ e. omega (arith, e)) is
-same_who (who.Handler worker p number) (who.Lane lane at) f g is =
+alike_who (who.Handler worker p number) (who.Lane lane at) f g is =
     other_head 119 76 (decimal worker ++ 46 ∷ (phase_word p ++ 46 ∷ decimal number)) (decimal lane ++ 46 ∷ decimal at) (λ e. omega (arith, e)) is
-same_who (who.Lane lane at) (who.Lane lane' at') f g is =
+alike_who (who.Lane lane at) (who.Lane lane' at') f g is =
     let tails = behind 76 (decimal lane ++ 46 ∷ decimal at) (decimal lane' ++ 46 ∷ decimal at') is in
-    let both = cut 46 (decimal lane) (decimal lane') (decimal at) (decimal at') (free-decimal 46 lane (inl (omega arith)) f.0) (free-decimal 46 lane' (inl (omega arith)) g.0) tails in
-    cc (same_number lane lane' f.0 g.0 both.0, same_number at at' f.1 g.1 both.1)
-same_who (who.Handler worker p number) (who.Handler worker' p' number') f g is =
+    let both = cut 46 (decimal lane) (decimal lane') (decimal at) (decimal at') (free-decimal 46 lane (inl (omega arith))) (free-decimal 46 lane' (inl (omega arith))) tails in
+    decimal_injective lane lane' f g both.0
+alike_who (who.Handler worker p number) (who.Handler worker' p' number') f g is =
     let tails = behind 119 (decimal worker ++ 46 ∷ (phase_word p ++ 46 ∷ decimal number)) (decimal worker' ++ 46 ∷ (phase_word p' ++ 46 ∷ decimal number')) is in
-    let both = cut 46 (decimal worker) (decimal worker') (phase_word p ++ 46 ∷ decimal number) (phase_word p' ++ 46 ∷ decimal number') (free-decimal 46 worker (inl (omega arith)) f.0) (free-decimal 46 worker' (inl (omega arith)) g.0) tails in
+    let both = cut 46 (decimal worker) (decimal worker') (phase_word p ++ 46 ∷ decimal number) (phase_word p' ++ 46 ∷ decimal number') (free-decimal 46 worker (inl (omega arith))) (free-decimal 46 worker' (inl (omega arith))) tails in
     let rest = cut 46 (phase_word p) (phase_word p') (decimal number) (decimal number') (free_phase p).0 (free_phase p').0 both.1 in
-    cc (same_number worker worker' f.0 g.0 both.0, same_phase_word p p' rest.0, same_number number number' f.1 g.1 rest.1)
+    (decimal_injective worker worker' f g both.0, same_phase_word p p' rest.0)
 
 -- a byte that stands in no maker's text
 pub record NotInMakers (x : ℕ) : Type 0 where
@@ -82,18 +91,18 @@ space = record { digits = inl (omega arith); host = refl; lane = refl; worker = 
 pub arrow : NotInMakers 62
 arrow = record { digits = inr (omega arith); host = refl; lane = refl; worker = refl; point = refl; phases = phases_without_arrow }
 
-pub free_who : (x : ℕ) → NotInMakers x → (w : Who) → WhoFits w → free x (who_text w) ≡ true
-free_who x not_in who.Host fits = not_in.host
-free_who x not_in (who.Lane lane at) fits =
+pub free_who : (x : ℕ) → NotInMakers x → (w : Who) → free x (who_text w) ≡ true
+free_who x not_in who.Host = not_in.host
+free_who x not_in (who.Lane lane at) =
     free-append x (codes "L" ++ decimal lane) (codes "." ++ decimal at)
-    (free-append x (codes "L") (decimal lane) not_in.lane (free-decimal x lane not_in.digits fits.0))
-    (free-append x (codes ".") (decimal at) not_in.point (free-decimal x at not_in.digits fits.1))
-free_who x not_in (who.Handler worker p number) fits =
+    (free-append x (codes "L") (decimal lane) not_in.lane (free-decimal x lane not_in.digits))
+    (free-append x (codes ".") (decimal at) not_in.point (free-decimal x at not_in.digits))
+free_who x not_in (who.Handler worker p number) =
     free-append x (codes "w" ++ decimal worker) (codes "." ++ (phase_word p ++ (codes "." ++ decimal number)))
-    (free-append x (codes "w") (decimal worker) not_in.worker (free-decimal x worker not_in.digits fits.0))
+    (free-append x (codes "w") (decimal worker) not_in.worker (free-decimal x worker not_in.digits))
     (free-append x (codes ".") (phase_word p ++ (codes "." ++ decimal number)) not_in.point
     (free-append x (phase_word p) (codes "." ++ decimal number) (not_in.phases p)
-    (free-append x (codes ".") (decimal number) not_in.point (free-decimal x number not_in.digits fits.1))))
+    (free-append x (codes ".") (decimal number) not_in.point (free-decimal x number not_in.digits))))
 
 -- ---- names of events
 
@@ -108,32 +117,32 @@ free_call (call.Delete asked) = refl
 free_call (call.Batch asked) = refl
 free_call (call.AddAll asked) = refl
 
-free_numbered : (word : List ℕ) (n : ℕ) → free 62 word ≡ true → n < 2 ^ 64 → free 62 (word ++ decimal n) ≡ true
-free_numbered word n is fits = free-append 62 word (decimal n) is (free-decimal 62 n (inr (omega arith)) fits)
+free_numbered : (word : List ℕ) (n : ℕ) → free 62 word ≡ true → free 62 (word ++ decimal n) ≡ true
+free_numbered word n is = free-append 62 word (decimal n) is (free-decimal 62 n (inr (omega arith)))
 
 -- the name of an event has no `>`, where the host forgets nothing
-pub free_event : (happened : Event) → named_number happened < 2 ^ 64 → is_host_forget happened ≡ false → free 62 (event_text happened) ≡ true
-free_event (event.Call who called) fits unforced = free_call called
-free_event (event.Run who job) fits unforced = free_numbered (codes "run j") job refl fits
-free_event (event.Fetched who job line) fits unforced = free_numbered (codes "fetched j") job refl fits
-free_event (event.Evaluated who job) fits unforced = free_numbered (codes "evaluated j") job refl fits
-free_event (event.Installed who job) fits unforced = free_numbered (codes "installed j") job refl fits
-free_event (event.TryActivate who registration) fits unforced = free_numbered (codes "tryactivate r") registration refl fits
-free_event (event.Activated who worker) fits unforced = free_numbered (codes "activated w") worker refl fits
-free_event (event.Added who task lines) fits unforced = free_numbered (codes "added a") task refl fits
-free_event (event.Forget who.Host place) fits unforced = cc
-free_event (event.Forget (who.Lane lane at) place) fits unforced = refl
-free_event (event.Forget (who.Handler worker p number) place) fits unforced = refl
-free_event _ fits unforced = refl
+pub free_event : (happened : Event) → is_host_forget happened ≡ false → free 62 (event_text happened) ≡ true
+free_event (event.Call who called) unforced = free_call called
+free_event (event.Run who job) unforced = free_numbered (codes "run j") job refl
+free_event (event.Fetched who job line) unforced = free_numbered (codes "fetched j") job refl
+free_event (event.Evaluated who job) unforced = free_numbered (codes "evaluated j") job refl
+free_event (event.Installed who job) unforced = free_numbered (codes "installed j") job refl
+free_event (event.TryActivate who registration) unforced = free_numbered (codes "tryactivate r") registration refl
+free_event (event.Activated who worker) unforced = free_numbered (codes "activated w") worker refl
+free_event (event.Added who task lines) unforced = free_numbered (codes "added a") task refl
+free_event (event.Forget who.Host place) unforced = cc
+free_event (event.Forget (who.Lane lane at) place) unforced = refl
+free_event (event.Forget (who.Handler worker p number) place) unforced = refl
+free_event _ unforced = refl
 
 -- a mark has no `>`
-pub free_mark : (happened : Event) → WhoFits (who_of happened) → named_number happened < 2 ^ 64 → is_host_forget happened ≡ false → free 62 (mark happened) ≡ true
-free_mark happened maker number unforced =
-    free-append 62 (who_text (who_of happened)) (32 ∷ event_text happened) (free_who 62 arrow (who_of happened) maker) (free_event happened number unforced)
+pub free_mark : (happened : Event) → is_host_forget happened ≡ false → free 62 (mark happened) ≡ true
+free_mark happened unforced =
+    free-append 62 (who_text (who_of happened)) (32 ∷ event_text happened) (free_who 62 arrow (who_of happened)) (free_event happened unforced)
 
--- two events of one mark have one maker and one name
+-- two events of one mark have makers that are alike, and one name
 pub same_mark : (one other : Event) → WhoFits (who_of one) → WhoFits (who_of other) → mark one ≡ mark other
-    → (who_of one ≡ who_of other) × (event_text one ≡ event_text other)
+    → AreAlike (who_of one) (who_of other) × (event_text one ≡ event_text other)
 same_mark one other f g is =
-    let both = cut 32 (who_text (who_of one)) (who_text (who_of other)) (event_text one) (event_text other) (free_who 32 space (who_of one) f) (free_who 32 space (who_of other) g) is in
-    (same_who (who_of one) (who_of other) f g both.0, both.1)
+    let both = cut 32 (who_text (who_of one)) (who_text (who_of other)) (event_text one) (event_text other) (free_who 32 space (who_of one)) (free_who 32 space (who_of other)) is in
+    (alike_who (who_of one) (who_of other) f g both.0, both.1)
