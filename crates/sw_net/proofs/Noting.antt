@@ -4,7 +4,6 @@ use Rattle.std.proofs.lemmas.List.{append-nil, take_more}
 use Rattle.std.specs.Cmp.Lexicographic.{bytes_decides}
 use Rattle.std.specs.Map.{lookup, set_value}
 use Rattle.indexmap.specs.IndexMap.{insert_entry}
-use Rattle.sw_data.specs.declared.recordings.FetchLine.{FetchLine}
 use Rattle.sw_net.specs.Places.{noted, places_from}
 
 -- the place of a line, where it is one of the address
@@ -63,26 +62,29 @@ module _ {K V : Type 0} (bytes : K → List ℕ) (places : V → List ℕ) (addr
   noted_absent [] absent = refl
   noted_absent (e ∷ es) absent = grind (arith, noted_absent es)
 
--- the places of one more line
-pub places_more : (at : ℕ) (lines : List FetchLine) (line : FetchLine) (asked : List ℕ)
-    → places_from at (lines ++ line ∷ []) asked ≡ places_from at lines asked ++ own_place line.fetch asked (at + length lines)
-places_more at [] line asked = grind arith
-places_more at (first ∷ lines) line asked =
-    let further : suc at + length lines ≡ at + length (first ∷ lines) = omega arith in
-    let rest = subst (λ n. places_from (suc at) (lines ++ line ∷ []) asked ≡ places_from (suc at) lines asked ++ own_place line.fetch asked n)
-    further (places_more (suc at) lines line asked) in
-    grind (arith, rest)
+module _ {L : Type 0} (address_of : L → List ℕ) where
+  -- the places of one more line
+  pub places_more : (at : ℕ) (lines : List L) (line : L) (asked : List ℕ)
+      → places_from address_of at (lines ++ line ∷ []) asked
+      ≡ places_from address_of at lines asked ++ own_place (address_of line) asked (at + length lines)
+  places_more at [] line asked = grind arith
+  places_more at (first ∷ lines) line asked =
+      let further : suc at + length lines ≡ at + length (first ∷ lines) = omega arith in
+      let rest = subst (λ n. places_from address_of (suc at) (lines ++ line ∷ []) asked
+      ≡ places_from address_of (suc at) lines asked ++ own_place (address_of line) asked n)
+      further (places_more (suc at) lines line asked) in
+      grind (arith, rest)
 
--- the places among the lines up to the next one
-pub places_grown : (lines : List FetchLine) (at : ℕ) (line : FetchLine) (asked before : List ℕ) → at < length lines
-    → before ≡ places_from 0 (take at lines) asked
-    → before ++ own_place (get_or lines at line).fetch asked at ≡ places_from 0 (take (at + 1) lines) asked
-places_grown lines at line asked before inside so_far =
-    let new = get_or lines at line in
-    let longer = take_more lines at line inside in
-    let many : 0 + length (take at lines) ≡ at = let taken = length-take at lines in omega (arith, taken, inside) in
-    let next = places_more 0 (take at lines) new asked in
-    let numbered = ap (λ n. places_from 0 (take at lines) asked ++ own_place new.fetch asked n) many in
-    let said = ap (λ (l : List ℕ). l ++ own_place new.fetch asked at) so_far in
-    let whole = ap (λ (l : List FetchLine). places_from 0 l asked) longer in
-    said ∙ (sym numbered ∙ (sym next ∙ sym whole))
+  -- the places among the lines up to the next one
+  pub places_grown : (lines : List L) (at : ℕ) (line : L) (asked before : List ℕ) → at < length lines
+      → before ≡ places_from address_of 0 (take at lines) asked
+      → before ++ own_place (address_of (get_or lines at line)) asked at ≡ places_from address_of 0 (take (at + 1) lines) asked
+  places_grown lines at line asked before inside so_far =
+      let new = get_or lines at line in
+      let longer = take_more lines at line inside in
+      let many : 0 + length (take at lines) ≡ at = let taken = length-take at lines in omega (arith, taken, inside) in
+      let next = places_more 0 (take at lines) new asked in
+      let numbered = ap (λ n. places_from address_of 0 (take at lines) asked ++ own_place (address_of new) asked n) many in
+      let said = ap (λ (l : List ℕ). l ++ own_place (address_of new) asked at) so_far in
+      let whole = ap (λ (l : List L). places_from address_of 0 l asked) longer in
+      said ∙ (sym numbered ∙ (sym next ∙ sym whole))

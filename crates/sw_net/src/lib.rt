@@ -5,7 +5,7 @@ ghost use Rattle.std.specs.Prelude.{◌≡◌, ◌-◌, ◌++◌, ◌∷◌, [],
 ghost use Rattle.std.specs.Option.{option_copied, option_and_then};
 ghost use Rattle.indexmap.specs.IndexMap.{get_by};
 ghost use Rattle.sw_data.specs.Network.{answered_line, drawn_from};
-ghost use Rattle.sw_net.specs.Places.{noted, places_from};
+ghost use Rattle.sw_net.specs.Places.{drawn_place, noted, places_from};
 
 use indexmap::IndexMap;
 use std::alloc::Global;
@@ -47,7 +47,7 @@ impl Model for Net {
 
     ghost invariant = { λ net. (address : List ℕ)
         → noted (λ key. key.items) (λ own. own.items) net.places.entries address
-        ≡ places_from 0 net.lines address };
+        ≡ places_from (λ line. line.fetch) 0 net.lines address };
 }
 
 // Notes the first line of an address.
@@ -89,7 +89,7 @@ fn note(alloc: Global, places: &mut Places, address: &[u8], at: usize) -> Result
 fn places_of(alloc: Global, lines: &[FetchLine]) -> Result<Places, NoMemory>
     ensures { IfOk result (λ places. (address : List ℕ)
         → noted (λ key. key.items) (λ own. own.items) places.entries address
-        ≡ places_from 0 lines.now address) }
+        ≡ places_from (λ line. line.fetch) 0 lines.now address) }
 {
     let mut places = IndexMap::new(alloc);
     for at in 0..lines.len() {
@@ -141,10 +141,14 @@ impl Net {
         })
     }
 
-    // The place of the line that a fetch gets. It takes no memory.
-    fn place(&self, address: &[u8], ordinal: u32) -> Option<usize>
-        ensures { result ≡ slice_get (places_from 0 self.now address.now)
-            (min ordinal (length (places_from 0 self.now address.now) - 1)) }
+    /// The place, among the lines, of the one that the fetch of this number gets from an address without its fragment.
+    /// None for an address without lines. It takes no memory.
+    #[tactic(auto, using(crate::proofs::Drawing::drawn_at))]
+    pub fn place(&self, address: &[u8], ordinal: u32) -> Option<usize>
+        ensures place { result
+            ≡ drawn_place (λ line. line.fetch) self.now address.now ordinal }
+        ensures line { option_and_then (slice_get self.now) result
+            ≡ drawn_from (λ line. line.fetch) self.now address.now ordinal }
     {
         let own = own_places(&self.places, address);
         drawn(own, ordinal)
