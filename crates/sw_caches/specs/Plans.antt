@@ -1,5 +1,5 @@
 -- What a batch comes to on one cache: the queries that take pairs out, and the pairs that it adds.
-use Rattle.std.specs.Prelude.{◌≡◌, ℕ, ◌+◌, ◌<◌, ◌≤◌, ◌^◌, Bool, not, ◌||◌, List, ◌++◌, filter, fold, length, Result, Err, if◌then◌else◌}
+use Rattle.std.specs.Prelude.{◌≡◌, ℕ, ◌+◌, ◌<◌, ◌≤◌, ◌^◌, Bool, true, not, ◌||◌, List, ◌++◌, filter, fold, length, Result, Err, if◌then◌else◌}
 use Rattle.std.specs.List.{list_any}
 use Rattle.std.specs.BTreeSet.{BTreeSet}
 use Rattle.sw_data.specs.declared.exchange.Request.{Request}
@@ -13,9 +13,9 @@ use Rattle.sw_rules.specs.Batch as rules
 use Rattle.sw_caches.specs.declared.fault.BatchFault.{BatchFault}
 use Rattle.sw_caches.specs.declared.fault.BatchFault.TheVariants as fault
 use Rattle.sw_caches.specs.declared.plan.PairsPlan.{PairsPlan}
-use Rattle.sw_index.specs.Slots.{Slot}
+use Rattle.sw_index.specs.Slots.{Slot, has, is_marked}
 use Rattle.sw_index.specs.Numbered.{AllBelow, AllFrom}
-use Rattle.sw_caches.specs.Entries.{AreIndexed, number, pairs}
+use Rattle.sw_caches.specs.Entries.{AreIndexed, marks, number, pairs}
 
 -- a pair is taken out by one of the queries, or by a put in whose place it stands
 abbrev pub is_removed : List (Request × Options) → List Pair → Pair → Bool
@@ -40,9 +40,10 @@ IsThrown (fault.Quota size) outcome = outcome ≡ Err (Quota size)
 IsThrown fault.CacheGone outcome = ⊥
 IsThrown fault.NoMemory outcome = Unit {0}
 
--- a plan that is being made: the index has what it adds, under numbers of its own that rise from its first one on
+-- a plan that is being made: the index has what it adds, under numbers of its own that rise from its first one on, and nothing else from there on
 pub record IsDraft (plan : PairsPlan) (slots : BTreeSet Slot) : Type 0 where
   pub indexed : AreIndexed plan.added.items slots
+  pub tight : (key n : ℕ) → plan.first ≤ n → has slots key n ≡ true → is_marked (marks plan.added.items) key n ≡ true
   pub high : AllFrom number plan.first plan.added.items
   pub low : AllBelow number plan.next plan.added.items
   pub start : 0 < plan.first

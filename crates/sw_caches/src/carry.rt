@@ -2,7 +2,7 @@
 
 ghost use Rattle.std.specs.Prelude.{◌≡◌, ◌≤◌, [], vec_capacity, vec_len};
 ghost use Rattle.sw_index.specs.Numbered.{KeepsAbove};
-ghost use Rattle.sw_caches.specs.Entries.{AreIndexed, number, pairs};
+ghost use Rattle.sw_caches.specs.Entries.{AreIndexed, DropMarks, number, pairs};
 ghost use Rattle.sw_caches.specs.Plans.{left_by};
 
 use crate::entries::{Entry, drop_matching};
@@ -21,6 +21,7 @@ pub(crate) fn drop_deleted(
     ensures pairs { pairs entries.new.items
         ≡ left_by deletes.now [] (pairs entries.old.items) }
     ensures above { KeepsAbove number entries.old.items slots.old entries.new.items slots.new }
+    ensures marks { DropMarks entries.old.items slots.old entries.new.items slots.new }
     ensures bound { vec_len entries.new ≤ vec_len entries.old }
     ensures capacity { vec_capacity entries.new ≡ vec_capacity entries.old }
 {
@@ -36,6 +37,7 @@ pub(crate) fn drop_replaced(entries: &mut Vec<Entry>, slots: &mut Slots, added: 
     ensures pairs { pairs entries.new.items
         ≡ left_by [] (pairs added.now) (pairs entries.old.items) }
     ensures above { KeepsAbove number entries.old.items slots.old entries.new.items slots.new }
+    ensures marks { DropMarks entries.old.items slots.old entries.new.items slots.new }
     ensures bound { vec_len entries.new ≤ vec_len entries.old }
     ensures capacity { vec_capacity entries.new ≡ vec_capacity entries.old }
 {

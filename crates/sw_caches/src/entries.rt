@@ -6,12 +6,12 @@ ghost use Rattle.sw_rules.specs.Matching.{first_match, matches_pair, query_of};
 ghost use Rattle.sw_rules.specs.Batch.{matches_added, without_matching};
 ghost use Rattle.sw_index.specs.Numbered.{KeepsAbove, NoneOfNumber, StandsAt, first_by};
 ghost use Rattle.sw_caches.specs.Places.{places_by};
-ghost use Rattle.sw_caches.specs.Entries.{AreIndexed, number, pair, pairs};
+ghost use Rattle.sw_caches.specs.Entries.{AreIndexed, DropMarks, marks, number, pair, pairs};
 
-use crate::slots::{address_digest, unmark};
+use crate::slots::{address_digest, mark_of};
 use std::alloc::Global;
 use sw_data::{Items, NoMemory, Options, Request, Response};
-use sw_index::{Slots, next_number};
+use sw_index::{Mark, Slots, next_number, take_mark};
 use sw_match::{finds_nothing, matches_pair, number_of};
 
 // A request and the response that is kept under it.
@@ -171,13 +171,25 @@ pub(crate) fn drop_matching(
     ensures pairs { pairs entries.new.items
         ≡ without_matching query.now options (pairs entries.old.items) }
     ensures above { KeepsAbove number entries.old.items slots.old entries.new.items slots.new }
+    ensures marks { DropMarks entries.old.items slots.old entries.new.items slots.new }
     ensures bound { vec_len entries.new ≤ vec_len entries.old }
     ensures capacity { vec_capacity entries.new ≡ vec_capacity entries.old }
 {
     while let Some((place, _)) = first_matching(entries, slots, query, options) {
         let entry = entries.remove(place);
-        unmark(slots, &entry.pair.0.url, entry.number);
+        take_mark(slots, mark_of(&entry.pair.0.url, entry.number));
     }
+}
+
+// The marks of entries.
+pub(crate) fn marks_of(alloc: Global, entries: &[Entry]) -> Result<Vec<Mark>, NoMemory>
+    ensures { IfOk result (λ made. made.items ≡ marks entries.now) }
+{
+    let mut made = Vec::new(alloc);
+    for entry in entries {
+        made.push(mark_of(&entry.pair.0.url, entry.number))?;
+    }
+    Ok(made)
 }
 
 // The pairs of entries, as a list of its own.

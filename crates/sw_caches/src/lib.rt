@@ -2,10 +2,10 @@
 //!
 //! The pairs of a cache stand in the order of their puts, each behind a number of its own, and an
 //! index finds the numbers of an address by its digests, without fragment and also without query.
-//! The index may hold more than it must: a number that it finds is looked up, and its pair is
-//! tested. So no other pair is moved, copied or compared for a put or a query. In the same way the
-//! caches stand in the order of their creation, and an index finds those of a key, and that of a
-//! key and a name.
+//! It has no other number but those of a plan that was made and isn't carried out yet. A number that
+//! it finds is looked up, and its pair is tested. So no other pair is moved, copied or compared for
+//! a put or a query. In the same way the caches stand in the order of their creation, and an index
+//! finds those of a key, and that of a key and a name.
 #![tactic(auto)]
 
 mod carry;

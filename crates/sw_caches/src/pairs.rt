@@ -1,17 +1,17 @@
 //! The pairs of a cache, seen as a list beside the room for a plan.
 
-ghost use Rattle.std.specs.Prelude.{◌≡◌, ◌<◌, ◌≤◌, ◌+◌, ◌^◌, [], length, sum_by, Ok, IfOk, IfErr, OnOk, option_map, option_copied, slice_get};
+ghost use Rattle.std.specs.Prelude.{◌≡◌, ◌<◌, ◌≤◌, ◌+◌, ◌^◌, [], List, length, sum_by, Ok, IfOk, IfErr, OnOk, OnErr, vec_capacity, vec_len, option_map, option_copied, slice_get};
 ghost use Rattle.std.specs.List.{range_with_len};
 ghost use Rattle.std.specs.Option.{IfSome};
 ghost use Rattle.sw_rules.specs.Matching.{Pair, first_match, query_of};
 ghost use Rattle.sw_data.specs.Sizes.{op_size};
 ghost use Rattle.sw_rules.specs.Batch.{batch};
-ghost use Rattle.sw_index.specs.Numbered.{AllFrom};
-ghost use Rattle.sw_caches.specs.Entries.{number};
-ghost use Rattle.sw_caches.specs.Plans.{Fits, IsThrown, carried};
+ghost use Rattle.sw_index.specs.Slots.{KeepsBelow, KeepsSlots};
+ghost use Rattle.sw_caches.specs.Entries.{marks};
+ghost use Rattle.sw_caches.specs.Plans.{Fits, IsDraft, IsThrown, carried};
 
 use crate::carry::{drop_deleted, drop_replaced};
-use crate::entries::{Entry, Pair, copy_pairs, first_of, into_pairs, places_of};
+use crate::entries::{Entry, Pair, copy_pairs, first_of, into_pairs, marks_of, places_of};
 use crate::fault::BatchFault;
 use crate::plan::{PairsPlan, add_all, unmark_all, work_out};
 use crate::rules::{QUOTA, size_of};
@@ -19,7 +19,7 @@ use std::alloc::Global;
 use std::collections::BTreeSet;
 use std::marker::Model;
 use sw_data::{Items, NoMemory, Op, Options, Request};
-use sw_index::Slots;
+use sw_index::{Mark, Slots, take_marks};
 use sw_match::number_of;
 
 // The most pairs that a cache may have.
@@ -32,12 +32,14 @@ pub(crate) struct Pairs {
     entries: Vec<Entry>,
     slots: Slots,
     next: u64,
+    // The marks of a plan that was made, until it or another one is carried out.
+    ahead: Vec<Mark>,
 }
 
 impl Model for Pairs {
     ghost use Rattle.std.specs.Prelude.{◌<◌, ◌-◌, ◌^◌, length, vec_len, vec_capacity};
     ghost use Rattle.sw_index.specs.Numbered.{AllBelow};
-    ghost use Rattle.sw_caches.specs.Entries.{AreIndexed, number, pairs};
+    ghost use Rattle.sw_caches.specs.Entries.{AreIndexed, AreTight, number, pairs};
     ghost use Rattle.sw_caches.specs.Plans.{Indexed};
 
     ghost Value = { Indexed };
@@ -52,7 +54,8 @@ impl Model for Pairs {
     ghost invariant = { λ kept. AreIndexed kept.entries.items kept.slots
         × AllBelow number kept.next kept.entries.items
         × (0 < kept.next)
-        × (length kept.entries.items < 2 ^ 32) };
+        × (length kept.entries.items < 2 ^ 32)
+        × AreTight kept.entries.items kept.slots kept.next kept.ahead.items };
 }
 
 impl Pairs {
@@ -64,6 +67,7 @@ impl Pairs {
             entries: Vec::new(alloc),
             slots: BTreeSet::new(alloc),
             next: 1,
+            ahead: Vec::new(alloc),
         }
     }
 
@@ -80,6 +84,7 @@ impl Pairs {
             entries: plan.added,
             slots,
             next: plan.next,
+            ahead: Vec::new(alloc),
         })
     }
 
@@ -148,66 +153,37 @@ impl Pairs {
         Ok(places)
     }
 
-    // A batch, worked out with all its room. Any refusal leaves the pairs and the index as they
-    // were.
+    // A batch, worked out with all its room. Any refusal leaves the pairs as they were, and the
+    // index without a new mark.
     pub(crate) fn plan(&mut self, alloc: Global, ops: Vec<Op>) -> Result<PairsPlan, BatchFault>
         ensures same { self.new.pairs ≡ self.old.pairs }
         ensures fits { IfOk result (λ plan. Fits plan self.new) }
         ensures ok { IfOk result (λ plan.
             batch self.old.pairs ops.items ≡ Ok (carried plan self.old.pairs)) }
         ensures err { IfErr result (λ fault. IsThrown fault (batch self.old.pairs ops.items)) }
+        ensures marks { OnErr result (KeepsSlots self.new.slots self.old.slots) }
     {
         let size = size_of(&ops)?;
+        take_marks(&mut self.slots, &self.ahead);
+        self.ahead.clear();
         let mut plan = PairsPlan::new(alloc, self.next);
-        match self.prepare(&mut plan, alloc, ops, size) {
-            Ok(()) => Ok(plan),
+        match prepare(
+            &mut plan,
+            alloc,
+            &mut self.entries,
+            &mut self.slots,
+            ops,
+            size,
+        ) {
+            Ok(made) => {
+                self.ahead = made;
+                Ok(plan)
+            }
             Err(fault) => {
                 unmark_all(&mut self.slots, &plan.added);
                 Err(fault)
             }
         }
-    }
-
-    fn prepare(
-        &mut self,
-        plan: &mut PairsPlan,
-        alloc: Global,
-        ops: Vec<Op>,
-        size: u64,
-    ) -> Result<(), BatchFault>
-        requires new { (plan.old.deletes.items ≡ []) × (plan.old.added.items ≡ []) }
-        requires first { plan.old.first ≡ self.old.next }
-        requires next { plan.old.next ≡ self.old.next }
-        requires size { size ≡ sum_by op_size ops.items }
-        ensures same { self.new.pairs ≡ self.old.pairs }
-        ensures high { AllFrom number self.new.next plan.new.added.items }
-        ensures fits { OnOk result (Fits plan.new self.new) }
-        ensures ok { OnOk result
-            (batch self.old.pairs ops.items ≡ Ok (carried plan.new self.old.pairs)) }
-        ensures err { IfErr result (λ fault. IsThrown fault (batch self.old.pairs ops.items)) }
-    {
-        if ops.len() > PAIRS_LIMIT {
-            return Err(BatchFault::NoMemory);
-        }
-        work_out(plan, alloc, &mut self.slots, ops)?;
-        if size > QUOTA {
-            return Err(BatchFault::Quota { size });
-        }
-        self.make_room(plan.added.len())?;
-        Ok(())
-    }
-
-    // Makes room for further pairs.
-    fn make_room(&mut self, count: usize) -> Result<(), NoMemory>
-        ensures same { self.new ≡ record self.old { spare = self.new.spare } }
-        ensures room { OnOk result (count ≤ self.new.spare) }
-        ensures few { OnOk result (length self.new.pairs + count < 2 ^ 32) }
-    {
-        if count > PAIRS_LIMIT - self.entries.len() {
-            return Err(NoMemory);
-        }
-        self.entries.reserve(count)?;
-        Ok(())
     }
 
     // Carries a plan out; it takes no memory.
@@ -225,5 +201,58 @@ impl Pairs {
         drop_replaced(&mut self.entries, &mut self.slots, &added);
         let _ = self.entries.append(&mut added);
         self.next = next;
+        self.ahead.clear();
     }
+}
+
+// A batch, worked out with room behind the entries for what it adds; the marks that it made.
+fn prepare(
+    plan: &mut PairsPlan,
+    alloc: Global,
+    entries: &mut Vec<Entry>,
+    slots: &mut Slots,
+    ops: Vec<Op>,
+    size: u64,
+) -> Result<Vec<Mark>, BatchFault>
+    requires draft { IsDraft plan.old slots.old }
+    requires new { (plan.old.deletes.items ≡ []) × (plan.old.added.items ≡ []) }
+    requires size { size ≡ sum_by op_size ops.items }
+    requires few { length entries.old.items < 2 ^ 32 }
+    ensures entries { entries.new.items ≡ entries.old.items }
+    ensures draft { IsDraft plan.new slots.new }
+    ensures first { plan.new.first ≡ plan.old.first }
+    ensures below { KeepsBelow plan.old.first slots.old slots.new }
+    ensures made { IfOk result (λ made. made.items ≡ marks plan.new.added.items) }
+    ensures room { OnOk result
+        (vec_len plan.new.added + vec_len entries.new ≤ vec_capacity entries.new) }
+    ensures few { OnOk result (vec_len entries.new + vec_len plan.new.added < 2 ^ 32) }
+    ensures ok { OnOk result ((old : List Pair)
+        → batch old ops.items ≡ Ok (carried plan.new old)) }
+    ensures err { IfErr result (λ fault. (old : List Pair)
+        → IsThrown fault (batch old ops.items)) }
+{
+    if ops.len() > PAIRS_LIMIT {
+        return Err(BatchFault::NoMemory);
+    }
+    work_out(plan, alloc, slots, ops)?;
+    if size > QUOTA {
+        return Err(BatchFault::Quota { size });
+    }
+    make_room(entries, plan.added.len())?;
+    let made = marks_of(alloc, &plan.added)?;
+    Ok(made)
+}
+
+// Makes room for further pairs.
+fn make_room(entries: &mut Vec<Entry>, count: usize) -> Result<(), NoMemory>
+    requires { length entries.old.items < 2 ^ 32 }
+    ensures same { entries.new.items ≡ entries.old.items }
+    ensures room { OnOk result (count + vec_len entries.new ≤ vec_capacity entries.new) }
+    ensures few { OnOk result (vec_len entries.new + count < 2 ^ 32) }
+{
+    if count > PAIRS_LIMIT - entries.len() {
+        return Err(NoMemory);
+    }
+    entries.reserve(count)?;
+    Ok(())
 }

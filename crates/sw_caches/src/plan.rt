@@ -1,22 +1,22 @@
 //! A batch on one cache, worked out before it is done.
 
-ghost use Rattle.std.specs.Prelude.{◌≡◌, ◌<◌, ◌+◌, ◌^◌, ◌++◌, ◌∷◌, [], ℕ, List, None, Result, Ok, Err, OnOk, IfOk, IfErr, length};
+ghost use Rattle.std.specs.Prelude.{◌≡◌, ◌<◌, false, ◌+◌, ◌^◌, ◌++◌, ◌∷◌, [], ℕ, List, None, Result, Ok, Err, OnOk, IfOk, IfErr, length};
 ghost use Rattle.sw_data.specs.declared.exchange.Op.{Op};
 ghost use Rattle.sw_data.specs.declared.exchange.Op.TheVariants as op;
 ghost use Rattle.sw_rules.specs.Matching.{Pair};
 ghost use Rattle.sw_rules.specs.Batch.{go, put_fault};
-ghost use Rattle.sw_index.specs.Slots.{KeepsBelow, KeepsSlots};
+ghost use Rattle.sw_index.specs.Slots.{HasLost, KeepsBelow, KeepsSlots, has};
 ghost use Rattle.sw_index.specs.Numbered.{AllFrom};
-ghost use Rattle.sw_caches.specs.Entries.{number, pairs};
+ghost use Rattle.sw_caches.specs.Entries.{AreTight, marks, number, pairs};
 ghost use Rattle.sw_caches.specs.Plans.{IsDraft, IsThrown, carried, left_by};
 
 use crate::entries::{Entry, has_matching};
 use crate::fault::BatchFault;
 use crate::rules::put_fault;
-use crate::slots::{mark, unmark};
+use crate::slots::mark_of;
 use std::alloc::Global;
 use sw_data::{NoMemory, Op, Options, Request, Response};
-use sw_index::Slots;
+use sw_index::{Slots, put_mark, take_mark};
 use sw_match::finds_nothing;
 
 // No option is set.
@@ -93,7 +93,7 @@ impl PairsPlan {
         requires { IsDraft self.old slots.old }
         ensures draft { IsDraft self.new slots.new }
         ensures first { self.new.first ≡ self.old.first }
-        ensures keeps { KeepsSlots slots.old slots.new }
+        ensures below { KeepsBelow self.old.first slots.old slots.new }
         ensures ok { OnOk result ((old : List Pair) (rest : List Op)
             → go (left_by self.old.deletes.items (pairs self.old.added.items) old)
             (pairs self.old.added.items) at (op.Put request response ∷ rest)
@@ -122,7 +122,7 @@ impl PairsPlan {
         requires allowed { put_fault request response ≡ None }
         ensures draft { IsDraft self.new slots.new }
         ensures first { self.new.first ≡ self.old.first }
-        ensures keeps { KeepsSlots slots.old slots.new }
+        ensures below { KeepsBelow self.old.first slots.old slots.new }
         ensures ok { OnOk result ((old : List Pair) (rest : List Op)
             → go (left_by self.old.deletes.items (pairs self.old.added.items) old)
             (pairs self.old.added.items) at (op.Put request response ∷ rest)
@@ -150,7 +150,7 @@ impl PairsPlan {
         requires { IsDraft self.old slots.old }
         ensures draft { IsDraft self.new slots.new }
         ensures first { self.new.first ≡ self.old.first }
-        ensures keeps { KeepsSlots slots.old slots.new }
+        ensures below { KeepsBelow self.old.first slots.old slots.new }
         ensures deletes { self.new.deletes.items ≡ self.old.deletes.items }
         ensures added { OnOk result (pairs self.new.added.items
             ≡ pairs self.old.added.items ++ (request, response) ∷ []) }
@@ -161,7 +161,7 @@ impl PairsPlan {
         }
         let pair = Box::new(alloc, (request, response))?;
         self.added.reserve(1)?;
-        mark(slots, &pair.0.url, number)?;
+        put_mark(slots, mark_of(&pair.0.url, number))?;
         self.added.push_reserved(Entry { number, pair });
         self.next = number + 1;
         Ok(())
@@ -178,7 +178,7 @@ impl PairsPlan {
         requires { IsDraft self.old slots.old }
         ensures draft { IsDraft self.new slots.new }
         ensures first { self.new.first ≡ self.old.first }
-        ensures keeps { KeepsSlots slots.old slots.new }
+        ensures below { KeepsBelow self.old.first slots.old slots.new }
         ensures ok { OnOk result ((old : List Pair) (rest : List Op)
             → go (left_by self.old.deletes.items (pairs self.old.added.items) old)
             (pairs self.old.added.items) at (op ∷ rest)
@@ -206,7 +206,7 @@ pub(crate) fn work_out(
     requires count { length ops.items < 2 ^ 32 }
     ensures draft { IsDraft plan.new slots.new }
     ensures first { plan.new.first ≡ plan.old.first }
-    ensures keeps { KeepsSlots slots.old slots.new }
+    ensures below { KeepsBelow plan.old.first slots.old slots.new }
     ensures ok { OnOk result ((old : List Pair)
         → go old [] 0 ops.items ≡ Ok (carried plan.new old)) }
     ensures err { IfErr result (λ fault. (old : List Pair)
@@ -220,12 +220,14 @@ pub(crate) fn work_out(
     Ok(())
 }
 
-// Takes the numbers of a plan from the index; it takes no memory.
+// Takes the marks of a plan from the index; it takes no memory.
 pub(crate) fn unmark_all(slots: &mut Slots, added: &[Entry])
-    ensures { (n : ℕ) → AllFrom number n added.now → KeepsBelow n slots.old slots.new }
+    ensures below { (n : ℕ) → AllFrom number n added.now → KeepsBelow n slots.old slots.new }
+    ensures fewer { KeepsSlots slots.new slots.old }
+    ensures gone { HasLost (marks added.now) slots.new }
 {
     for entry in added {
-        unmark(slots, &entry.pair.0.url, entry.number);
+        take_mark(slots, mark_of(&entry.pair.0.url, entry.number));
     }
 }
 
@@ -235,7 +237,9 @@ pub(crate) fn add_all(
     slots: &mut Slots,
     items: Vec<(Request, Response)>,
 ) -> Result<PairsPlan, NoMemory>
+    requires { (key n : ℕ) → has slots.old key n ≡ false }
     ensures draft { IfOk result (λ plan. IsDraft plan slots.new) }
+    ensures tight { IfOk result (λ plan. AreTight plan.added.items slots.new plan.next []) }
     ensures added { IfOk result (λ plan. pairs plan.added.items ≡ items.items) }
 {
     let mut plan = PairsPlan::new(alloc, 1);

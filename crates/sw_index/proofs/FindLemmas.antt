@@ -66,6 +66,16 @@ filter_remove f m (x ∷ xs) (suc place) d l h = elim (cases_Bool (m (f x))) [
   | inr e ↦ rw e (ap (λ r. f x ∷ r) (filter_remove f m xs place d (omega arith) h))
 ]
 
+-- one of a list passes, and it isn't the one that is taken out
+pub any_left : {X Y : Type 0} (f : X → Y) (test : Y → Bool) (xs : List X) (place : ℕ) (d : X) → place < length xs → test (f (get_or xs place d)) ≡ false
+    → list_any test (map f xs) ≡ true → list_any test (map f (remove xs place)) ≡ true
+any_left f test [] place d l out any = absurd (omega arith)
+any_left f test (x ∷ xs) zero d l out any = rw out at any
+any_left f test (x ∷ xs) (suc place) d l out any = elim (cases_Bool (test (f x))) [
+  | inl e ↦ rw e refl
+  | inr e ↦ rw e (any_left f test xs place d (omega arith) out (rw e at any))
+]
+
 pub found_low : {X Y : Type 0} (f : X → Y) (m : Y → Bool) (xs : List X) (n : ℕ) (y : Y) → Some (n, y) ≡ find (λ item. m item.1) (enumerate_from 0 (map f xs)) → n < length xs
 found_low f m xs n y h = let reads = found_reads f m xs 0 n y (sym h) in let a = reads.1 in let b = reads.2 in omega arith
 

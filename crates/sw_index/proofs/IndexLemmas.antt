@@ -1,14 +1,17 @@
 -- What an index finds.
-use Rattle.std.proofs.Common.{◌≡◌, ℕ, ◌+◌, ◌-◌, ◌<◌, ◌≤◌, Bool, true, false, List, [], ◌∷◌, ◌++◌, map, length, get_or, Some, None, refl, inl, inr, sym, ◌∙◌, ap, subst, arith, true≢false, All, set, drop}
-use Rattle.std.specs.Prelude.{remove, ◌^◌}
+use Rattle.std.proofs.Common.{◌≡◌, ℕ, ◌+◌, ◌-◌, ◌<◌, ◌≤◌, Bool, true, false, List, [], ◌∷◌, ◌++◌, map, length, get_or, Some, None, refl, inl, inr, sym, ◌∙◌, ap, subst, arith, true≢false, All, set, drop, zero, suc}
+use Rattle.std.specs.Prelude.{remove, ◌^◌, ◌||◌}
 use Rattle.std.specs.BTreeSet.{BTreeSet}
 use Rattle.std.proofs.lemmas.Bool.{cases_order, cases_Bool, cases_lt}
-use Rattle.std.proofs.lemmas.List.{get_or_default, get_or_append_left, get_or-append_right, get_or-drop, get_or-set_other, get_or-set_same, length-append, length-drop, length-set}
+use Rattle.std.proofs.lemmas.List.{get_or_default, get_or_append_left, get_or-append_right, get_or-drop, get_or-set_other, get_or-set_same, length-append, length-drop, length-set, map-append}
 use Rattle.std.proofs.lemmas.List.Quantifiers.{all_pairs_push, all_pairs_remove}
 use Rattle.std.proofs.lemmas.List.Elements.{All-append, All-drop, All-push}
-use Rattle.sw_index.specs.Slots.{Slot, has, KeepsOthers, KeepsSlots, NoneBetween}
-use Rattle.sw_index.specs.Numbered.{AllBelow, IsIndexed, IsThinned, KeepsAbove, MatchOnlyAbove, NoneOfNumber, StandsAt, first_by}
-use Rattle.sw_index.proofs.FindLemmas.{All_kept, filter_remove, find_here, find_none, found_reads}
+use Rattle.std.proofs.lemmas.List.Folds.{list_any-append}
+use Rattle.sw_index.specs.declared.slots.Mark.{Mark}
+use Rattle.sw_index.specs.Slots.{HasLost, IsFree, KeepsBelow, KeepsOthers, KeepsSlots, NoneBetween, OnlyAdds, Slot, has, is_marked, is_under}
+use Rattle.sw_index.specs.Numbered.{AllBelow, DropsMarks, IsIndexed, IsThinned, IsTight, KeepsAbove, MatchOnlyAbove, NoneOfNumber, StandsAt, first_by, mark_of, marks_of}
+use Rattle.sw_index.proofs.FindLemmas.{All_kept, any_left, filter_remove, find_here, find_none, found_reads}
+use Rattle.sw_index.proofs.SlotLemmas.{under_reads}
 
 module _ {X Y : Type 0} (number : X → ℕ) (item : X → Y) where
   module _ (digest_of : Bool → Y → ℕ) (test : Y → Bool) (code : ℕ) (kind : Bool) (keyed : (p : Y) → test p ≡ true → digest_of kind p ≡ code) (xs : List X) (slots : BTreeSet Slot) (of : IsIndexed number item digest_of xs slots) (after : ℕ) (above : MatchOnlyAbove number item test xs after) where
@@ -51,9 +54,10 @@ module _ {X Y : Type 0} (number : X → ℕ) (item : X → Y) where
 
 module _ {X Y : Type 0} (number : X → ℕ) (item : X → Y) (digest_of : Bool → Y → ℕ) (test : Y → Bool) (old : List X) (before : BTreeSet Slot) (xs : List X) (slots after : BTreeSet Slot) where
   pub thinned_more : (found : ℕ) (p : Y) (x : X) → IsThinned number item digest_of test old before xs slots → Some (found, p) ≡ first_by test (map item xs)
-      → x ≡ get_or xs found x → KeepsOthers (number x) slots after
+      → x ≡ get_or xs found x → (mark : Mark) → mark ≡ mark_of number item digest_of x → KeepsOthers mark.number slots after → KeepsSlots after slots
+      → ((key n : ℕ) → is_under mark key n ≡ true → has after key n ≡ false)
       → IsThinned number item digest_of test old before (remove xs found) after
-  thinned_more found p x of first is rest = record {
+  thinned_more found p x of first is mark same others fewer gone = record {
     indexed = record {
       rising = all_pairs_remove (λ left right. number left < number right) xs found low of.indexed.rising;
       bounded = All_kept (λ entry. (0 < number entry) × (number entry < 2 ^ 64)) xs found low (λ j d l ne. of.indexed.bounded j d l);
@@ -65,6 +69,7 @@ module _ {X Y : Type 0} (number : X → ℕ) (item : X → Y) (digest_of : Bool 
       All_kept (λ entry. number entry < n) xs found low (λ j d l ne. was.0 j d l),
       λ key. (let under : number x < n = subst (λ y. number y < n) (sym is) (was.0 found x low) in rest key n (λ e. omega arith)) ∙ was.1 key,
     );
+    drops = λ key n now. let was = of.drops key n (fewer key n now) in (was.0, λ m. still key n now (was.1 m));
   }
     where
       reads : (place : ℕ) × (0 + place ≡ found) × (place < length xs) × ((d : X) → test (item (get_or xs place d)) ≡ true)
@@ -75,6 +80,15 @@ module _ {X Y : Type 0} (number : X → ℕ) (item : X → Y) (digest_of : Bool 
 
       hit : (d : X) → test (item (get_or xs found d)) ≡ true
       hit d = let e : reads.0 ≡ found = (let a = reads.1 in omega arith) in subst (λ k. test (item (get_or xs k d)) ≡ true) e (reads.3 d)
+
+      rest : KeepsOthers (number x) slots after
+      rest = subst (λ (a : Mark). KeepsOthers a.number slots after) same others
+
+      still : (key n : ℕ) → has after key n ≡ true → is_marked (marks_of number item digest_of xs) key n ≡ true → is_marked (marks_of number item digest_of (remove xs found)) key n ≡ true
+      still key n now m = elim (cases_Bool (is_under (mark_of number item digest_of x) key n)) [
+        | inl e ↦ absurd (true≢false (sym now ∙ gone key n (ap (λ (a : Mark). is_under a key n) same ∙ e)))
+        | inr e ↦ any_left (mark_of number item digest_of) (λ (a : Mark). is_under a key n) xs found x low (ap (λ y. is_under (mark_of number item digest_of y) key n) (sym is) ∙ e) m
+      ]
 
       other : (j : ℕ) (d : X) → j < length xs → (j ≡ found → ⊥) → number x ≡ number (get_or xs j d) → ⊥
       other j d l ne e =
@@ -160,6 +174,111 @@ module _ {X Y : Type 0} (number : X → ℕ) (item : X → Y) (digest_of : Bool 
 
       digests : (kind : Bool) (k : ℕ) (d : X) → digest_of kind (item (get_or (set xs place x) k d)) ≡ digest_of kind (item (get_or xs k d))
       digests kind = same_but (λ y. digest_of kind (item y)) xs place x within (alike kind)
+
+-- a replacement that agrees in what is read leaves it all
+map_set_same : {X A : Type 0} (f : X → A) (xs : List X) (place : ℕ) (x : X) → place < length xs → f x ≡ f (get_or xs place x) → map f (set xs place x) ≡ map f xs
+map_set_same f [] place x low same = absurd (omega arith)
+map_set_same f (y ∷ xs) zero x low same = ap (λ a. a ∷ map f xs) same
+map_set_same f (y ∷ xs) (suc place) x low same = ap (λ rest. f y ∷ rest) (map_set_same f xs place x (omega arith) same)
+
+module _ {X Y : Type 0} (number : X → ℕ) (item : X → Y) (digest_of : Bool → Y → ℕ) where
+  -- the index is as it was below the next number
+  pub kept_below : (xs : List X) (slots after : BTreeSet Slot) (next : ℕ) → KeepsBelow next slots after → AllBelow number next xs → IsIndexed number item digest_of xs slots → IsIndexed number item digest_of xs after
+  kept_below xs slots after next keeps low of = record {
+    rising = of.rising;
+    bounded = of.bounded;
+    indexed = λ kind k d l. keeps (digest_of kind (item (get_or xs k d))) (number (get_or xs k d)) (low k d l) ∙ of.indexed kind k d l;
+  }
+
+  -- marks that were made ahead are taken
+  pub forgotten : (xs : List X) (slots after : BTreeSet Slot) (next : ℕ) (ahead : List Mark) → IsTight number item digest_of xs slots next ahead → KeepsSlots after slots → HasLost ahead after
+      → IsTight number item digest_of xs after next []
+  forgotten xs slots after next ahead of fewer gone = record {
+    kept = λ key n h l. of.kept key n (fewer key n h) l;
+    made = λ key n h l. absurd (true≢false (sym h ∙ gone key n (of.made key n (fewer key n h) l)));
+    late = λ k d l. absurd (omega arith);
+  }
+
+  -- where none is made ahead, the next number is free
+  pub free_from : (xs : List X) (slots : BTreeSet Slot) (next n : ℕ) → IsTight number item digest_of xs slots next [] → next ≤ n → IsFree n slots
+  free_from xs slots next n of le key = elim (cases_Bool (has slots key n)) [
+    | inl h ↦ absurd (true≢false (sym (of.made key n h le)))
+    | inr h ↦ h
+  ]
+
+  -- a mark is made ahead
+  pub made_ahead : (xs : List X) (slots more : BTreeSet Slot) (mark : Mark) → IsTight number item digest_of xs slots mark.number [] → OnlyAdds mark slots more → IsTight number item digest_of xs more mark.number (mark ∷ [])
+  made_ahead xs slots more mark of only = record {
+    kept = λ key n h l. elim (cases_Bool (has slots key n)) [
+      | inl was ↦ of.kept key n was l
+      | inr out ↦ absurd (let e = (under_reads mark key n (only key n h out)).1 in omega (arith, e, l))
+    ];
+    made = λ key n h l. elim (cases_Bool (has slots key n)) [
+      | inl was ↦ absurd (true≢false (sym (of.made key n was l)))
+      | inr out ↦ rw (only key n h out) refl
+    ];
+    late = All-push (λ (made : Mark). mark.number ≤ made.number) [] mark (λ k d l. absurd (omega arith)) (omega arith);
+  }
+
+  -- an index that may have less
+  pub fewer_marks : (xs : List X) (slots fewer : BTreeSet Slot) (next : ℕ) (ahead : List Mark) → KeepsSlots fewer slots → IsTight number item digest_of xs slots next ahead → IsTight number item digest_of xs fewer next ahead
+  fewer_marks xs slots fewer next ahead keeps of = record {
+    kept = λ key n h l. of.kept key n (keeps key n h) l;
+    made = λ key n h l. of.made key n (keeps key n h) l;
+    late = of.late;
+  }
+
+  pub drops_more : (old mid new : List X) (before between after : BTreeSet Slot) → DropsMarks number item digest_of old before mid between → DropsMarks number item digest_of mid between new after
+      → DropsMarks number item digest_of old before new after
+  drops_more old mid new before between after first then key n now =
+      let b = then key n now in
+      let a = first key n b.0 in
+      (a.0, λ m. b.1 (a.1 m))
+
+  -- entries are taken out with their marks
+  pub dropped : (old new : List X) (before after : BTreeSet Slot) (next : ℕ) (ahead : List Mark) → DropsMarks number item digest_of old before new after → IsTight number item digest_of old before next ahead
+      → IsTight number item digest_of new after next ahead
+  dropped old new before after next ahead drops of = record {
+    kept = λ key n h l. (let was = drops key n h in was.1 (of.kept key n was.0 l));
+    made = λ key n h l. of.made key n (drops key n h).0 l;
+    late = of.late;
+  }
+
+  -- the marks of entries have their numbers
+  pub marked_low : (xs : List X) (top : ℕ) → AllBelow number top xs → (key n : ℕ) → is_marked (marks_of number item digest_of xs) key n ≡ true → n < top
+  marked_low [] top low key n m = absurd (true≢false (sym m))
+  marked_low (x ∷ xs) top low key n m = elim (cases_Bool (is_under (mark_of number item digest_of x) key n)) [
+    | inl e ↦ (let is = (under_reads (mark_of number item digest_of x) key n e).1 in let under = low 0 x (omega arith) in omega (arith, is, under))
+    | inr e ↦ marked_low xs top (λ k d l. low (suc k) d (omega arith)) key n (rw e at m)
+  ]
+
+  pub marks_joined : (xs later : List X) (key n : ℕ) → is_marked (marks_of number item digest_of (xs ++ later)) key n ≡ (is_marked (marks_of number item digest_of xs) key n || is_marked (marks_of number item digest_of later) key n)
+  marks_joined xs later key n = ap (λ (marks : List Mark). is_marked marks key n) (map-append (mark_of number item digest_of) xs later)
+      ∙ list_any-append (λ (mark : Mark). is_under mark key n) (marks_of number item digest_of xs) (marks_of number item digest_of later)
+
+  -- entries whose marks were made ahead are put at the end
+  pub arrived : (xs later : List X) (slots : BTreeSet Slot) (next top : ℕ) → next ≤ top → AllBelow number top later → ((key n : ℕ) → has slots key n ≡ true → n < next → is_marked (marks_of number item digest_of xs) key n ≡ true)
+      → ((key n : ℕ) → has slots key n ≡ true → next ≤ n → is_marked (marks_of number item digest_of later) key n ≡ true) → IsTight number item digest_of (xs ++ later) slots top []
+  arrived xs later slots next top le low front back = record {
+    kept = λ key n h l. elim (cases_lt n next) [
+      | inl under ↦ marks_joined xs later key n ∙ rw (front key n h under) refl
+      | inr over ↦ marks_joined xs later key n ∙ elim (cases_Bool (is_marked (marks_of number item digest_of xs) key n)) [ inl e ↦ rw e refl | inr e ↦ rw e (back key n h over) ]
+    ];
+    made = λ key n h l. absurd (let under = marked_low later top low key n (back key n h (omega arith)) in omega arith);
+    late = λ k d l. absurd (omega arith);
+  }
+
+  -- an entry is replaced by another with its mark
+  pub same_marks : (xs : List X) (slots : BTreeSet Slot) (place : ℕ) (x : X) (next : ℕ) (ahead : List Mark) → place < length xs → number x ≡ number (get_or xs place x)
+      → ((kind : Bool) → digest_of kind (item x) ≡ digest_of kind (item (get_or xs place x))) → IsTight number item digest_of xs slots next ahead → IsTight number item digest_of (set xs place x) slots next ahead
+  same_marks xs slots place x next ahead low same alike of = record {
+    kept = λ key n h l. ap (λ (marks : List Mark). is_marked marks key n) is ∙ of.kept key n h l;
+    made = of.made;
+    late = of.late;
+  }
+    where
+      is : marks_of number item digest_of (set xs place x) ≡ marks_of number item digest_of xs
+      is = map_set_same _ xs place x low (λ i. record { first = alike false i; second = alike true i; number = same i })
 
 module _ {X : Type 0} (number : X → ℕ) where
   pub above_same : (xs : List X) (slots : BTreeSet Slot) → KeepsAbove number xs slots xs slots

@@ -1,6 +1,6 @@
 -- Lemmas on the order of slots, and on the next slot of a digest.
-use Rattle.std.proofs.Common.{◌≡◌, ℕ, ◌<◌, ◌≤◌, true, false, List, [], ◌∷◌, refl, inl, inr, sym, ◌∙◌, ap, subst, arith, true≢false}
-use Rattle.std.specs.Prelude.{◌^◌, cond}
+use Rattle.std.proofs.Common.{◌≡◌, ℕ, ◌+◌, ◌<◌, ◌≤◌, ◌⊎◌, length, get_or, take, true, false, List, [], ◌∷◌, refl, inl, inr, sym, ◌∙◌, ap, subst, arith, true≢false}
+use Rattle.std.specs.Prelude.{◌^◌, ◌||◌, cond, nat_eq}
 use Rattle.std.specs.List.{list_any, slice_get}
 use Rattle.std.specs.Ordering.{nat_cmp, ordering_then, is_gt}
 use Rattle.std.specs.declared.cmp.Ordering.TheVariants.{Less, Equal, Greater}
@@ -10,9 +10,10 @@ use Rattle.std.specs.BTreeSet.{BTreeSet, Updates, IsKeyRangeOf, IsKeyInRange}
 use Rattle.std.specs.BTreeMap.{is_at}
 use Rattle.std.specs.BTreeMap.Range.{IsLeBy}
 use Rattle.std.specs.Option.{IfSome}
-use Rattle.std.proofs.lemmas.Bool.{cases_order, cases_Bool, cases_lt}
-use Rattle.sw_index.specs.Slots.{Slot, slot_cmp, has, KeepsOthers, KeepsSlots}
-use Rattle.sw_index.specs.Slots.{NoneBetween}
+use Rattle.std.proofs.lemmas.Bool.{and_parts, cases_order, cases_Bool, cases_lt, eq-eqb, eqb-true}
+use Rattle.sw_index.specs.declared.slots.Mark.{Mark}
+use Rattle.std.proofs.lemmas.List.Folds.{list_any_more}
+use Rattle.sw_index.specs.Slots.{Slot, slot_cmp, has, is_marked, is_under, AreFrom, HasLost, KeepsBelow, KeepsOthers, KeepsSlots, NoneBetween}
 
 pub cmp_less : (x y : ℕ) → x < y → nat_cmp x y ≡ Less
 cmp_less x y h = sym (nat_cmp_is x y Less h)
@@ -119,3 +120,66 @@ slot_gone slots fewer key number up = up.0 (key, number) ∙ ap (λ b. cond b fa
   where
     itself : is_at (slot_cmp (key, number)) (key, number) ≡ true
     itself = rw (cmp_same key, cmp_same number) refl
+
+-- the slot that a slot is compared with and that is at its place is the same
+at_reads : (k m l n : ℕ) → is_at (slot_cmp (k, m)) (l, n) ≡ true → (l ≡ k) × (n ≡ m)
+at_reads k m l n at = elim (cases_order k l) [
+  | inl e ↦ elim (cases_order m n) [
+    | inl f ↦ (sym e, sym f)
+    | inr (inl h) ↦ absurd (true≢false (sym at ∙ apart k m l n (λ f. omega arith)))
+    | inr (inr h) ↦ absurd (true≢false (sym at ∙ apart k m l n (λ f. omega arith)))
+  ]
+  | inr (inl h) ↦ absurd (true≢false (sym at ∙ rw (cmp_less k l h) refl))
+  | inr (inr h) ↦ absurd (true≢false (sym at ∙ rw (cmp_greater k l h) refl))
+]
+
+-- what an index with one more slot has more is this slot
+pub only_slot : (slots more : BTreeSet Slot) (key number : ℕ) → Updates slot_cmp slots more (key, number) true → (k n : ℕ) → has more k n ≡ true → has slots k n ≡ false → (k ≡ key) × (n ≡ number)
+only_slot slots more key number up k n now was = elim (cases_Bool (is_at (slot_cmp (key, number)) (k, n))) [
+  | inl e ↦ at_reads key number k n e
+  | inr e ↦ absurd (true≢false (sym now ∙ (up.2 (k, n) e ∙ was)))
+]
+
+-- an index without a slot has nothing that it had not
+pub none_more : (slots fewer : BTreeSet Slot) (key number : ℕ) → Updates slot_cmp slots fewer (key, number) false → KeepsSlots fewer slots
+none_more slots fewer key number up k n h = elim (cases_Bool (is_at (slot_cmp (key, number)) (k, n))) [
+  | inl e ↦ absurd (true≢false (sym h ∙ (up.0 (k, n) ∙ ap (λ b. cond b false (has slots k n)) e)))
+  | inr e ↦ sym (up.2 (k, n) e) ∙ h
+]
+
+-- what isn't in an index isn't in one that has nothing more
+pub stays_out : (slots fewer : BTreeSet Slot) → KeepsSlots fewer slots → (key n : ℕ) → has slots key n ≡ false → has fewer key n ≡ false
+stays_out slots fewer keeps key n out = elim (cases_Bool (has fewer key n)) [
+  | inl h ↦ absurd (true≢false (sym (keeps key n h) ∙ out))
+  | inr h ↦ h
+]
+
+-- what stands under a digest by a mark
+pub under_reads : (mark : Mark) (key n : ℕ) → is_under mark key n ≡ true → ((key ≡ mark.first) ⊎ (key ≡ mark.second)) × (n ≡ mark.number)
+under_reads mark key n h =
+    let both = and_parts (nat_eq key mark.first || nat_eq key mark.second) (nat_eq n mark.number) h in (
+      elim (cases_Bool (nat_eq key mark.first)) [
+        | inl e ↦ inl (eqb-true key mark.first e)
+        | inr e ↦ inr (let either = both.0 in eqb-true key mark.second (rw e at either))
+      ],
+      eqb-true n mark.number both.1,
+    )
+
+pub under_either : (mark : Mark) (key : ℕ) → (key ≡ mark.first) ⊎ (key ≡ mark.second) → is_under mark key mark.number ≡ true
+under_either mark key (inl e) = rw (eq-eqb key mark.first e, eq-eqb mark.number mark.number refl) refl
+under_either mark key (inr e) = elim (cases_Bool (nat_eq key mark.first)) [
+  | inl h ↦ rw (h, eq-eqb mark.number mark.number refl) refl
+  | inr h ↦ rw (h, eq-eqb key mark.second e, eq-eqb mark.number mark.number refl) refl
+]
+
+module _ (marks : List Mark) (i : ℕ) (d : Mark) (slots fewer : BTreeSet Slot) (within : i < length marks) where
+  -- one more mark is taken
+  pub lost_more : HasLost (take i marks) slots → KeepsSlots fewer slots → ((key n : ℕ) → is_under (get_or marks i d) key n ≡ true → has fewer key n ≡ false) → HasLost (take (i + 1) marks) fewer
+  lost_more lost keeps gone key n m = elim (cases_Bool (is_marked (take i marks) key n)) [
+    | inl e ↦ stays_out slots fewer keeps key n (lost key n e)
+    | inr e ↦ gone key n (let either = sym (list_any_more (λ (a : Mark). is_under a key n) marks i d within) ∙ m in rw e at either)
+  ]
+
+  -- a mark with a high number is taken
+  pub taken_above : (low : ℕ) → AreFrom low marks → KeepsOthers (get_or marks i d).number slots fewer → KeepsBelow low slots fewer
+  taken_above low from others key n under = others key n (λ e. let high = from i d within in omega (arith, e, high, under))

@@ -1,10 +1,11 @@
 -- Values under keys and names, as a list of rows beside the index that finds them.
-use Rattle.std.specs.Prelude.{◌≡◌, ℕ, ◌+◌, ◌<◌, ◌^◌, ◌&&◌, Bool, true, false, List, map, length, set, slice_get, bytes_eq, Option, Some, None}
+use Rattle.std.specs.Prelude.{◌≡◌, ℕ, ◌+◌, ◌<◌, ◌≤◌, ◌^◌, ◌&&◌, Bool, true, false, List, map, length, set, slice_get, bytes_eq, Option, Some, None}
 use Rattle.std.specs.Option.{option_map_or}
 use Rattle.std.specs.BTreeSet.{BTreeSet}
 use Rattle.sw_index.specs.declared.row.Row.{Row}
-use Rattle.sw_index.specs.Slots.{Slot, digest, digest_from, has, mixed}
-use Rattle.sw_index.specs.Numbered.{IsIndexed}
+use Rattle.sw_index.specs.declared.slots.Mark.{Mark}
+use Rattle.sw_index.specs.Slots.{Slot, digest, digest_from, has, is_under, mixed}
+use Rattle.sw_index.specs.Numbered.{DropsMarks, IsIndexed, IsTight}
 
 -- a key and a name
 abbrev pub Label : Type 0
@@ -23,6 +24,10 @@ label_digest label = digest_from (mixed (digest label.0) 255) label.1
 abbrev pub digest_by : Bool → Label → ℕ
 digest_by true label = label_digest label
 digest_by false label = digest label.0
+
+-- the mark of a row: its number under what it is found by
+abbrev pub label_mark : Label → ℕ → Mark
+label_mark label number = record { first = digest_by false label; second = digest_by true label; number = number }
 
 -- what the rows that are asked for are found by
 abbrev pub asked_digest : List ℕ → Option (List ℕ) → ℕ
@@ -60,6 +65,13 @@ module _ {V : Type 0} where
   abbrev pub AreIndexed : List (Row V) → BTreeSet Slot → Type 0
   AreIndexed rows slots = IsIndexed number named_row row_digest rows slots
 
+  -- the index has no mark but those of the rows, and those made ahead
+  abbrev pub AreTight : List (Row V) → BTreeSet Slot → ℕ → List Mark → Type 0
+  AreTight rows slots next ahead = IsTight number named_row row_digest rows slots next ahead
+
+  abbrev pub DropMarks : List (Row V) → BTreeSet Slot → List (Row V) → BTreeSet Slot → Type 0
+  DropMarks old before new after = DropsMarks number named_row row_digest old before new after
+
   -- the values of rows, in order
   abbrev pub values : List (Label × V) → List V
   values rows = map (λ row. row.1) rows
@@ -75,9 +87,10 @@ pub record Listing (V : Type 0) : Type 0 where
   pub next : ℕ
   pub spare : ℕ
 
--- a row was made for this listing, which has the next number in the index for it, and room
+-- a row was made for this listing, which has the next number in the index for it and no later one, and room
 pub record Fits {V : Type 0} (new : Made) (listing : Listing V) : Type 0 where
   pub indexed : (kind : Bool) → has listing.slots (digest_by kind (new.key, new.name)) listing.next ≡ true
+  pub only : (key n : ℕ) → has listing.slots key n ≡ true → listing.next ≤ n → is_under (label_mark (new.key, new.name) listing.next) key n ≡ true
   pub room : 0 < listing.spare
   pub few : length listing.rows + 1 < 2 ^ 32
   pub last : listing.next + 1 < 2 ^ 64

@@ -2,7 +2,8 @@
 use Rattle.std.specs.Prelude.{◌≡◌, ℕ, ◌<◌, ◌≤◌, ◌^◌, Bool, true, false, not, List, map, filter, find, Option, length, slice_index_or}
 use Rattle.std.specs.List.{All, AllPairs, enumerate_from}
 use Rattle.std.specs.BTreeSet.{BTreeSet}
-use Rattle.sw_index.specs.Slots.{Slot, has}
+use Rattle.sw_index.specs.declared.slots.Mark.{Mark}
+use Rattle.sw_index.specs.Slots.{AreFrom, Slot, has, is_marked}
 
 -- the first item that passes a test, behind its place
 abbrev pub first_by : {Y : Type 0} → (Y → Bool) → List Y → Option (ℕ × Y)
@@ -41,6 +42,24 @@ module _ {X Y : Type 0} (number : X → ℕ) (item : X → Y) where
 
 -- an item has a digest of each of two kinds
 module _ {X Y : Type 0} (number : X → ℕ) (item : X → Y) (digest_of : Bool → Y → ℕ) where
+  -- an entry's number under the digests of its item
+  abbrev pub mark_of : X → Mark
+  mark_of entry = record { first = digest_of false (item entry); second = digest_of true (item entry); number = number entry }
+
+  abbrev pub marks_of : List X → List Mark
+  marks_of entries = map mark_of entries
+
+  -- the index has nothing but the marks of entries, of numbers below the next one, and from there on marks that were made ahead
+  pub record IsTight (entries : List X) (slots : BTreeSet Slot) (next : ℕ) (ahead : List Mark) : Type 0 where
+    pub kept : (key n : ℕ) → has slots key n ≡ true → n < next → is_marked (marks_of entries) key n ≡ true
+    pub made : (key n : ℕ) → has slots key n ≡ true → next ≤ n → is_marked ahead key n ≡ true
+    pub late : AreFrom next ahead
+
+  -- what the index has left it had, and what was a mark of an entry still is one
+  abbrev pub DropsMarks : List X → BTreeSet Slot → List X → BTreeSet Slot → Type 0
+  DropsMarks old before new after = (key n : ℕ) → has after key n ≡ true
+      → (has before key n ≡ true) × (is_marked (marks_of old) key n ≡ true → is_marked (marks_of new) key n ≡ true)
+
   -- the numbers rise from 1, and the index has each under the digests of its item
   pub record IsIndexed (entries : List X) (slots : BTreeSet Slot) : Type 0 where
     pub rising : AllPairs (λ left right. number left < number right) entries
@@ -52,3 +71,4 @@ module _ {X Y : Type 0} (number : X → ℕ) (item : X → Y) (digest_of : Bool 
     pub indexed : IsIndexed new after
     pub others : without_by test (map item new) ≡ without_by test (map item old)
     pub above : KeepsAbove number old before new after
+    pub drops : DropsMarks old before new after

@@ -5,8 +5,8 @@ ghost use Rattle.std.specs.Borrow.{sem};
 ghost use Rattle.std.specs.Option.{IfSome};
 ghost use Rattle.sw_index.specs.Named.{Fits, is_at, is_of, named_row, named_rows, values};
 
-use crate::row::{Row, drop_asked, first_asked, mark};
-use crate::slots::Slots;
+use crate::row::{Row, drop_asked, first_asked, mark_of};
+use crate::slots::{Mark, Slots, put_mark, take_marks};
 use std::alloc::Global;
 use std::collections::BTreeSet;
 use std::marker::Model;
@@ -37,12 +37,14 @@ pub struct Named<V> {
     rows: Vec<Row<V>>,
     slots: Slots,
     next: u64,
+    // The mark of a row that was made, until it or another one is there.
+    ahead: Vec<Mark>,
 }
 
 impl<V> Model for Named<V> {
     ghost use Rattle.std.specs.Prelude.{◌<◌, ◌-◌, ◌^◌, length, vec_len, vec_capacity};
     ghost use Rattle.sw_index.specs.Numbered.{AllBelow};
-    ghost use Rattle.sw_index.specs.Named.{AreIndexed, Listing, named_rows, number};
+    ghost use Rattle.sw_index.specs.Named.{AreIndexed, AreTight, Listing, named_rows, number};
 
     ghost Value = { Listing V };
 
@@ -56,7 +58,8 @@ impl<V> Model for Named<V> {
     ghost invariant = { λ named. AreIndexed named.rows.items named.slots
         × AllBelow number named.next named.rows.items
         × (0 < named.next)
-        × (length named.rows.items < 2 ^ 32) };
+        × (length named.rows.items < 2 ^ 32)
+        × AreTight named.rows.items named.slots named.next named.ahead.items };
 }
 
 impl<V> Named<V> {
@@ -70,6 +73,7 @@ impl<V> Named<V> {
             rows: Vec::new(alloc),
             slots: BTreeSet::new(alloc),
             next: 1,
+            ahead: Vec::new(alloc),
         }
     }
 
@@ -106,7 +110,12 @@ impl<V> Named<V> {
             return Err(NoMemory);
         }
         self.rows.reserve(1)?;
-        mark(&mut self.slots, &key, &name, self.next)?;
+        self.ahead.reserve(1)?;
+        take_marks(&mut self.slots, &self.ahead);
+        self.ahead.clear();
+        let mark = mark_of(&key, &name, self.next);
+        put_mark(&mut self.slots, mark)?;
+        self.ahead.push_reserved(mark);
         Ok(NewRow { key, name })
     }
 
@@ -123,6 +132,7 @@ impl<V> Named<V> {
             number: self.next,
         });
         self.next += 1;
+        self.ahead.clear();
     }
 
     /// The place of the first row of a key and a name; it takes no memory.

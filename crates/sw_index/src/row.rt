@@ -1,15 +1,14 @@
 //! Rows, and how an index finds them.
 
-ghost use Rattle.std.specs.Prelude.{◌≡◌, ◌<◌, ◌≤◌, Bool, true, MatchOption, OnOk, not, filter, position, option_copied, slice_index_or, vec_len};
+ghost use Rattle.std.specs.Prelude.{◌≡◌, ◌<◌, ◌≤◌, true, MatchOption, not, filter, position, option_copied, slice_index_or, vec_len};
 ghost use Rattle.std.specs.List.{All, AllPairs};
 ghost use Rattle.std.specs.Borrow.{sem};
-ghost use Rattle.sw_index.specs.Slots.{KeepsOthers, KeepsSlots, has};
 ghost use Rattle.sw_index.specs.Numbered.{KeepsAbove, NoneOfNumber, StandsAt};
-ghost use Rattle.sw_index.specs.Named.{AreIndexed, asked_digest, digest_by, is_asked, named_row, named_rows, number};
+ghost use Rattle.sw_index.specs.Named.{AreIndexed, DropMarks, asked_digest, is_asked, label_mark, named_row, named_rows, number};
 ghost use Rattle.sw_index.specs.Lends.{lends_row};
 
-use crate::slots::{Slots, digest, digest_from, mixed, next_number, put_number, take_number};
-use sw_data::{NoMemory, Text};
+use crate::slots::{Mark, Slots, digest, digest_from, mixed, next_number, take_mark};
+use sw_data::Text;
 
 /// A value under a key and a name.
 #[derive(Drop)]
@@ -42,22 +41,15 @@ fn asked_digest(key: &Text, name: Option<&Text>) -> u64
     }
 }
 
-// Puts a number under the digests of a key and a name.
-pub(crate) fn mark(slots: &mut Slots, key: &Text, name: &Text, number: u64) -> Result<(), NoMemory>
-    ensures keeps { KeepsSlots slots.old slots.new }
-    ensures marked { OnOk result ((kind : Bool)
-        → has slots.new (digest_by kind (key.now, name.now)) number ≡ true) }
+// The mark of a key and a name.
+pub(crate) fn mark_of(key: &Text, name: &Text, number: u64) -> Mark
+    ensures { result ≡ label_mark (key.now, name.now) number }
 {
-    put_number(slots, asked_digest(key, None), number)?;
-    put_number(slots, asked_digest(key, Some(name)), number)
-}
-
-// Takes a number from the digests of a key and a name.
-fn unmark(slots: &mut Slots, key: &Text, name: &Text, number: u64)
-    ensures { KeepsOthers number slots.old slots.new }
-{
-    take_number(slots, asked_digest(key, None), number);
-    take_number(slots, asked_digest(key, Some(name)), number);
+    Mark {
+        first: asked_digest(key, None),
+        second: asked_digest(key, Some(name)),
+        number,
+    }
 }
 
 // The place of the row of a number.
@@ -159,10 +151,11 @@ pub(crate) fn drop_asked<V: Drop>(
         ≡ filter (λ row. not (is_asked key.now (option_copied name.entry) row))
         (named_rows rows.old.items) }
     ensures above { KeepsAbove number rows.old.items slots.old rows.new.items slots.new }
+    ensures marks { DropMarks rows.old.items slots.old rows.new.items slots.new }
     ensures bound { vec_len rows.new ≤ vec_len rows.old }
 {
     while let Some(place) = first_asked(rows, slots, key, name) {
         let row = rows.remove(place);
-        unmark(slots, &row.key, &row.name, row.number);
+        take_mark(slots, mark_of(&row.key, &row.name, row.number));
     }
 }

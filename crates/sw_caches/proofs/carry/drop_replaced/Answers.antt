@@ -2,10 +2,10 @@ use Rattle.std.proofs.Common.{arith, refl, sym, ap, ◌∙◌, ◌++◌, ◌∷�
 use Rattle.std.proofs.lemmas.List.{take_more, map-append}
 use Rattle.sw_data.specs.Exchange.{no_options}
 use Rattle.sw_rules.specs.Batch.{without_matching}
-use Rattle.sw_caches.specs.Entries.{number, pair, pairs}
+use Rattle.sw_caches.specs.Entries.{number, pair, pair_digest, pairs}
 use Rattle.sw_caches.specs.Plans.{left_by}
 use Rattle.sw_caches.proofs.BatchLemmas.{left_put, left_nothing}
-use Rattle.sw_index.proofs.IndexLemmas.{above_more, above_same}
+use Rattle.sw_index.proofs.IndexLemmas.{above_more, above_same, drops_more}
 use Rattle.sw_caches.proofs.carry.drop_replaced.Goals as goal
 
 pub loop-entry-init : goal.loop-entry-init
@@ -13,6 +13,7 @@ loop-entry-init c = record {
   indexed = c.requires;
   pairs = sym (left_nothing (pairs c.args.entries.now.items));
   above = above_same number c.args.entries.now.items c.args.slots.now;
+  marks = λ key n h. (h, λ m. m);
   bound = omega arith;
   capacity = refl;
 }
@@ -32,6 +33,7 @@ loop-entry-preserved c =
           ∙ ap (λ puts. left_by [] puts old) (sym (map-append pair so_far (entry ∷ []))
           ∙ ap pairs (ap (λ item. so_far ++ item ∷ []) c.entry-item.is ∙ sym (take_more c.args.added.now at.entry-index entry c.loop-entry-test.true))))));
       above = above_more number c.args.entries.now.items at.entries.items c.drop_matching.new.entries.items c.args.slots.now at.slots c.drop_matching.new.slots at.invariant.above c.drop_matching.ensures.above;
+      marks = drops_more number pair pair_digest c.args.entries.now.items at.entries.items c.drop_matching.new.entries.items c.args.slots.now at.slots c.drop_matching.new.slots at.invariant.marks c.drop_matching.ensures.marks;
       bound = let h = at.invariant.bound in omega arith;
       capacity = c.drop_matching.ensures.capacity ∙ at.invariant.capacity;
     }

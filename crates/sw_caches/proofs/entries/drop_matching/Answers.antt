@@ -1,5 +1,6 @@
-use Rattle.std.proofs.Common.{arith, subst, sym, ◌∙◌, ◌<◌}
+use Rattle.std.proofs.Common.{ap, arith, subst, sym, ◌∙◌, ◌<◌}
 use Rattle.sw_rules.specs.Matching.{matches_pair}
+use Rattle.sw_caches.specs.Slots.{address_mark}
 use Rattle.sw_caches.specs.Entries.{number, pair, pair_digest}
 use Rattle.sw_index.proofs.FindLemmas.{none_reads, found_low}
 use Rattle.sw_index.proofs.IndexLemmas.{thinned_more}
@@ -16,7 +17,8 @@ remove-entry-requires c =
 pub loop-place-preserved : goal.loop-place-preserved
 loop-place-preserved c = record {
   thinned = rw c.remove-entry.ensures.items (thinned_more number pair pair_digest (matches_pair c.args.query.now c.args.options) _ _ _ c.loop-place.slots _ c.in-Some.place _ c.remove-entry.result c.loop-place.invariant.thinned
-      (rw c.deref.ensures.value at c.in-Some.ensures) c.remove-entry.ensures.value c.unmark.ensures);
+      (rw c.deref.ensures.value at c.in-Some.ensures) c.remove-entry.ensures.value
+      c.mark_of.result (c.mark_of.ensures ∙ ap (λ p. address_mark p.0.url c.remove-entry.result.number) c.deref-in-Some.ensures) c.take_mark.ensures.others c.take_mark.ensures.fewer c.take_mark.ensures.gone);
   bound = let h = c.loop-place.invariant.bound in omega arith;
   capacity = c.remove-entry.ensures.capacity ∙ c.loop-place.invariant.capacity;
 }

@@ -14,6 +14,6 @@ loop-op-init c =
       count = refl;
       draft = c.requires.draft;
       first = refl;
-      keeps = λ key n h. h;
+      below = λ key n h. refl;
       batch = λ old. rw (c.requires.new.0, c.requires.new.1, parts, left_nothing old) refl;
     }

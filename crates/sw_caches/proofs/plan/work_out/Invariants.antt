@@ -2,7 +2,7 @@ use Rattle.std.proofs.Common.{◌≡◌, ◌++◌, [], List, length}
 use Rattle.std.specs.Vec.Iter.{into_iter_items, into_iter_len}
 use Rattle.sw_rules.specs.Matching.{Pair}
 use Rattle.sw_rules.specs.Batch.{go}
-use Rattle.sw_index.specs.Slots.{KeepsSlots}
+use Rattle.sw_index.specs.Slots.{KeepsBelow}
 use Rattle.sw_caches.specs.Entries.{pairs}
 use Rattle.sw_caches.specs.Plans.{IsDraft, left_by}
 use Rattle.sw_caches.proofs.plan.work_out.Given as goal
@@ -17,7 +17,7 @@ invariant-loop-op l = record {
   count : l.at ≡ length l.yielded;
   draft : IsDraft l.plan l.slots;
   first : l.plan.first ≡ l.initial.plan.first;
-  keeps : KeepsSlots l.initial.slots l.slots;
+  below : KeepsBelow l.initial.plan.first l.initial.slots l.slots;
   batch : (old : List Pair) → go old [] 0 l.fn.ops.items
       ≡ go (left_by l.plan.deletes.items (pairs l.plan.added.items) old) (pairs l.plan.added.items) l.at (into_iter_items l.op-iterator);
 }

@@ -20,7 +20,7 @@ loop-place-preserved g c =
     let first = found_position test (named_rows c.loop-place.rows.items) c.in-Some.place (rw c.deref.ensures.value at c.in-Some.ensures) in
     record {
       thinned = rw c.remove-row.ensures.items (thinned_more number named_row row_digest test _ _ c.loop-place.rows.items c.loop-place.slots _ c.in-Some.place first.0 c.remove-row.result c.loop-place.invariant.thinned
-          first.1 c.remove-row.ensures.value c.unmark.ensures);
+          first.1 c.remove-row.ensures.value c.mark_of.result c.mark_of.ensures c.take_mark.ensures.others c.take_mark.ensures.fewer c.take_mark.ensures.gone);
       bound = let h = c.loop-place.invariant.bound in let l = c.remove-row.ensures.len in omega (arith, h, l);
     }
 

@@ -1,4 +1,4 @@
-use Rattle.sw_index.proofs.SlotLemmas.{fewer_slots, slot_gone}
+use Rattle.sw_index.proofs.SlotLemmas.{fewer_slots, none_more, slot_gone}
 use Rattle.sw_index.proofs.slots.take_number.Goals as goal
 
 pub returns-clause-others : goal.returns-clause-others
@@ -6,3 +6,6 @@ returns-clause-others c key n other = fewer_slots c.args.slots.now c.remove.new.
 
 pub returns-clause-gone : goal.returns-clause-gone
 returns-clause-gone c = slot_gone c.args.slots.now c.remove.new.self c.args.key c.args.number c.remove.ensures.updates
+
+pub returns-clause-fewer : goal.returns-clause-fewer
+returns-clause-fewer c = none_more c.args.slots.now c.remove.new.self c.args.key c.args.number c.remove.ensures.updates

@@ -2,11 +2,12 @@ use Rattle.std.proofs.Common.{arith, rules, ◌≡◌, ◌≤◌, ◌+◌, ◌-�
 use Rattle.std.specs.Prelude.{vec_len, vec_capacity}
 use Rattle.std.specs.Result.{is_ok}
 use Rattle.std.proofs.lemmas.List.{length-append, map-append, length-map}
+use Rattle.sw_index.specs.Slots.{has}
 use Rattle.sw_index.specs.Numbered.{AllBelow, KeepsAbove}
-use Rattle.sw_caches.specs.Entries.{AreIndexed, number, pair, pair_digest, pairs}
+use Rattle.sw_caches.specs.Entries.{AreIndexed, DropMarks, number, pair, pair_digest, pairs}
 use Rattle.sw_caches.specs.Plans.{left_by}
 use Rattle.sw_caches.proofs.BatchLemmas.{left_both}
-use Rattle.sw_index.proofs.IndexLemmas.{above_more, below_all, beside, joined}
+use Rattle.sw_index.proofs.IndexLemmas.{above_more, arrived, below_all, beside, drops_more, joined}
 use Rattle.sw_caches.proofs.pairs.Pairs.carry_out.Goals as goal
 
 pub invariant_of-self : goal.invariant_of-self
@@ -22,6 +23,8 @@ invariant_of-self c =
     let above : KeepsAbove number was.entries.items was.slots new.entries.items new.slots =
     above_more number was.entries.items c.drop_deleted.new.entries.items new.entries.items was.slots c.drop_deleted.new.slots new.slots c.drop_deleted.ensures.above c.drop_replaced.ensures.above in
     let low = (above plan.first old_low).0 in
+    let drops : DropMarks was.entries.items was.slots new.entries.items new.slots =
+    drops_more number pair pair_digest was.entries.items c.drop_deleted.new.entries.items new.entries.items was.slots c.drop_deleted.new.slots new.slots c.drop_deleted.ensures.marks c.drop_replaced.ensures.marks in
     let indexed : AreIndexed plan.added.items was.slots = subst (AreIndexed plan.added.items) (sym slots) c.requires.draft.indexed in
     let added : AreIndexed plan.added.items new.slots = beside number pair pair_digest was.entries.items new.entries.items plan.added.items was.slots new.slots plan.first above old_low c.requires.draft.high indexed in
     let room : vec_len new.entries + vec_len plan.added ≤ vec_capacity new.entries =
@@ -31,7 +34,7 @@ invariant_of-self c =
     let fits = c.requires.room in
     omega (arith, was.entries.ok, plan.added.ok, fits, first_bound, bound, capacity, spare) in
     let is : is_ok c.append.result ≡ true = search (rules, c.append.ensures.succeeds room) in
-    rw (c.append.ensures.items, is) (
+    rw (c.append.ensures.items, c.clear.ensures.items, is) (
       joined number pair pair_digest new.entries.items plan.added.items new.slots plan.first low c.requires.draft.high c.drop_replaced.ensures.indexed added,
       below_all number new.entries.items plan.added.items plan.first plan.next c.requires.draft.later low c.requires.draft.low,
       (let start = c.requires.draft.start in let later = c.requires.draft.later in omega (arith, start, later)),
@@ -39,6 +42,9 @@ invariant_of-self c =
           let bound = c.drop_replaced.ensures.bound in
           let few = c.requires.few in
           omega (arith, length-append new.entries.items plan.added.items, was.entries.ok, new.entries.ok, first_bound, bound, count, few)),
+      arrived number pair pair_digest new.entries.items plan.added.items new.slots plan.first plan.next c.requires.draft.later c.requires.draft.low
+          (λ key n h l. (drops key n h).1 (c.self.invariant.4.kept key n (drops key n h).0 (omega (arith, first, l))))
+          (λ key n h le. c.requires.draft.tight key n le (subst (λ s. has s key n ≡ true) slots (drops key n h).0)),
     )
 
 pub returns : goal.returns

@@ -1,10 +1,11 @@
-use Rattle.std.proofs.Common.{◌≡◌, ◌∙◌, ap, sym, arith, length, ◌+◌, ◌<◌}
+use Rattle.std.proofs.Common.{◌≡◌, ◌∙◌, ◌∷◌, [], true, ℕ, ap, refl, sym, subst, arith, length, ◌+◌, ◌<◌, ◌≤◌}
 use Rattle.std.proofs.lemmas.List.{length-map, length_push}
 use Rattle.std.proofs.lemmas.List.Elements.{All-push}
 use Rattle.sw_index.specs.declared.row.Row.{Row}
-use Rattle.sw_index.specs.Slots.{has}
-use Rattle.sw_index.specs.Named.{digest_by, named_row, number, row_digest}
-use Rattle.sw_index.proofs.IndexLemmas.{added}
+use Rattle.sw_index.specs.Slots.{has, is_marked, is_under}
+use Rattle.sw_index.specs.Numbered.{marks_of}
+use Rattle.sw_index.specs.Named.{digest_by, label_mark, named_row, number, row_digest}
+use Rattle.sw_index.proofs.IndexLemmas.{added, arrived}
 use Rattle.sw_index.proofs.named.Named.put.Goals as goal
 
 pub invariant_of-self : goal.invariant_of-self
@@ -20,10 +21,17 @@ invariant_of-self g c =
     let few = c.requires.few in
     let last = c.requires.last in
     let start = c.self.invariant.2 in
-    rw c.push_reserved.ensures.items (
+    let made_for : (k n : ℕ) → has was.slots k n ≡ true → was.next ≤ n → is_marked (marks_of number named_row row_digest (row ∷ [])) k n ≡ true =
+    λ k n h l.
+    let only : is_under (label_mark (made.key, made.name) was.next) k n ≡ true =
+    (λ i. is_under (label_mark (key i, name i) (next i)) k n) ∙ c.requires.only k n (subst (λ s. has s k n ≡ true) slots h) (omega (arith, next, l)) in
+    rw only refl in
+    rw (c.push_reserved.ensures.items, c.clear.ensures.items) (
       added number named_row row_digest was.rows.items row was.slots c.self.invariant.1 (start, omega (arith, last, next))
           (λ kind. (λ i. has (slots i) (digest_by kind (key i, name i)) (next i)) ∙ c.requires.indexed kind) c.self.invariant.0,
       All-push (λ entry. number entry < was.next + 1) was.rows.items row (λ k d l. let low = c.self.invariant.1 k d l in omega (arith, low)) (omega arith),
       omega arith,
       omega (arith, length_push was.rows.items row, count, few),
+      arrived number named_row row_digest was.rows.items (row ∷ []) was.slots was.next (was.next + 1) (omega arith) (All-push (λ entry. number entry < was.next + 1) [] row (λ k d l. absurd (omega arith)) (omega arith))
+          c.self.invariant.4.kept made_for,
     )

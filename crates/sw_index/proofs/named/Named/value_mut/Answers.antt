@@ -2,7 +2,7 @@ use Rattle.std.proofs.Common.{◌<◌, ◌∙◌, refl, sym, ap, arith, length, 
 use Rattle.std.proofs.lemmas.List.{get_or_read, length-map, length-set}
 use Rattle.sw_index.specs.declared.row.Row.{Row}
 use Rattle.sw_index.specs.Named.{named_row, number, row_digest}
-use Rattle.sw_index.proofs.IndexLemmas.{replaced, same_but}
+use Rattle.sw_index.proofs.IndexLemmas.{replaced, same_but, same_marks}
 use Rattle.sw_index.proofs.RowLemmas.{value_at, value_set}
 use Rattle.sw_index.proofs.named.Named.value_mut.Goals as goal
 
@@ -19,6 +19,7 @@ invariant_of-self-lent g c w =
       (λ k d l. let same = same_but number was place new within (λ e. ap number (is e)) k d in let below = c.self.invariant.1 k d (omega (arith, length-set was place new)) in omega (arith, same, below)),
       c.self.invariant.2,
       (let few = c.self.invariant.3 in omega (arith, length-set was place new, few)),
+      same_marks number named_row row_digest was c.self.inside.slots place new c.self.inside.next c.self.inside.ahead.items within (ap number (is new)) (λ kind. ap (λ item. row_digest kind (named_row item)) (is new)) c.self.invariant.4,
     )
 
 pub returns : goal.returns
