@@ -1,7 +1,7 @@
 //! Caches as pages meet them: made once, the quota, and the index beside a plain scan.
 use std::alloc::Global;
 use std::test::Fail;
-use sw_caches::{BatchFault, Caches, apply_ops};
+use sw_caches::{BatchFault, Caches, Entry, apply_ops};
 use sw_data::{Bytes, Header, Items, NoMemory, Op, Options, Request, Response, Text};
 use sw_match::query;
 
@@ -115,6 +115,15 @@ fn step(alloc: Global, turn: u32) -> Result<Vec<Op>, NoMemory> {
     Ok(ops)
 }
 
+// The entries are these pairs, in order.
+fn has_pairs(entries: &[Entry], list: &[(Request, Response)]) -> bool {
+    entries.len() == list.len()
+        && entries.iter().zip(list.iter()).all(|(entry, pair)| {
+            let (request, response) = entry.pair();
+            request.url == pair.0.url && response.status == pair.1.status
+        })
+}
+
 #[test]
 fn index(rt: HostRuntime) -> Result<(), Fail> {
     let alloc = rt.alloc();
@@ -132,6 +141,11 @@ fn index(rt: HostRuntime) -> Result<(), Fail> {
             Ok(())
         );
         assert!(rt; caches.len_of(&key, &name) == Some(list.len()));
+        let same = match caches.pairs(&key, &name) {
+            Some(pairs) => has_pairs(pairs, list.as_slice()),
+            None => false,
+        };
+        assert!(rt; same && caches.pairs(&name, &key).is_none());
         for url in [
             "https://a.test/x",
             "https://a.test/x?q",

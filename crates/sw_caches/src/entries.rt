@@ -17,11 +17,20 @@ use sw_match::{finds_nothing, matches_pair, number_of};
 // A request and the response that is kept under it.
 pub(crate) type Pair = (Request, Response);
 
-// A pair behind its number.
+/// A request and the response that a cache keeps under it.
 #[derive(Drop)]
-pub(crate) struct Entry {
+pub struct Entry {
     pub(crate) number: u64,
     pub(crate) pair: Box<Pair>,
+}
+
+impl Entry {
+    /// The request and the response; it takes no memory.
+    pub fn pair(&self) -> &(Request, Response)
+        ensures { result.now ≡ pair self.now }
+    {
+        &self.pair
+    }
 }
 
 // The place of the entry of a number.

@@ -20,6 +20,7 @@ mod rules;
 mod slots;
 mod table;
 
+pub use entries::Entry;
 pub use fault::{BatchFault, CacheFault};
 pub use hits::Found;
 pub use ops::apply_ops;

@@ -7,7 +7,7 @@ ghost use Rattle.sw_rules.specs.Matching.{Pair, first_match, query_of};
 ghost use Rattle.sw_data.specs.Sizes.{op_size};
 ghost use Rattle.sw_rules.specs.Batch.{batch};
 ghost use Rattle.sw_index.specs.Slots.{KeepsBelow, KeepsSlots};
-ghost use Rattle.sw_caches.specs.Entries.{marks};
+ghost use Rattle.sw_caches.specs.Entries.{marks, pairs};
 ghost use Rattle.sw_caches.specs.Plans.{Fits, IsDraft, IsThrown, carried};
 
 use crate::carry::{drop_deleted, drop_replaced};
@@ -107,6 +107,13 @@ impl Pairs {
         ensures { result ≡ length self.now.pairs }
     {
         self.entries.len()
+    }
+
+    // The pairs in order.
+    pub(crate) fn entries(&self) -> &[Entry]
+        ensures { pairs result.now ≡ self.now.pairs }
+    {
+        &self.entries
     }
 
     // The pair at a place.

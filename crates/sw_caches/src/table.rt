@@ -10,10 +10,12 @@ ghost use Rattle.sw_data.specs.declared.storage.KeptCache.{KeptCache};
 ghost use Rattle.sw_rules.specs.Batch.{batch};
 ghost use Rattle.sw_data.specs.declared.answers.Answer.TheVariants as answer;
 ghost use Rattle.std.specs.Option.{option_map_or};
+ghost use Rattle.sw_caches.specs.Entries.{pairs};
 ghost use Rattle.sw_caches.specs.Hits.{found_answer};
 ghost use Rattle.sw_caches.specs.Plans.{Fits, IsThrown, carried};
 ghost use Rattle.sw_caches.specs.Tables.{FitsNew, FitsTable, IsBatch, IsRefused, asked_places, caches_of, carried_rows, empty_cache, hit_from, key_and_name};
 
+use crate::entries::Entry;
 use crate::fault::{BatchFault, CacheFault};
 use crate::hits::{Found, first_found, first_hit};
 use crate::pairs::Pairs;
@@ -128,11 +130,11 @@ impl Caches {
     pub fn has(&self, key: &Text, name: &Text) -> bool
         ensures { result ≡ is_some (pairs_of key.now name.now self.now.rows) }
     {
-        self.pairs(key, name).is_some()
+        self.cache(key, name).is_some()
     }
 
-    // The pairs of the cache of this name.
-    fn pairs(&self, key: &Text, name: &Text) -> Option<&Pairs>
+    // The cache of this name.
+    fn cache(&self, key: &Text, name: &Text) -> Option<&Pairs>
         ensures { option_map (λ pairs. pairs.now.pairs) result
             ≡ pairs_of key.now name.now self.now.rows }
     {
@@ -236,11 +238,22 @@ impl Caches {
         }
     }
 
+    /// The pairs of the cache of this name, in order; it takes no memory.
+    pub fn pairs(&self, key: &Text, name: &Text) -> Option<&[Entry]>
+        ensures { option_map (λ entries. pairs entries.now) result
+            ≡ pairs_of key.now name.now self.now.rows }
+    {
+        match self.cache(key, name) {
+            Some(pairs) => Some(pairs.entries()),
+            None => None,
+        }
+    }
+
     /// How many pairs the cache of this name has; it takes no memory.
     pub fn len_of(&self, key: &Text, name: &Text) -> Option<usize>
         ensures { result ≡ option_map length (pairs_of key.now name.now self.now.rows) }
     {
-        match self.pairs(key, name) {
+        match self.cache(key, name) {
             Some(pairs) => Some(pairs.len()),
             None => None,
         }
@@ -251,7 +264,7 @@ impl Caches {
         ensures { option_copied result ≡ option_and_then (λ pairs. slice_get pairs place)
             (pairs_of key.now name.now self.now.rows) }
     {
-        match self.pairs(key, name) {
+        match self.cache(key, name) {
             Some(pairs) => pairs.get(place as usize),
             None => None,
         }
@@ -340,7 +353,7 @@ impl Caches {
         ensures gone { IsErrOf result CacheFault.CacheGone
             ↔ (pairs_of key.now name.now self.now.rows ≡ None) }
     {
-        match self.pairs(key, name) {
+        match self.cache(key, name) {
             Some(pairs) => Ok(pairs.places(alloc, query, options)?),
             None => Err(CacheFault::CacheGone),
         }
@@ -374,7 +387,7 @@ impl Caches {
         ensures gone { IsErrOf result CacheFault.CacheGone
             ↔ (pairs_of key.now name.now self.now.rows ≡ None) }
     {
-        match self.pairs(key, name) {
+        match self.cache(key, name) {
             Some(pairs) => Ok(pairs.all(alloc)?),
             None => Err(CacheFault::CacheGone),
         }
@@ -391,7 +404,7 @@ impl Caches {
         ensures { result ≡ option_map (λ pairs. is_some (first_match pairs query.now options))
             (pairs_of key.now name.now self.now.rows) }
     {
-        match self.pairs(key, name) {
+        match self.cache(key, name) {
             Some(pairs) => Some(pairs.first(query, options).is_some()),
             None => None,
         }
