@@ -1,4 +1,0 @@
-use Rattle.sw_table_tests.proofs.scope.longest.Given as goal
-
-abbrev pub ghosts-counted : goal.ghosts-counted
-ghosts-counted a = record { name = a.blank.name; parts = a.blank.parts }
