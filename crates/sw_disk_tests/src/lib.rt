@@ -1,0 +1,12 @@
+//! Tests of disks, journals and the two parts: crashes, calls that fail, and real files. Nothing stands on them: a crate with
+//! tests is proved twice.
+#![tactic(auto)]
+
+#[cfg(test)]
+mod devices;
+#[cfg(test)]
+mod disk;
+#[cfg(test)]
+mod journal;
+#[cfg(test)]
+mod twin;
