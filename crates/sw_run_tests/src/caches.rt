@@ -1,7 +1,7 @@
 //! The index of a cache beside a plain scan of its pairs.
 use std::alloc::Global;
 use std::process::Abort;
-use sw_caches::{Caches, apply_ops};
+use sw_caches::{Caches, Entry, apply_ops};
 use sw_data::{Bytes, Header, Items, NoMemory, Op, Options, Request, Response, Text};
 use sw_match::query;
 
@@ -82,6 +82,18 @@ fn step(alloc: Global, turn: u32) -> Result<Vec<Op>, NoMemory> {
     Ok(ops)
 }
 
+// A cache has these pairs, in order.
+fn has_pairs(entries: Option<&[Entry]>, list: &[(Request, Response)]) -> bool {
+    let Some(entries) = entries else {
+        return false;
+    };
+    entries.len() == list.len()
+        && entries.iter().zip(list.iter()).all(|(entry, pair)| {
+            let (request, response) = entry.pair();
+            request.url == pair.0.url && response.status == pair.1.status
+        })
+}
+
 // Carries out a step on a list by a scan, and on a cache by its index.
 fn both(
     rt: &impl Abort,
@@ -96,6 +108,7 @@ fn both(
     apply_ops(alloc, list, scanned.as_slice()).is_ok()
         && caches.batch(alloc, &names.0, &names.1, found).is_ok()
         && caches.len_of(&names.0, &names.1) == Some(list.len())
+        && has_pairs(caches.pairs(&names.0, &names.1), list.as_slice())
 }
 
 // Whether a query finds by the index what it finds by a scan.
