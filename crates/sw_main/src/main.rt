@@ -26,6 +26,7 @@ use std::env::{Args, args};
 use std::fs::{File, OpenOptions};
 use std::io;
 use std::io::ErrorKind;
+use std::os::unix::fs::OpenOptionsExt;
 use std::process::ExitCode;
 use std::sync::Wait;
 use std::thread::Threads;
@@ -119,13 +120,22 @@ fn words_of(alloc: Global, arguments: io::Result<Args>) -> Result<Vec<String>, N
     }
 }
 
-// A file of the current folder, which is made where there is none.
+// A file of the current folder, which is made where there is none, for its owner alone.
 fn file(rt: &HostRuntime, name: &str) -> Option<File> {
     let mut options = OpenOptions::new();
     options.read(true);
     options.write(true);
     options.create(true);
+    options.mode(0o600);
     options.open(rt, name).ok()
+}
+
+// The file, where no other run holds it; then this run does until it ends.
+fn held(file: File) -> Option<File> {
+    match file.try_lock() {
+        Ok(()) => Some(file),
+        Err(_) => None,
+    }
 }
 
 // The disk of the current folder; one without files where the words don't ask for it.
@@ -137,7 +147,7 @@ fn disk_for(rt: &HostRuntime, words: &[String]) -> FileDisk
         return FileDisk::new(None, None, None);
     }
     FileDisk::new(
-        file(rt, "swhost.root"),
+        file(rt, "swhost.root").and_then(held),
         file(rt, "swhost.left"),
         file(rt, "swhost.right"),
     )
