@@ -24,6 +24,9 @@ const PUT_FRONT: &str =
 const TWO_PAGES: &str =
     "{\"fetch\":\"https://a.test/sw.js\",\"status\":200,\"headers\":[[\"Content-Type\",\"text/javascript\"]],\"text\":\"// a\"}\n{\"fetch\":\"https://b.test/sw.js\",\"status\":200,\"headers\":[[\"Content-Type\",\"text/javascript\"]],\"text\":\"// b\"}\n{\"lane\":0,\"do\":\"open\",\"client\":1,\"url\":\"https://a.test/\"}\n{\"lane\":0,\"do\":\"register\",\"client\":1,\"script\":\"/sw.js\"}\n{\"lane\":0,\"do\":\"await\",\"of\":1}\n{\"lane\":0,\"do\":\"ready\",\"client\":1}\n{\"lane\":0,\"do\":\"cacheOpen\",\"at\":\"https://a.test/\",\"name\":\"v\"}\n{\"lane\":1,\"do\":\"open\",\"client\":2,\"url\":\"https://b.test/\"}\n{\"lane\":1,\"do\":\"register\",\"client\":2,\"script\":\"/sw.js\"}\n{\"lane\":1,\"do\":\"await\",\"of\":1}\n{\"lane\":1,\"do\":\"ready\",\"client\":2}\n";
 
+// A run of one of these makes no more calls of its disk.
+const CALLS: u64 = 40;
+
 // The words of a line.
 fn words(rt: &impl Abort, alloc: Global, line: &str) -> Vec<String> {
     let mut all = Vec::new(alloc);
@@ -34,9 +37,19 @@ fn words(rt: &impl Abort, alloc: Global, line: &str) -> Vec<String> {
     all
 }
 
-fn source(rt: &impl Abort, alloc: Global, lines: &str) -> MemorySource {
+// The numbers of calls that fail: this one alone, or none.
+fn calls(rt: &impl Abort, alloc: Global, failing: Option<u64>) -> Vec<u64> {
+    let mut calls = Vec::new(alloc);
+    if let Some(call) = failing {
+        calls.push(call).expect(rt, "memory");
+    }
+    calls
+}
+
+// A source of these lines, one of whose reads may fail.
+fn source(rt: &impl Abort, alloc: Global, lines: &str, failing: Option<u64>) -> MemorySource {
     let lines = Bytes::of(alloc, lines.as_bytes()).expect(rt, "memory");
-    MemorySource::new(lines, Vec::new(alloc))
+    MemorySource::new(lines, calls(rt, alloc, failing))
 }
 
 // Runs a command on a disk, and gives the status, what was written, and the disk.
@@ -49,7 +62,7 @@ fn ran<R: Threads + Wait + Sync + Abort, G: Gate + Sync>(
     gate: &G,
 ) -> (Status, MemorySink, MemoryDisk) {
     let words = words(rt, alloc, line);
-    let mut source = source(rt, alloc, lines);
+    let mut source = source(rt, alloc, lines, None);
     let mut sink = MemorySink::new(alloc, Vec::new(alloc));
     let Outcome { status, disk } = run(rt, alloc, &words, &mut source, &mut sink, disk, gate);
     (status, sink, disk)
@@ -95,6 +108,29 @@ fn a_fault_in_a_run_is_told(rt: HostRuntime) {
         let disk = failing(&rt, alloc, call, number, number);
         assert!(rt; fails(&rt, alloc, OPEN_THREE, disk, three), "{call:?}");
     }
+}
+
+// A recording is replayed from a source and to a sink of which a call may fail: the status, and what was written.
+fn streamed<R: Threads + Wait + Sync + Abort>(
+    rt: &R,
+    alloc: Global,
+    read: Option<u64>,
+    write: Option<u64>,
+) -> (Status, MemorySink) {
+    let words = words(rt, alloc, "replay");
+    let mut source = source(rt, alloc, OPEN, read);
+    let mut sink = MemorySink::new(alloc, calls(rt, alloc, write));
+    let disk = stopping(rt, alloc, CALLS);
+    let Outcome { status, .. } = run(rt, alloc, &words, &mut source, &mut sink, disk, &NoGate);
+    (status, sink)
+}
+
+#[test]
+fn a_read_or_a_write_that_fails_is_told(rt: HostRuntime) {
+    let (status, sink) = streamed(&rt, rt.alloc(), Some(0), None);
+    assert!(rt; status.code() == 4 && sink.bytes() == b"error: read\n");
+    let (status, sink) = streamed(&rt, rt.alloc(), None, Some(0));
+    assert!(rt; status.code() == 5 && sink.bytes().is_empty());
 }
 
 // A recording that keeps a body of 1 MiB, after which what is kept is written anew.
@@ -149,7 +185,7 @@ fn acknowledged(transcript: &[u8]) -> usize {
 }
 
 // A run that is stopped at a call of its disk, which is then crashed, with what was in doubt picked in one way, keeps what
-// some of the changing entries made, and never fewer than were acknowledged.
+// some of the changing entries made, and never fewer than were acknowledged; one that isn't stopped comes to its end.
 fn keeps<R: Threads + Wait + Sync + Abort>(
     rt: &R,
     alloc: Global,
@@ -164,6 +200,7 @@ fn keeps<R: Threads + Wait + Sync + Abort>(
     let kept = shown(rt, alloc, left);
     matches!(kept, Some(count) if count >= least)
         && (status != Status::Done || least == CHANGING.len())
+        && (status == Status::Done || after < CALLS)
 }
 
 // How many of the changing entries a disk keeps.
@@ -190,7 +227,7 @@ const PICKS: [[u8; 16]; 7] = [
 
 #[test]
 fn a_crash_leaves_what_was_acknowledged(rt: HostRuntime) {
-    for after in 0..40 {
+    for after in 0..=CALLS {
         for pick in &PICKS {
             assert!(rt; keeps(&rt, rt.alloc(), "replay", after, pick), "{after}");
         }
@@ -199,7 +236,7 @@ fn a_crash_leaves_what_was_acknowledged(rt: HostRuntime) {
 
 #[test]
 fn a_crash_leaves_what_sixteen_workers_acknowledged(rt: HostRuntime) {
-    for after in 0..40 {
+    for after in 0..=CALLS {
         for pick in [&PICKS[1], &PICKS[5]] {
             assert!(rt; keeps(&rt, rt.alloc(), "replay 16", after, pick), "{after}");
         }
