@@ -158,7 +158,7 @@ module _ {D : Type 0} (disk : Ghosts D) (start now : D) (store : StoreState) (op
         older = λ format. (
           (on.noted.anew format).0,
           (on.noted.anew format).1.0,
-          omega (arith, (on.noted.anew format).1.1, on.noted.fits, limit)
+          omega (arith, (on.noted.anew format).1.1, on.noted.fits, limit),
         );
       }
 
