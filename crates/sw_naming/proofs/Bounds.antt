@@ -1,5 +1,5 @@
--- The numbers that a mark holds are those of lanes and rows, and so they are below 2^64.
-use Rattle.std.proofs.Common.{◌≡◌, ℕ, ◌<◌, ◌≤◌, ◌^◌, Bool, true, false, ◌&&◌, ◌==◌, nat_lt, List, length, Option, Some, None, refl, arith, option_and_then, option_map, slice_get, if◌then◌else◌}
+-- The numbers that a mark holds are those of lanes and rows, and so they are below the most of these.
+use Rattle.std.proofs.Common.{◌≡◌, ℕ, ◌<◌, ◌≤◌, Bool, true, false, ◌&&◌, ◌==◌, nat_lt, List, length, Option, Some, None, refl, arith, option_and_then, option_map, slice_get, if◌then◌else◌}
 use Rattle.std.specs.Prelude.{find}
 use Rattle.std.proofs.lemmas.Bool.Decides.{nat_tests}
 use Rattle.std.proofs.lemmas.Option.{slice_get_past}
@@ -22,7 +22,7 @@ use Rattle.sw_rules.specs.Told.{Outcome}
 use Rattle.sw_laws.specs.Coherent.{Coherent, ArePlaces, is_place}
 use Rattle.sw_laws.proofs.Lists.{any_weaker, find_passes}
 use Rattle.sw_laws.proofs.Places.{all_at_found, found_any, places_below}
-use Rattle.sw_naming.specs.Naming.{Fits}
+use Rattle.sw_naming.specs.Naming.{AreFew}
 use Rattle.sw_naming.proofs.HostEvents.{HostForm, named_number}
 
 -- ---- rows
@@ -55,31 +55,31 @@ by_host_there who.Host x o is = is
 by_host_there (who.Lane lane at) x o is = absurd cc
 by_host_there (who.Handler worker p number) x o is = absurd cc
 
-module _ (recording : Recording) (state : State) (sound : Coherent state) (fits : Fits recording state) where
-  job_fits : (number : ℕ) (row : JobRow) → job_row state number ≡ Some row → number < 2 ^ 64
+module _ {most : ℕ} (recording : Recording) (state : State) (sound : Coherent state) (fits : AreFew most recording state) where
+  job_fits : (number : ℕ) (row : JobRow) → job_row state number ≡ Some row → number < most
   job_fits number row is = let below = found_below (λ (x : JobRow). x.job.number) state.jobs number row sound.jobs.numbers is in omega (arith, below, fits.jobs)
 
-  worker_fits : (number : ℕ) (row : Worker) → worker_row state number ≡ Some row → number < 2 ^ 64
+  worker_fits : (number : ℕ) (row : Worker) → worker_row state number ≡ Some row → number < most
   worker_fits number row is = let below = found_below (λ (x : Worker). x.number) state.workers number row sound.workers.numbers is in omega (arith, below, fits.workers)
 
-  task_fits : (number : ℕ) (row : AddAll) → task_row state number ≡ Some row → number < 2 ^ 64
+  task_fits : (number : ℕ) (row : AddAll) → task_row state number ≡ Some row → number < most
   task_fits number row is = let below = found_below (λ (x : AddAll). x.number) state.tasks number row sound.tasks.numbers is in omega (arith, below, fits.tasks)
 
-  owed_fits : (number : ℕ) → is_owed state number ≡ true → number < 2 ^ 64
+  owed_fits : (number : ℕ) → is_owed state number ≡ true → number < most
   owed_fits number is =
       let there = found_any (is_registration number) state.registrations (any_weaker (λ (row : Registration). row.number == number && row.owed) _ (λ row here. grind (arith, here)) state.registrations is) in
       let below = found_below (λ (x : Registration). x.number) state.registrations number there.0 sound.registrations.numbers there.1 in
       omega (arith, below, fits.registrations)
 
   -- a job in a phase
-  phase_fits : (test : JobRow → Bool) (number : ℕ) (f : JobRow → Option Outcome) (o : Outcome) → option_and_then f (job_in test state number) ≡ Some o → number < 2 ^ 64
+  phase_fits : (test : JobRow → Bool) (number : ℕ) (f : JobRow → Option Outcome) (o : Outcome) → option_and_then f (job_in test state number) ≡ Some o → number < most
   phase_fits test number f o is =
       let row = (bound_there f (job_in test state number) o is) in
       let there = bound_there _ (job_row state number) row.0 row.1 in
       job_fits number there.0 there.1
 
   -- the number of a host's event
-  pub number_fits : (happened : Event) (o : Outcome) → HostForm happened → step state happened ≡ Some o → named_number happened < 2 ^ 64
+  pub number_fits : (happened : Event) (o : Outcome) → HostForm happened → step state happened ≡ Some o → named_number happened < most
   unfolding step
   number_fits (event.Run maker job) o host is = let there = elim_there _ (job_row state job) o (by_host_there maker _ o is) in job_fits job there.0 there.1
   number_fits (event.Fetched maker job line) o host is = phase_fits _ job _ o (by_host_there maker _ o is)
@@ -91,14 +91,14 @@ module _ (recording : Recording) (state : State) (sound : Coherent state) (fits 
   number_fits _ o host is = absurd host
 
   -- the worker of a handler that makes a call
-  pub handler_fits : (worker : ℕ) (p : Phase) (number : ℕ) (called : Call) (o : Outcome) → make_call state (who.Handler worker p number) called ≡ Some o → worker < 2 ^ 64
+  pub handler_fits : (worker : ℕ) (p : Phase) (number : ℕ) (called : Call) (o : Outcome) → make_call state (who.Handler worker p number) called ≡ Some o → worker < most
   handler_fits worker p number called o is = let there = bound_there _ (worker_row state worker) o is in worker_fits worker there.0 there.1
 
   -- a lane with an action
-  pub lane_fits : (lane at : ℕ) (happened : Event) → recorded_event recording lane at ≡ Some happened → lane < 2 ^ 64
+  pub lane_fits : (lane at : ℕ) (happened : Event) → recorded_event recording lane at ≡ Some happened → lane < most
   lane_fits lane at happened is = by (nat_lt lane (length recording.lanes)) refl
     where
-      by : (b : Bool) → nat_lt lane (length recording.lanes) ≡ b → lane < 2 ^ 64
+      by : (b : Bool) → nat_lt lane (length recording.lanes) ≡ b → lane < most
       by true below = let small : lane < length recording.lanes = grind (arith, nat_tests, below) in omega (arith, small, fits.lanes)
       by false past =
           let beyond : length recording.lanes ≤ lane = grind (arith, nat_tests, past) in

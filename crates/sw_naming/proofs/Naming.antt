@@ -45,7 +45,7 @@ pub some_same : {A : Type 0} (x y : A) → Some x ≡ Some y → x ≡ y
 some_same x y is = cc
 
 -- the lanes have made equally many of these entries as of those
-abbrev MadeAlike : List Entry → List Entry → Type 0
+abbrev pub MadeAlike : List Entry → List Entry → Type 0
 MadeAlike b c = (lane : ℕ) → made_by lane b ≡ made_by lane c
 
 same_lane_event : (recording : Recording) (b c : List Entry) (one other : Entry) (lane at next : ℕ) → MadeAlike b c → one.who ≡ who.Lane lane at → other.who ≡ who.Lane lane next
@@ -178,7 +178,7 @@ same_rest one other same =
     ∙ ap (λ (n : List Notice). rest_of_line (record one { answer = other.answer; notices = n })) same.notices
 
 -- two entries of one maker are counted alike
-made_further : (b c : List Entry) (one other : Entry) → one.who ≡ other.who → MadeAlike b c → MadeAlike (b ++ one ∷ []) (c ++ other ∷ [])
+pub made_further : (b c : List Entry) (one other : Entry) → one.who ≡ other.who → MadeAlike b c → MadeAlike (b ++ one ∷ []) (c ++ other ∷ [])
 made_further b c one other same alike lane =
     let counts = λ (entry : Entry). if is_of_lane lane entry.who then 1 else 0 in
     let last : counts one ≡ counts other = ap (λ (w : Who). if is_of_lane lane w then 1 else 0) same in

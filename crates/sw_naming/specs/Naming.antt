@@ -1,5 +1,5 @@
 -- A transcript names one history.
-use Rattle.std.specs.Prelude.{◌≡◌, ◌≤◌, ◌^◌, List, [], ◌∷◌, length}
+use Rattle.std.specs.Prelude.{◌≡◌, ℕ, ◌≤◌, ◌^◌, List, [], ◌∷◌, length}
 use Rattle.sw_data.specs.declared.histories.End.{End}
 use Rattle.sw_data.specs.declared.histories.Entry.{Entry}
 use Rattle.sw_data.specs.declared.recordings.Recording.{Recording}
@@ -22,13 +22,17 @@ IsSameHistory [] (entry ∷ rest) = ⊥
 IsSameHistory (entry ∷ rest) [] = ⊥
 IsSameHistory (one ∷ rest) (other ∷ others) = IsSameEntry one other × IsSameHistory rest others
 
--- own: the lanes of a recording and the rows of a state are numbered by 64 bits, as those in memory are
-pub record Fits (recording : Recording) (state : State) : Type 0 where
-  pub lanes : length recording.lanes ≤ 2 ^ 64
-  pub registrations : length state.registrations ≤ 2 ^ 64
-  pub workers : length state.workers ≤ 2 ^ 64
-  pub jobs : length state.jobs ≤ 2 ^ 64
-  pub tasks : length state.tasks ≤ 2 ^ 64
+-- own: a recording has at most so many lanes, and a state at most so many rows of each kind that events are about
+pub record AreFew (most : ℕ) (recording : Recording) (state : State) : Type 0 where
+  pub lanes : length recording.lanes ≤ most
+  pub registrations : length state.registrations ≤ most
+  pub workers : length state.workers ≤ most
+  pub jobs : length state.jobs ≤ most
+  pub tasks : length state.tasks ≤ most
+
+-- the lanes of a recording and the rows of a state are numbered by 64 bits, as those in memory are (own)
+abbrev pub Fits : Recording → State → Type 0
+Fits recording state = AreFew (2 ^ 64) recording state
 
 -- and so they are before each entry of a history but the first
 abbrev pub FitsAlong : Recording → Kept → List Entry → Type 0
