@@ -1,0 +1,5 @@
+pub mod Accepted
+pub mod Continuing
+pub mod Marks
+pub mod Named
+pub mod Taken
