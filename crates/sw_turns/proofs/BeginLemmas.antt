@@ -157,8 +157,8 @@ module _ {D : Type 0} (disk : Ghosts D) (start now : D) (store : StoreState) (op
         newer = λ format. omega (arith, (on.noted.appended format).1, on.noted.fits, limit);
         older = λ format. (
           (on.noted.anew format).0,
-          (on.noted.anew format).1.0,
-          omega (arith, (on.noted.anew format).1.1, on.noted.fits, limit),
+          (on.noted.anew format).1,
+          omega (arith, (on.noted.anew format).2, on.noted.fits, limit),
         );
       }
 
