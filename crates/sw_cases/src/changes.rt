@@ -10,7 +10,7 @@ use crate::row::{Answer, Fault, bytes, form, list_of, part, text, word};
 use serde_json::Value;
 use std::alloc::Global;
 use sw_change::{Content, changes_of, fold_all, laws};
-use sw_data::{Change, KeptWorker, Kind, Mode, Text};
+use sw_data::{Change, KeptWorker, Kind, Mode, NoMemory, Text};
 use sw_forms::batch_parts;
 
 fn mode(parts: &[Value], place: usize) -> Result<Mode, Fault> {
@@ -114,25 +114,56 @@ pub fn changes(alloc: Global, values: &[Value]) -> Result<Vec<Change>, Fault> {
     Ok(changes)
 }
 
-// How many registrations and caches the changes keep, one carried out after the other.
-fn counts(alloc: Global, parts: &[Value]) -> Answer {
+// The content that changes make, one carried out after the other.
+fn carried_out(alloc: Global, changes: Vec<Change>) -> Result<Content, NoMemory> {
     let mut content = Content::new(alloc);
-    for change in changes(alloc, parts)? {
-        content.apply(alloc, change)?;
+    for change in changes {
+        match content.apply(alloc, change) {
+            Ok(()) => {}
+            Err(fault) => return Err(fault),
+        }
     }
-    let kept = content.to_kept(alloc)?;
-    let registrations = kept.registrations.as_slice().len();
-    let caches = kept.caches.as_slice().len();
+    Ok(content)
+}
+
+// How many registrations and caches a content keeps.
+fn sizes(alloc: Global, content: Content) -> Result<(usize, usize), NoMemory> {
+    match content.to_kept(alloc) {
+        Ok(kept) => Ok((
+            kept.registrations.as_slice().len(),
+            kept.caches.as_slice().len(),
+        )),
+        Err(fault) => Err(fault),
+    }
+}
+
+// How many registrations and caches the changes keep.
+fn counts(alloc: Global, parts: &[Value]) -> Answer {
+    let content = carried_out(alloc, changes(alloc, parts)?)?;
+    let (registrations, caches) = sizes(alloc, content)?;
     Ok(format!(in alloc; "{registrations} {caches}")?)
+}
+
+// The changes that make a content again.
+fn rebuilding(alloc: Global, content: Content) -> Result<Vec<Change>, NoMemory> {
+    content.changes(alloc)
+}
+
+// How many changes make again what a content keeps.
+fn kept_count(alloc: Global, content: Content) -> Result<usize, NoMemory> {
+    let kept = content.into_kept(alloc)?;
+    match changes_of(alloc, &kept) {
+        Ok(changes) => Ok(changes.len()),
+        Err(fault) => Err(fault),
+    }
 }
 
 // How many changes make the content again that these make, and how many the content has that they make in turn.
 fn again(alloc: Global, parts: &[Value]) -> Answer {
     let content = fold_all(alloc, changes(alloc, parts)?)?;
-    let rebuilding = content.changes(alloc)?;
+    let rebuilding = rebuilding(alloc, content)?;
     let first = rebuilding.len();
-    let kept = fold_all(alloc, rebuilding)?.into_kept(alloc)?;
-    let second = changes_of(alloc, &kept)?.len();
+    let second = kept_count(alloc, fold_all(alloc, rebuilding)?)?;
     laws::is_rebuilt();
     Ok(format!(in alloc; "{first} {second}")?)
 }

@@ -92,17 +92,31 @@ fn drawn(alloc: Global, net: &Net, parts: &[Value]) -> Answer {
     )
 }
 
-// How many lines a network has, and what it answers to each fetch.
-fn fetches(alloc: Global, parts: &[Value]) -> Answer {
-    let net = network(alloc, list(parts, 0)?)?;
-    let lines = net.lines().as_slice().len();
-    let mut all = format!(in alloc; "{lines}")?;
-    for fetch in list(parts, 1)? {
-        let answer = drawn(alloc, &net, list_of(fetch)?)?;
+// What a network answers to each fetch, behind a space.
+fn all_drawn(alloc: Global, net: &Net, fetches: &[Value]) -> Answer {
+    let mut all = String::new(alloc);
+    for fetch in fetches {
+        let answer = drawn(alloc, net, list_of(fetch)?)?;
         all.push_str(" ")?;
         all.push_str(answer.as_str())?;
     }
     Ok(all)
+}
+
+// How many lines a network has, and what it answers to each fetch.
+fn lines_and_drawn(alloc: Global, net: &Net, fetches: &[Value]) -> Answer {
+    let lines = net.lines().as_slice().len();
+    let answers = all_drawn(alloc, net, fetches)?;
+    Ok(format!(in alloc; "{lines}{answers}")?)
+}
+
+fn fetches(alloc: Global, parts: &[Value]) -> Answer {
+    let lines = list(parts, 0)?;
+    let fetches = list(parts, 1)?;
+    match network(alloc, lines) {
+        Ok(net) => lines_and_drawn(alloc, &net, fetches),
+        Err(fault) => Err(fault),
+    }
 }
 
 fn blank(alloc: Global) -> Text {
