@@ -207,10 +207,21 @@ pub fn net_answer(alloc: Global, call: &str, parts: &[Value]) -> Answer {
     }
 }
 
+fn end_printed(alloc: Global, end: End) -> Answer {
+    printed(alloc, &end)
+}
+
+fn end_answer(alloc: Global, parts: &[Value]) -> Answer {
+    match end(alloc, parts) {
+        Ok(end) => end_printed(alloc, end),
+        Err(fault) => Err(fault),
+    }
+}
+
 /// The answer to a row of `print`.
 pub fn print_answer(alloc: Global, call: &str, parts: &[Value]) -> Answer {
     match call {
-        "end" => printed(alloc, &end(alloc, parts)?),
+        "end" => end_answer(alloc, parts),
         _ => Err(Fault::BadRow),
     }
 }
