@@ -128,7 +128,7 @@ fn streamed<R: Threads + Wait + Sync + Abort>(
 #[test]
 fn a_read_or_a_write_that_fails_is_told(rt: HostRuntime) {
     let (status, sink) = streamed(&rt, rt.alloc(), Some(0), None);
-    assert!(rt; status.code() == 4 && sink.bytes() == b"error: read\n");
+    assert!(rt; status.code() == 4 && sink.bytes() == b"error: read\n".as_slice());
     let (status, sink) = streamed(&rt, rt.alloc(), None, Some(0));
     assert!(rt; status.code() == 5 && sink.bytes().is_empty());
 }
