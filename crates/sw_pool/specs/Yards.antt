@@ -27,6 +27,10 @@ pub record Origin (D : Type 0) : Type 0 where
 abbrev pub origin_of : {D : Type 0} → ℕ → Recording → Kept → D → Origin D
 origin_of passes recording base start = record { passes = passes; recording = recording; base = base; start = start }
 
+-- own: a run is of this recording on this disk, by so many passes, from some content
+abbrev pub IsOriginOf : {D : Type 0} → ℕ → Recording → D → Origin D → Type 0
+IsOriginOf passes recording start origin = (base : Kept) × (origin ≡ origin_of passes recording base start)
+
 -- own: what a run is of, its disk, what has happened, and how that has ended, if it has
 pub record YardState (D : Type 0) : Type 0 where
   pub origin : Origin D

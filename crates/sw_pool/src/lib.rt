@@ -1,4 +1,5 @@
-//! Workers on one host: they take turns with it under a lock, and pass a gate with what they fetch outside of it.
+//! Workers on one host: they take turns with it under a lock, and pass a gate with what they fetch outside of it. A worker
+//! alone needs neither.
 #![tactic(auto)]
 
 mod driving;
@@ -8,5 +9,5 @@ mod yard;
 
 pub use driving::drive;
 pub use ends::{Brief, Nothing, Turned};
-pub use working::{Worked, work};
+pub use working::{Worked, work, work_alone};
 pub use yard::Yard;

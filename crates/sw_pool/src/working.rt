@@ -2,18 +2,17 @@
 
 ghost use Rattle.std.specs.Prelude.{◌≡◌, ◌<◌, ◌≤◌, All, length, unwrap_or, vec_len};
 ghost use Rattle.sw_lock.specs.Passes.{IsPassOf, made_of, number_of, opened_of};
-ghost use Rattle.sw_pool.specs.Yards.{IsUnkept, IsWorked, origin_of};
-ghost use Rattle.sw_turns.specs.Turns.{IsGoing};
+ghost use Rattle.sw_pool.specs.Yards.{IsUnkept, IsWorked};
 
 use crate::driving::drive;
+use crate::ends::{Nothing, Turned};
 use crate::yard::Yard;
 use std::alloc::Global;
-use std::snapshot::Snapshot;
 use std::sync::Wait;
 use std::thread::{Threads, for_each_mut};
-use sw_data::{Kept, NoMemory, Recording};
+use sw_data::NoMemory;
 use sw_disk::Disk;
-use sw_lock::{Pass, Shared};
+use sw_lock::{Logged, Pass, Shared};
 use sw_net::Gate;
 use sw_turns::{DriveEnd, Progress};
 
@@ -92,24 +91,16 @@ fn close<D: Disk>(lock: Shared<Yard<D>>, passes: Vec<Pass<Yard<D>>>) -> Worked<D
 pub fn work<R: Threads + Wait + Sync, D: Disk + Send, G: Gate + Sync>(
     rt: &R,
     alloc: Global,
-    disk: D,
-    progress: Progress,
-    passes: u32,
-    recording: Snapshot<Recording>,
-    base: Snapshot<Kept>,
-    start: Snapshot<D>,
+    yard: Yard<D>,
     number: u64,
     gate: &G,
 ) -> Worked<D>
-    requires some { 0 < passes }
-    requires few { passes ≤ 64 }
-    requires passes { length progress.flights.items ≡ passes }
-    requires going { IsGoing D.Disk start.value disk recording.value base.value progress }
-    requires number { number ≡ D.clock start.value }
-    ensures { IsWorked D.Disk (origin_of passes recording.value base.value start.value)
-        result.disk result.progress result.end }
+    requires some { 0 < yard.origin.passes }
+    requires few { yard.origin.passes ≤ 64 }
+    requires number { number ≡ D.clock yard.origin.start }
+    ensures { IsWorked D.Disk yard.origin result.disk result.progress result.end }
 {
-    let yard = Yard::new(alloc, disk, progress, passes, recording, base, start);
+    let passes = yard.passes();
     match Shared::numbered(alloc, yard, passes, number) {
         Ok((lock, mut all)) => {
             drive_all(rt, &lock, all.as_mut_slice(), gate);
@@ -117,4 +108,27 @@ pub fn work<R: Threads + Wait + Sync, D: Disk + Send, G: Gate + Sync>(
         }
         Err((NoMemory, yard)) => end_of(yard, DriveEnd::NoMemory),
     }
+}
+
+// The steps of the only pass. Each adds an entry, or takes up a fetch whose entry the next one adds, so memory is at its end
+// before the rounds are.
+fn drive_alone<D: Disk>(yard: &mut Yard<D>)
+    requires { 0 < yard.old.origin.passes }
+    ensures { yard.new.origin ≡ yard.old.origin }
+{
+    'steps: for _ in 0..u64::MAX {
+        if let Turned::Ended(_) = yard.step(Nothing, 0) {
+            return;
+        }
+    }
+}
+
+/// Works on a recording to its end with one worker, on the thread of the call: without a lock, and without a wait. There is no
+/// gate between its turns.
+pub fn work_alone<D: Disk>(mut yard: Yard<D>) -> Worked<D>
+    requires { yard.origin.passes ≡ 1 }
+    ensures { IsWorked D.Disk yard.origin result.disk result.progress result.end }
+{
+    drive_alone(&mut yard);
+    end_of(yard, DriveEnd::NoMemory)
 }

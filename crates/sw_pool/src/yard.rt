@@ -49,8 +49,8 @@ impl<D: Disk> Model for Yard<D> {
 }
 
 impl<D: Disk> Yard<D> {
-    // A host at whose work a recording is under way.
-    pub(crate) fn new(
+    /// A host at whose work a recording is under way.
+    pub fn new(
         alloc: Global,
         disk: D,
         progress: Progress,
@@ -81,6 +81,13 @@ impl<D: Disk> Yard<D> {
             base,
             start,
         }
+    }
+
+    // How many passes there are.
+    pub(crate) fn passes(&self) -> u32
+        ensures { result ≡ self.now.origin.passes }
+    {
+        self.passes
     }
 
     // The disk, what has happened, and how the work has ended, if it has. It takes no memory.

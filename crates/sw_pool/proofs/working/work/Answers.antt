@@ -13,20 +13,19 @@ close-requires-clause-passes g c =
 
 pub close-requires-clause-all : goal.close-requires-clause-all
 close-requires-clause-all g c =
-    c.in-Ok.all.ok.0 ∙ sym (length-map c.in-Ok.all.items number) ∙ ap length c.in-Ok.ensures.numbers ∙ length-range_with_len 0 c.args.passes ∙ sym c.in-Ok.ensures.made
+    c.in-Ok.all.ok.0 ∙ sym (length-map c.in-Ok.all.items number) ∙ ap length c.in-Ok.ensures.numbers ∙ length-range_with_len 0 c.passes-passes.result ∙ sym c.in-Ok.ensures.made
 
 pub close-requires-clause-number : goal.close-requires-clause-number
 close-requires-clause-number g c =
     c.in-Ok.ensures.number ∙ c.requires.number
-    ∙ sym (ap (λ (yard : YardState g.row.D.Denot). g.D.Disk.clock yard.origin.start) c.in-Ok.ensures.opened
-    ∙ ap (λ (origin : Origin g.row.D.Denot). g.D.Disk.clock origin.start) c.new-yard.ensures.origin)
+    ∙ sym (ap (λ (yard : YardState g.row.D.Denot). g.D.Disk.clock yard.origin.start) c.in-Ok.ensures.opened)
 
 pub returns-in-Ok : goal.returns-in-Ok
 returns-in-Ok g c =
     subst (λ (origin : Origin g.row.D.Denot). IsWorked g.D.Disk origin c.close.result.disk c.close.result.progress c.close.result.end)
-    (ap (λ (yard : YardState g.row.D.Denot). yard.origin) c.in-Ok.ensures.opened ∙ c.new-yard.ensures.origin) c.close.ensures
+    (ap (λ (yard : YardState g.row.D.Denot). yard.origin) c.in-Ok.ensures.opened) c.close.ensures
 
 pub returns-in-Err : goal.returns-in-Err
 returns-in-Err g c =
     subst (λ (origin : Origin g.row.D.Denot). IsWorked g.D.Disk origin c.end_of.result.disk c.end_of.result.progress c.end_of.result.end)
-    (ap (λ (yard : YardState g.row.D.Denot). yard.origin) c.in-Err.ensures.back ∙ c.new-yard.ensures.origin) c.end_of.ensures.worked
+    (ap (λ (yard : YardState g.row.D.Denot). yard.origin) c.in-Err.ensures.back) c.end_of.ensures.worked
