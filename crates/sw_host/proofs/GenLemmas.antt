@@ -1,9 +1,10 @@
 -- A generated recording that one worker has run, from nothing.
-use Rattle.std.proofs.Common.{◌≡◌, ◌∙◌, ℕ, Option, Result, Ok, Err, IfOk, IfSome, sym, subst}
+use Rattle.std.proofs.Common.{◌≡◌, ◌∙◌, ℕ, List, Option, Result, Ok, Err, IfOk, IfSome, sym, subst}
+use Rattle.sw_data.specs.declared.histories.Entry.{Entry}
 use Rattle.sw_data.specs.declared.recordings.Recording.{Recording}
 use Rattle.sw_data.specs.declared.storage.Kept.{Kept}
 use Rattle.sw_disk.specs.Image.{Image}
-use Rattle.sw_disk.specs.Plain.{plain}
+use Rattle.sw_disk.specs.Plain.{plain, plain_image}
 use Rattle.sw_disk.specs.declared.plain.PlainDisk.{PlainDisk}
 use Rattle.sw_gen.specs.Generated.{generated}
 use Rattle.sw_host.specs.declared.report.Report.{Report}
@@ -15,11 +16,22 @@ use Rattle.sw_rules.specs.Storage.{nothing}
 use Rattle.sw_turns.specs.Ends.{Ended}
 use Rattle.sw_turns.specs.Turns.{IsAtRest}
 use Rattle.sw_turns.specs.declared.ends.DriveEnd.{DriveEnd}
+use Rattle.sw_turns.specs.declared.ends.DriveEnd.TheVariants as drive_end
 use Rattle.sw_turns.specs.declared.progress.Progress.{Progress}
 
 -- an image keeps one content
 pub one_kept : (kept other : Kept) (image : Image) → HasKept kept image → HasKept other image → kept ≡ other
 one_kept kept other image one two = let both : Keeps kept ≡ Keeps other = sym one ∙ two in cc
+
+module _ (recording : Recording) (history : List Entry) (start now : PlainDisk) (base : Kept) where
+  -- a run began with what its disk kept
+  pub began_with : (ended : DriveEnd) → Ended plain start now 1 recording base history ended → HasKept base (plain_image start)
+  began_with drive_end.Done run = run.0.opened
+  began_with (drive_end.Stalled lane) run = run.0.opened
+  began_with (drive_end.DiskFault refused) run = run.0.opened
+  began_with (drive_end.Full happened from needed) run = run.2.0.opened
+  began_with drive_end.NoMemory run = run.opened
+  began_with (drive_end.Spent spent) run = run.0.opened
 
 module _ (number size : ℕ) (recording : Recording) (actions : Option ℕ) (progress : Progress) (ended : DriveEnd) (start now : PlainDisk) (base : Kept) where
   pub generates : {E : Type 0} (result : Result Report E) → base ≡ nothing → recording_of (generated number size) ≡ Ok recording

@@ -1,25 +1,24 @@
-//! The report of a recording that is run to its end.
+//! A recording is taken up, and reported when it has ended.
 
-ghost use Rattle.std.specs.Prelude.{◌≡◌, ◌≢◌, ◌≤◌, ◌^◌, map, IfOk, OnErr};
+ghost use Rattle.std.specs.Prelude.{◌≡◌, ◌≢◌, ◌≤◌, ◌^◌, Ok, map, IfErr, IfOk, IsErr, OnErr};
+ghost use Rattle.sw_data.specs.declared.recordings.Recording as recordings;
 ghost use Rattle.sw_host.specs.Runs.{EndsAs, last_of, status_of};
-ghost use Rattle.sw_host.specs.Stands.{IsLeftAfter, IsReportOf, ReplaysOn};
+ghost use Rattle.sw_host.specs.Stands.{IsLeftAfter, IsReportOf, LeavesAfterBytes, Replays, ReplaysOn};
+ghost use Rattle.sw_pool.specs.Yards.{IsOriginOf, IsWorked, Origin, origin_of};
 ghost use Rattle.sw_print.specs.Transcript.{transcript};
+ghost use Rattle.sw_record.specs.Grammar.{recording_of};
 ghost use Rattle.sw_store.specs.Opened.{HasOpened, IsFresh};
-ghost use Rattle.sw_turns.specs.Ends.{Ended};
-ghost use Rattle.sw_turns.specs.Turns.{IsAtRest};
 
-use crate::report::{Report, bad_journal, refused};
+use crate::report::{Report, bad_journal, refusal_of, refused};
 use crate::statuses::Status;
 use crate::storing::LIMIT;
 use std::alloc::Global;
 use std::snapshot::Snapshot;
-use std::sync::Wait;
-use std::thread::Threads;
 use sw_data::{End, Entry, Event, Items, NoMemory, Recording, Text};
 use sw_disk::Disk;
-use sw_net::Gate;
-use sw_pool::{Worked, work};
+use sw_pool::{Worked, Yard};
 use sw_print::print_history;
+use sw_record::read_recording;
 use sw_store::{OpenError, Store};
 use sw_turns::{DriveEnd, Progress};
 
@@ -85,74 +84,47 @@ pub(crate) fn printed(alloc: Global, history: Vec<Entry>, end: DriveEnd) -> Resu
     Ok(Report { status, text })
 }
 
-// What comes of a recording on a disk that was opened, which was so at the start: what has happened, and how that has
-// ended. The number of the run is what the clock of the disk was at the start.
-pub(crate) fn play<R: Threads + Wait + Sync, D: Disk + Send, G: Gate + Sync>(
-    rt: &R,
+// A recording under way for so many workers, on a disk that was opened, which was so at the start.
+fn begin<D: Disk>(
     alloc: Global,
     store: Store,
     recording: Recording,
     workers: u32,
     start: Snapshot<D>,
-    number: u64,
     disk: D,
-    gate: &G,
-) -> (Result<(Progress, DriveEnd), NoMemory>, D)
+) -> Result<Yard<D>, (Result<Report, NoMemory>, D)>
     requires some { 1 ≤ workers }
     requires few { workers ≤ 16 }
     requires fresh { IsFresh (2 ^ 32) store }
     requires opened { HasOpened D.Disk start.value disk store }
-    requires number { number ≡ D.clock start.value }
-    ensures ended { IfOk result.0 (λ played. Ended D.Disk start.value result.1 workers recording
-        store.base played.0.history.items played.1) }
-    ensures rest { IfOk result.0 (λ played. IsAtRest played.1 store.base played.0) }
-    ensures left { OnErr result.0 (result.1 ≡ disk) }
+    ensures origin { IfOk result (λ yard.
+        yard.origin ≡ origin_of workers recording store.base start.value) }
+    ensures lack { IfErr result (λ unrun. IsErr unrun.0 × (unrun.1 ≡ disk)) }
 {
     let known = Snapshot::of(&recording);
     let base = Snapshot::of(store.base());
     match Progress::new(alloc, store, recording, &disk, workers) {
-        Ok(progress) => {
-            let Worked {
-                disk,
-                progress,
-                end,
-            } = work(
-                rt, alloc, disk, progress, workers, known, base, start, number, gate,
-            );
-            (Ok((progress, end)), disk)
-        }
-        Err(NoMemory) => (Err(NoMemory), disk),
+        Ok(progress) => Ok(Yard::new(alloc, disk, progress, workers, known, base, start)),
+        Err(NoMemory) => Err((Err(NoMemory), disk)),
     }
 }
 
-// The report of a recording that is run on a disk that was opened, which was so at the start.
-fn run_on<R: Threads + Wait + Sync, D: Disk + Send, G: Gate + Sync>(
-    rt: &R,
-    alloc: Global,
-    store: Store,
-    recording: Recording,
-    workers: u32,
-    start: Snapshot<D>,
-    number: u64,
-    disk: D,
-    gate: &G,
-) -> (Result<Report, NoMemory>, D)
-    requires some { 1 ≤ workers }
-    requires few { workers ≤ 16 }
-    requires fresh { IsFresh (2 ^ 32) store }
-    requires opened { HasOpened D.Disk start.value disk store }
-    requires number { number ≡ D.clock start.value }
-    ensures ends { IfOk result.0 (λ report.
-        EndsAs D.Disk start.value result.1 workers recording report.status report.text) }
-    ensures left { OnErr result.0 (IsLeftAfter D.Disk start.value result.1 workers recording) }
+// The report of a recording that was worked on, and its disk.
+pub(crate) fn reported<D: Disk>(alloc: Global, worked: Worked<D>) -> (Result<Report, NoMemory>, D)
+    ensures ends { (origin : Origin D)
+        → IsWorked D.Disk origin worked.disk worked.progress worked.end
+        → IfOk result.0 (λ report. EndsAs D.Disk origin.start result.1 origin.passes
+        origin.recording report.status report.text) }
+    ensures left { (origin : Origin D)
+        → IsWorked D.Disk origin worked.disk worked.progress worked.end
+        → OnErr result.0 (IsLeftAfter D.Disk origin.start result.1 origin.passes origin.recording) }
 {
-    let (played, disk) = play(
-        rt, alloc, store, recording, workers, start, number, disk, gate,
-    );
-    match played {
-        Ok((progress, end)) => (printed(alloc, progress.into_history(), end), disk),
-        Err(NoMemory) => (Err(NoMemory), disk),
-    }
+    let Worked {
+        disk,
+        progress,
+        end,
+    } = worked;
+    (printed(alloc, progress.into_history(), end), disk)
 }
 
 // The report of a disk that was not opened; the recording is let go here, where that costs the check little.
@@ -169,27 +141,48 @@ fn unopened(alloc: Global, recording: Recording, error: OpenError) -> Result<Rep
     }
 }
 
-// The report of a recording that is run by so many workers on a disk.
-pub(crate) fn run_to_end<R: Threads + Wait + Sync, D: Disk + Send, G: Gate + Sync>(
-    rt: &R,
+// A recording under way for so many workers on a disk; or the report of a disk that was not opened.
+pub(crate) fn open_for<D: Disk>(
     alloc: Global,
     recording: Recording,
     workers: u32,
     mut disk: D,
-    gate: &G,
-) -> (Result<Report, NoMemory>, D)
+) -> Result<Yard<D>, (Result<Report, NoMemory>, D)>
     requires some { 1 ≤ workers }
     requires few { workers ≤ 16 }
-    ensures replays { IfOk result.0 (λ report.
-        ReplaysOn D.Disk disk result.1 workers recording report.status report.text) }
-    ensures left { OnErr result.0 (IsLeftAfter D.Disk disk result.1 workers recording) }
+    ensures origin { IfOk result (λ yard. IsOriginOf workers recording disk yard.origin) }
+    ensures replays { IfErr result (λ unrun. IfOk unrun.0 (λ report.
+        ReplaysOn D.Disk disk unrun.1 workers recording report.status report.text)) }
+    ensures left { IfErr result (λ unrun.
+        OnErr unrun.0 (IsLeftAfter D.Disk disk unrun.1 workers recording)) }
 {
     let start = Snapshot::of(&disk);
-    let number = disk.clock();
     match Store::reopen(alloc, &mut disk, LIMIT) {
-        Ok(store) => run_on(
-            rt, alloc, store, recording, workers, start, number, disk, gate,
-        ),
-        Err(error) => (unopened(alloc, recording, error), disk),
+        Ok(store) => begin(alloc, store, recording, workers, start, disk),
+        Err(error) => Err((unopened(alloc, recording, error), disk)),
+    }
+}
+
+// The recording that bytes are, under way for so many workers on a disk; or the report of bytes that are none, or of a disk
+// that was not opened.
+pub(crate) fn take_up<D: Disk>(
+    alloc: Global,
+    bytes: &[u8],
+    workers: u32,
+    disk: D,
+) -> Result<Yard<D>, (Result<Report, NoMemory>, D)>
+    requires some { 1 ≤ workers }
+    requires few { workers ≤ 16 }
+    ensures origin { IfOk result (λ yard. (recording : recordings.Recording)
+        × (recording_of bytes.now ≡ Ok recording)
+        × IsOriginOf workers recording disk yard.origin) }
+    ensures replays { IfErr result (λ unrun. IfOk unrun.0 (λ report.
+        Replays D.Disk disk unrun.1 workers bytes.now report.status report.text)) }
+    ensures left { IfErr result (λ unrun.
+        OnErr unrun.0 (LeavesAfterBytes D.Disk disk unrun.1 workers bytes.now)) }
+{
+    match read_recording(alloc, bytes) {
+        Ok(recording) => open_for(alloc, recording, workers, disk),
+        Err(error) => Err((refusal_of(alloc, error), disk)),
     }
 }

@@ -1,8 +1,8 @@
 //! A generated recording, run on a disk of its own.
 
-ghost use Rattle.std.specs.Prelude.{◌≡◌, ◌≤◌, ◌^◌, ℕ, Ok, length, IfOk, IfSome};
+ghost use Rattle.std.specs.Prelude.{◌≡◌, ◌≤◌, ℕ, Ok, length, IfOk, IfSome};
 ghost use Rattle.sw_data.specs.declared.recordings.Recording as recordings;
-ghost use Rattle.sw_disk.specs.Plain.{plain, plain_image};
+ghost use Rattle.sw_disk.specs.Plain.{plain_image};
 ghost use Rattle.sw_gen.specs.Generated.{generated};
 ghost use Rattle.sw_host.specs.Generating.{HasGenerated, IsPrinted, actions_in, is_cut_short, is_done, summary_text};
 ghost use Rattle.sw_host.specs.Runs.{status_of};
@@ -10,25 +10,19 @@ ghost use Rattle.sw_kept.specs.Stored.{HasKept};
 ghost use Rattle.sw_record.specs.Grammar.{recording_of};
 ghost use Rattle.sw_rules.specs.History.{mapped_registrations};
 ghost use Rattle.sw_rules.specs.Storage.{nothing};
-ghost use Rattle.sw_store.specs.Opened.{HasOpened, IsFresh};
 ghost use Rattle.sw_turns.specs.Turns.{IsAtRest};
 ghost use Rattle.sw_work.specs.Hosted.{state_of};
 
-use crate::ending::{play, printed};
+use crate::ending::{open_for, printed};
 use crate::report::Report;
 use crate::statuses::Status;
-use crate::storing::LIMIT;
 use std::alloc::Global;
-use std::snapshot::Snapshot;
-use std::sync::Wait;
-use std::thread::Threads;
 use sw_data::{Bytes, NoMemory, Recording, Text};
-use sw_disk::{Disk, PlainDisk};
+use sw_disk::PlainDisk;
 use sw_gen::generate;
 use sw_kept::init;
-use sw_net::NoGate;
+use sw_pool::{Worked, work_alone};
 use sw_record::read_recording;
-use sw_store::Store;
 use sw_turns::{DriveEnd, Progress};
 
 // How many actions the lanes of a recording have.
@@ -153,71 +147,36 @@ fn formatted(alloc: Global) -> Result<PlainDisk, NoMemory>
     }
 }
 
-// The report of a generated recording that one worker runs on a disk that was opened, which was so at the start.
-fn run_on<R: Threads + Wait + Sync>(
-    rt: &R,
+// The report of a generated recording that one worker runs on a formatted disk.
+fn run_recording(
     alloc: Global,
     number: u32,
     size: u32,
-    store: Store,
     recording: Recording,
-    start: Snapshot<PlainDisk>,
-    clock: u64,
     disk: PlainDisk,
-) -> Result<Report, NoMemory>
-    requires recording { recording_of (generated number size) ≡ Ok recording }
-    requires fresh { IsFresh (2 ^ 32) store }
-    requires opened { HasOpened plain start.value disk store }
-    requires kept { HasKept nothing (plain_image start.value) }
-    requires clock { clock ≡ plain.clock start.value }
-    ensures { IfOk result (λ report. HasGenerated number size report.status report.text) }
-{
-    let actions = actions_in(&recording);
-    let (played, disk) = play(rt, alloc, store, recording, 1, start, clock, disk, &NoGate);
-    drop(disk);
-    match played {
-        Ok((progress, end)) => report_of(alloc, number, size, actions, progress, end),
-        Err(NoMemory) => Err(NoMemory),
-    }
-}
-
-// A recording whose disk was not opened.
-fn unrun(recording: Recording) -> NoMemory {
-    drop(recording);
-    NoMemory
-}
-
-// The report of a generated recording, on a formatted disk.
-fn run_recording<R: Threads + Wait + Sync>(
-    rt: &R,
-    alloc: Global,
-    number: u32,
-    size: u32,
-    recording: Recording,
-    mut disk: PlainDisk,
 ) -> Result<Report, NoMemory>
     requires recording { recording_of (generated number size) ≡ Ok recording }
     requires kept { HasKept nothing (plain_image disk) }
     ensures { IfOk result (λ report. HasGenerated number size report.status report.text) }
 {
-    let start = Snapshot::of(&disk);
-    let clock = disk.clock();
-    match Store::reopen(alloc, &mut disk, LIMIT) {
-        Ok(store) => run_on(
-            rt, alloc, number, size, store, recording, start, clock, disk,
-        ),
-        Err(_) => Err(unrun(recording)),
+    let actions = actions_in(&recording);
+    match open_for(alloc, recording, 1, disk) {
+        Ok(yard) => {
+            let Worked {
+                disk,
+                progress,
+                end,
+            } = work_alone(yard);
+            drop(disk);
+            report_of(alloc, number, size, actions, progress, end)
+        }
+        Err(_) => Err(NoMemory),
     }
 }
 
 // The report of the generated recording of this number and size, which one worker runs on a fresh disk in memory: a line
 // that sums it up where it is done, and else its transcript.
-pub(crate) fn run_generated<R: Threads + Wait + Sync>(
-    rt: &R,
-    alloc: Global,
-    number: u32,
-    size: u32,
-) -> Result<Report, NoMemory>
+pub(crate) fn run_generated(alloc: Global, number: u32, size: u32) -> Result<Report, NoMemory>
     requires least { 1 ≤ size }
     requires most { size ≤ 4096 }
     ensures { IfOk result (λ report. HasGenerated number size report.status report.text) }
@@ -225,7 +184,7 @@ pub(crate) fn run_generated<R: Threads + Wait + Sync>(
     let disk = formatted(alloc)?;
     let bytes = generate(alloc, number, size)?;
     match read_recording(alloc, bytes.as_bytes()) {
-        Ok(recording) => run_recording(rt, alloc, number, size, recording, disk),
+        Ok(recording) => run_recording(alloc, number, size, recording, disk),
         Err(_) => Err(NoMemory),
     }
 }

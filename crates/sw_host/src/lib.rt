@@ -11,5 +11,7 @@ mod storing;
 mod top;
 
 pub use command::needs_disk;
+pub use report::Report;
 pub use statuses::Status;
-pub use top::{Outcome, run};
+pub use storing::{format, show};
+pub use top::{Outcome, replay_alone, run};

@@ -17,9 +17,9 @@ use sw_print::print_kept;
 // How long a part of the disk may grow, in bytes.
 pub(crate) const LIMIT: u64 = 4_294_967_296;
 
-// Formats the current part of the disk.
+/// Formats the current part of the disk.
 #[tactic(auto, using(crate::proofs::StoringLemmas::formatted))]
-pub(crate) fn format<D: Disk>(alloc: Global, disk: &mut D) -> Result<Report, NoMemory>
+pub fn format<D: Disk>(alloc: Global, disk: &mut D) -> Result<Report, NoMemory>
     ensures formats { IfOk result (λ report.
         Formats D.Disk disk.old disk.new report.status report.text) }
     ensures alone { OnErr result (IsLeftAlone D.Disk disk.old disk.new) }
@@ -47,8 +47,8 @@ fn shown(alloc: Global, content: Content) -> Result<Report, NoMemory>
     })
 }
 
-// Prints what the disk keeps.
-pub(crate) fn show<D: Disk>(alloc: Global, disk: &mut D) -> Result<Report, NoMemory>
+/// Prints what the disk keeps.
+pub fn show<D: Disk>(alloc: Global, disk: &mut D) -> Result<Report, NoMemory>
     ensures shows { IfOk result (λ report.
         Shows D.Disk disk.old disk.new report.status report.text) }
     ensures quiet { OnErr result (IsQuiet D.Disk disk.old disk.new) }

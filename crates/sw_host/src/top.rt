@@ -1,6 +1,6 @@
 //! The top call: words, a source, a sink, a disk and a gate.
 
-ghost use Rattle.std.specs.Prelude.{◌≡◌, ◌≢◌, ◌+◌, ◌≤◌, ℕ, List, true, false, IfOk, OnErr};
+ghost use Rattle.std.specs.Prelude.{◌≡◌, ◌≢◌, ◌+◌, ◌≤◌, ℕ, List, Some, true, false, IfOk, OnErr};
 ghost use Rattle.std.specs.Io.KnownBytes.{IsAtEnd};
 ghost use Rattle.sw_data.specs.Faults.{Rose};
 ghost use Rattle.sw_data.specs.Streams.{ConsumesSome};
@@ -12,10 +12,10 @@ ghost use Rattle.sw_lock.specs.declared.pass.Spent.{Spent};
 ghost use Rattle.sw_turns.specs.declared.ends.DriveEnd.TheVariants as drive_end;
 
 use crate::command::{Command, command_of};
-use crate::ending::run_to_end;
+use crate::ending::{reported, take_up};
 use crate::generating::run_generated;
 use crate::pages::{help, version};
-use crate::report::{Report, refusal_of, refused};
+use crate::report::{Report, refused};
 use crate::statuses::Status;
 use crate::storing::{format, show};
 use std::alloc::Global;
@@ -25,7 +25,8 @@ use sw_data::NoMemory;
 use sw_disk::Disk;
 use sw_io::{ReadAllError, Sink, Source, read_all, write_all};
 use sw_net::Gate;
-use sw_record::{RECORDING_LIMIT, read_recording};
+use sw_pool::{work, work_alone};
+use sw_record::RECORDING_LIMIT;
 
 /// How a run ended, and its disk.
 #[derive(Drop)]
@@ -179,7 +180,7 @@ fn report_of<R: Threads + Wait + Sync, S: Source, D: Disk + Send, G: Gate + Sync
         Command::Init => (format(alloc, &mut disk), disk),
         Command::Replay(workers) => read(rt, alloc, source, workers, disk, gate),
         Command::Show => (show(alloc, &mut disk), disk),
-        Command::Gen(number, size) => (run_generated(rt, alloc, number, size), disk),
+        Command::Gen(number, size) => (run_generated(alloc, number, size), disk),
         Command::Help => (help(alloc), disk),
         Command::Version => (version(alloc), disk),
         Command::Unknown => (refused(alloc, Status::BadWords), disk),
@@ -229,8 +230,26 @@ fn replay<R: Threads + Wait + Sync, D: Disk + Send, G: Gate + Sync>(
         Replays D.Disk disk result.1 workers bytes.now report.status report.text) }
     ensures no_memory { OnErr result.0 (LeavesAfterBytes D.Disk disk result.1 workers bytes.now) }
 {
-    match read_recording(alloc, bytes) {
-        Ok(recording) => run_to_end(rt, alloc, recording, workers, disk, gate),
-        Err(error) => (refusal_of(alloc, error), disk),
+    let number = disk.clock();
+    match take_up(alloc, bytes, workers, disk) {
+        Ok(yard) => reported(alloc, work(rt, alloc, yard, number, gate)),
+        Err(unrun) => unrun,
+    }
+}
+
+/// What `replay` comes to by one worker on the thread of the call, of a source that has these bytes: without a lock and
+/// without a wait.
+pub fn replay_alone<D: Disk>(alloc: Global, bytes: &[u8], disk: D) -> (Result<Report, NoMemory>, D)
+    ensures stands { IfOk result.0 (λ report. Stands D.Disk disk result.1 (Some bytes.now) 0 0
+        (command.Replay 1) report.status report.text) }
+    ensures no_memory { OnErr result.0
+        (LeavesWithoutMemory D.Disk disk result.1 (Some bytes.now) (command.Replay 1)) }
+{
+    if bytes.len() as u64 > RECORDING_LIMIT {
+        return (refused(alloc, Status::TooLarge), disk);
+    }
+    match take_up(alloc, bytes, 1, disk) {
+        Ok(yard) => reported(alloc, work_alone(yard)),
+        Err(unrun) => unrun,
     }
 }
