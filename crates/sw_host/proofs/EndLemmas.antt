@@ -1,5 +1,5 @@
 -- A run that has ended on a disk, and a disk that is refused.
-use Rattle.std.proofs.Common.{◌≡◌, ◌∙◌, ◌^◌, inr, ℕ, List, Result, Ok, Err, refl, sym, subst}
+use Rattle.std.proofs.Common.{◌≡◌, ◌∙◌, ◌^◌, inl, inr, ℕ, List, Result, Ok, Err, refl, sym, subst}
 use Rattle.std.specs.Prelude.{IfOk, IsErrOf, OnErr}
 use Rattle.sw_data.specs.declared.histories.Entry.{Entry}
 use Rattle.sw_data.specs.declared.recordings.Recording.{Recording}
@@ -11,9 +11,12 @@ use Rattle.sw_host.specs.declared.report.Report.{Report}
 use Rattle.sw_host.specs.declared.statuses.Status.{Status}
 use Rattle.sw_host.specs.declared.statuses.Status.TheVariants as status
 use Rattle.sw_host.specs.Runs.{EndsAs, last_of, status_of}
-use Rattle.sw_host.specs.Stands.{IsLeftAfter, IsReportOf, RefusesDisk, ReplaysOn}
+use Rattle.sw_forms.specs.declared.error.RecordingError.{RecordingError}
+use Rattle.sw_host.specs.Stands.{IsLeftAfter, IsReportOf, LeavesAfterBytes, RefusesDisk, Replays, ReplaysOn, ReportedAs}
 use Rattle.sw_journal.specs.Quiet.{IsQuiet}
 use Rattle.sw_kept.specs.Stored.{Bad, Unformatted, stored}
+use Rattle.sw_pool.specs.Yards.{IsOriginOf, Origin}
+use Rattle.sw_record.specs.Grammar.{recording_of}
 use Rattle.sw_turns.specs.declared.ends.DriveEnd.{DriveEnd}
 use Rattle.sw_turns.specs.declared.ends.DriveEnd.TheVariants as drive_end
 use Rattle.sw_turns.specs.Ends.{Ended}
@@ -60,6 +63,25 @@ module _ {D : Type 0} (disk : Ghosts D) (start now : D) (workers : ℕ) (recordi
       → Ended disk start now workers recording base history ended → OnErr result (IsLeftAfter disk start now workers recording)
   left_by_run (Ok value) base history ended run = tt
   left_by_run (Err why) base history ended run = inr (base, history, ended, run)
+
+-- ---- bytes that are a recording
+
+module _ {D : Type 0} (disk : Ghosts D) (old now : D) (workers : ℕ) (bytes : List ℕ) (recording : Recording) (is : recording_of bytes ≡ Ok recording) (origin : Origin D) (from : IsOriginOf workers recording old origin) where
+  -- a run of what the bytes are is a replay of the bytes
+  pub replays : {E : Type 0} (result : Result Report E)
+      → IfOk result (λ report. EndsAs disk origin.start now origin.passes origin.recording report.status report.text)
+      → IfOk result (λ report. Replays disk old now workers bytes report.status report.text)
+  replays (Err why) ends = tt
+  replays (Ok report) ends =
+      subst (λ (what : Result Recording RecordingError). ReportedAs disk old now workers what report.status report.text) (sym is) (
+        inl (subst (λ (o : Origin D). EndsAs disk o.start now o.passes o.recording report.status report.text) from.1 ends),
+      )
+
+  pub leaves : {T E : Type 0} (result : Result T E) → OnErr result (IsLeftAfter disk origin.start now origin.passes origin.recording)
+      → OnErr result (LeavesAfterBytes disk old now workers bytes)
+  leaves (Ok value) left = tt
+  leaves (Err why) left =
+      inr (recording, is, subst (λ (o : Origin D). IsLeftAfter disk o.start now o.passes o.recording) from.1 left)
 
 -- ---- a disk that is refused
 
