@@ -2,7 +2,7 @@
 use Rattle.std.proofs.Common.{◌≡◌, ℕ, Option, Some, None, length, subst}
 use Rattle.std.specs.Prelude.{unwrap_or}
 use Rattle.sw_disk.specs.declared.disk.Disk.{Ghosts}
-use Rattle.sw_pool.specs.Yards.{HasWorked, IsUnended, IsUnkept, IsWorked, Origin, Stands}
+use Rattle.sw_pool.specs.Yards.{IsUnended, IsUnkept, IsWorked, Origin, Stands}
 use Rattle.sw_turns.proofs.EndLemmas.{ends_short, ends_spent}
 use Rattle.sw_turns.specs.Ends.{Ended, IsKept}
 use Rattle.sw_turns.specs.declared.ends.DriveEnd.{DriveEnd}
