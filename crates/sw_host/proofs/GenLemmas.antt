@@ -26,12 +26,12 @@ one_kept kept other image one two = let both : Keeps kept ≡ Keeps other = sym 
 module _ (recording : Recording) (history : List Entry) (start now : PlainDisk) (base : Kept) where
   -- a run began with what its disk kept
   pub began_with : (ended : DriveEnd) → Ended plain start now 1 recording base history ended → HasKept base (plain_image start)
-  began_with drive_end.Done run = run.0.opened
-  began_with (drive_end.Stalled lane) run = run.0.opened
-  began_with (drive_end.DiskFault refused) run = run.0.opened
-  began_with (drive_end.Full happened from needed) run = run.2.0.opened
-  began_with drive_end.NoMemory run = run.opened
-  began_with (drive_end.Spent spent) run = run.0.opened
+  began_with drive_end.Done run = run.0.opened.kept
+  began_with (drive_end.Stalled lane) run = run.0.opened.kept
+  began_with (drive_end.DiskFault refused) run = run.0.opened.kept
+  began_with (drive_end.Full happened from needed) run = run.2.opened.kept
+  began_with drive_end.NoMemory run = run.opened.kept
+  began_with (drive_end.Spent spent) run = run.0.opened.kept
 
 module _ (number size : ℕ) (recording : Recording) (actions : Option ℕ) (progress : Progress) (ended : DriveEnd) (start now : PlainDisk) (base : Kept) where
   pub generates : {E : Type 0} (result : Result Report E) → base ≡ nothing → recording_of (generated number size) ≡ Ok recording
