@@ -25,13 +25,17 @@ pub record HasMade (asked : Command) (bytes : List ℕ) (before : Image) (made :
   pub is : plain_image new ≡ made.image
   pub stands : Stands plain old new (Some bytes) 0 0 asked made.outcome made.text
 
+-- own: bytes stand in front, and behind them what stood there
+abbrev pub IsInFront : List ℕ → (old new : List ℕ) → Type 0
+IsInFront bytes old new = new ≡ bytes ++ drop (length bytes) old
+
 -- own: bytes are at the front of the room, and this is the answer; or the room has no place for them all, and stays as it was
 pub record IsHanded (number : ℕ) (bytes old new : List ℕ) (answer : ℕ) : Type 0 where
-  pub handed : length bytes ≤ length old → (answer ≡ number) × (new ≡ bytes ++ drop (length bytes) old)
+  pub handed : length bytes ≤ length old → (answer ≡ number) × IsInFront bytes old new
   pub no_room : length old < length bytes → (answer ≡ NO_ROOM) × (new ≡ old)
 
-abbrev pub bytes_of : Made → List ℕ
-bytes_of made = made.text ++ made.image.root ++ made.image.left ++ made.image.right
+abbrev pub bytes_of : List ℕ → Image → List ℕ
+bytes_of text image = text ++ image.root ++ image.left ++ image.right
 
 abbrev pub lengths_of : List ℕ → Image → Lengths
 lengths_of text image = record {
@@ -48,7 +52,7 @@ fits_in room lengths = nat_le (lengths.text + (lengths.root + lengths.left + len
 -- own: the text and the parts are handed out, with their lengths
 abbrev pub HandsOut : Made → (old new : List ℕ) → Lengths → ℕ → Type 0
 HandsOut made old new lengths answer =
-    (lengths ≡ lengths_of made.text made.image) × IsHanded (code_of made.outcome) (bytes_of made) old new answer
+    (lengths ≡ lengths_of made.text made.image) × IsHanded (code_of made.outcome) (bytes_of made.text made.image) old new answer
 
 -- own: the answer and the lengths where there was no memory
 abbrev pub HandsNothing : Lengths → ℕ → Type 0

@@ -1,6 +1,6 @@
 //! Parts that are handed in and out.
 
-ghost use Rattle.std.specs.Prelude.{◌≡◌, ◌+◌, ◌≤◌, length, IfOk};
+ghost use Rattle.std.specs.Prelude.{◌≡◌, ◌+◌, ◌<◌, ◌≤◌, length, take, IfOk};
 ghost use Rattle.sw_disk.specs.DiskRule.{written};
 ghost use Rattle.sw_disk.specs.Image.{get};
 ghost use Rattle.sw_disk.specs.Plain.{plain_image};
@@ -37,18 +37,31 @@ pub(crate) fn length_of(disk: &mut PlainDisk, part: Part) -> usize
     }
 }
 
-// Reads a part into a place of its length.
+// Reads a part on from a place, into the rest of what has the part's length, and says how many bytes more it read.
+fn read_on(disk: &mut PlainDisk, part: Part, at: usize, into: &mut [u8]) -> usize
+    requires within { at < length into.old }
+    requires length { length into.old ≡ length (get part (plain_image disk.old)) }
+    ensures some { 0 < result }
+    ensures fits { at + result ≤ length into.new }
+    ensures front { take at into.old ≡ take at (get part (plain_image disk.old))
+        → take (at + result) into.new ≡ take (at + result) (get part (plain_image disk.old)) }
+    ensures image { plain_image disk.new ≡ plain_image disk.old }
+{
+    match disk.read_at(part, at as u64, &mut into[at..]) {
+        Ok(more) => more,
+        Err(_) => unreachable!(),
+    }
+}
+
+// Reads a part into what has its length.
 fn read_part(disk: &mut PlainDisk, part: Part, into: &mut [u8])
     requires { length into.old ≡ length (get part (plain_image disk.old)) }
     ensures bytes { into.new ≡ get part (plain_image disk.old) }
     ensures image { plain_image disk.new ≡ plain_image disk.old }
 {
-    let mut done = 0;
-    while done < into.len() {
-        match disk.read_at(part, done as u64, into.split_at_mut(done).1) {
-            Ok(more) => done += more,
-            Err(_) => unreachable!(),
-        }
+    let mut at = 0;
+    while at < into.len() {
+        at += read_on(disk, part, at, into);
     }
 }
 

@@ -1,9 +1,9 @@
 //! What a call hands out.
 
-ghost use Rattle.std.specs.Prelude.{◌≡◌, ◌+◌, ◌≤◌, ◌↔◌, length, IfOk, IsErr};
+ghost use Rattle.std.specs.Prelude.{◌≡◌, ◌+◌, ◌≤◌, length, true, IfOk, IsErr};
 ghost use Rattle.sw_disk.specs.DiskRule.{written};
 ghost use Rattle.sw_disk.specs.Plain.{plain_image};
-ghost use Rattle.swhost_c.specs.Calls.{HandsNothing, HandsOut, IsHanded, fits_in, lengths_of};
+ghost use Rattle.swhost_c.specs.Calls.{HandsNothing, HandsOut, IsHanded, IsInFront, bytes_of, fits_in, lengths_of};
 ghost use Rattle.sw_host.specs.Texts.{code_of};
 
 use crate::disk::{length_of, put_part};
@@ -73,6 +73,21 @@ fn put(bytes: &[u8], room: &mut [u8], at: usize)
     room[at..at + bytes.len()].copy_from_slice(bytes);
 }
 
+// Writes a text and the parts of a disk, which have these lengths, into the room, one behind the other.
+fn put_all(text: &[u8], disk: &mut PlainDisk, lengths: &Lengths, room: &mut [u8])
+    requires lengths { lengths.now ≡ lengths_of text.now (plain_image disk.old) }
+    requires fits { fits_in (length room.old) lengths.now ≡ true }
+    ensures { IsInFront (bytes_of text.now (plain_image disk.old)) room.old room.new }
+{
+    let root = lengths.text;
+    let left = root + lengths.root;
+    let right = left + lengths.left;
+    put(text, room, 0);
+    put_part(disk, Part::Root, lengths.root, room, root);
+    put_part(disk, Part::Left, lengths.left, room, left);
+    put_part(disk, Part::Right, lengths.right, room, right);
+}
+
 // Hands out the report of a command, and the disk after it.
 pub(crate) fn hand_out(
     report: Result<Report, NoMemory>,
@@ -85,42 +100,38 @@ pub(crate) fn hand_out(
         room.old room.new lengths.new result) }
     ensures nothing { IsErr report → HandsNothing lengths.new result × (room.new ≡ room.old) }
 {
-    let Ok(report) = report else {
-        return hand_nothing(lengths);
-    };
-    *lengths = lengths_of(&report.text, &mut disk);
-    if !fits_in(room.len(), lengths) {
-        return NO_ROOM;
+    match report {
+        Ok(report) => {
+            *lengths = lengths_of(&report.text, &mut disk);
+            if !fits_in(room.len(), lengths) {
+                return NO_ROOM;
+            }
+            put_all(report.text.as_bytes(), &mut disk, lengths, room);
+            u32::from(report.status.code())
+        }
+        Err(NoMemory) => hand_nothing(lengths),
     }
-    let root = lengths.text;
-    let left = root + lengths.root;
-    let right = left + lengths.left;
-    put(report.text.as_bytes(), room, 0);
-    put_part(&mut disk, Part::Root, lengths.root, room, root);
-    put_part(&mut disk, Part::Left, lengths.left, room, left);
-    put_part(&mut disk, Part::Right, lengths.right, room, right);
-    u32::from(report.status.code())
 }
 
 // Hands out the text of a report.
-pub(crate) fn hand_text(
-    report: Result<Report, NoMemory>,
-    room: &mut [u8],
-    length: &mut usize,
-) -> u32
-    ensures out { IfOk report (λ report. (length.new ≡ length report.text)
+pub(crate) fn hand_text(report: Result<Report, NoMemory>, room: &mut [u8], count: &mut usize) -> u32
+    ensures out { IfOk report (λ report. (count.new ≡ length report.text)
         × IsHanded (code_of report.status) report.text room.old room.new result) }
     ensures nothing { IsErr report
-        → (length.new ≡ 0) × (room.new ≡ room.old) × (result ≡ code_of Status.NoMemory) }
+        → (count.new ≡ 0) × (room.new ≡ room.old) × (result ≡ code_of Status.NoMemory) }
 {
-    let Ok(report) = report else {
-        *length = 0;
-        return none();
-    };
-    *length = report.text.as_bytes().len();
-    if room.len() < *length {
-        return NO_ROOM;
+    match report {
+        Ok(report) => {
+            *count = report.text.as_bytes().len();
+            if room.len() < *count {
+                return NO_ROOM;
+            }
+            put(report.text.as_bytes(), room, 0);
+            u32::from(report.status.code())
+        }
+        Err(NoMemory) => {
+            *count = 0;
+            none()
+        }
     }
-    put(report.text.as_bytes(), room, 0);
-    u32::from(report.status.code())
 }
