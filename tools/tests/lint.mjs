@@ -39,7 +39,7 @@ test("lint agrees with what is stated of all recordings", () => {
   for (const name of recordings()) assert.equal(found(fs.readFileSync(name)), stated(name), name);
 });
 
-// Compares lint with the program on so many mutated recordings, several side by side; answers how often each cause came.
+// Compares lint with the program on so many mutated recordings, several side by side, each in a folder of its own; answers how often each cause came.
 async function compareMutated(program, count) {
   const draw = draws(SEED), sources = recordings().map((name) => fs.readFileSync(name)).filter((bytes) => bytes.length < SMALL), causes = {};
   let made = 0;
@@ -52,7 +52,7 @@ async function compareMutated(program, count) {
       causes[cause] = (causes[cause] ?? 0) + 1;
     }
   };
-  await inFolder.later((folder) => Promise.all(Array.from({ length: os.availableParallelism() }, () => comparing(folder))));
+  await Promise.all(Array.from({ length: os.availableParallelism() }, () => inFolder.later(comparing)));
   return causes;
 }
 
