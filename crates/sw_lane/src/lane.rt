@@ -74,7 +74,8 @@ impl Lane {
 
     // Puts back the action that was taken last; it takes no memory.
     pub(crate) fn put_back(&mut self, action: Action)
-        requires { (before : Left) × (moved before ≡ self.old) × (slice_get before.actions 0 ≡ Some action) }
+        requires { (before : Left) × (moved before ≡ self.old)
+            × (slice_get before.actions 0 ≡ Some action) }
         ensures { (before : Left) → moved before ≡ self.old
             → slice_get before.actions 0 ≡ Some action → self.new ≡ before }
     {
