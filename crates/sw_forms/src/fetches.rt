@@ -140,9 +140,9 @@ fn kept_address(alloc: Global, text: &str) -> Part<Text>
     }
 }
 
-// The address of a fetch line, of at most 4,096 bytes as it is written.
+/// The address of a fetch line, of at most 4,096 bytes as it is written.
 #[tactic(auto, unfolding(crate::specs::Fetches::address_part))]
-fn address_part(alloc: Global, value: &Value) -> Part<Text>
+pub fn address_part(alloc: Global, value: &Value) -> Part<Text>
     ensures { IfOk result (λ address. address ≡ fetches.address_part (view value.now)) }
 {
     match value.as_str() {
@@ -164,9 +164,9 @@ fn error_of(mark: &Value) -> Result<Option<Fetched>, Flaw>
     }
 }
 
-// A line of a network error.
+/// A line of a network error.
 #[tactic(auto, unfolding(crate::specs::Fetches::error_line))]
-fn error_line(mark: &Value, value: &Value) -> Result<Option<Fetched>, Flaw>
+pub fn error_line(mark: &Value, value: &Value) -> Result<Option<Fetched>, Flaw>
     ensures { result ≡ fetches.error_line (view mark.now) (view value.now) }
 {
     if !has_only(&["fetch", "error"], value) {

@@ -7,10 +7,10 @@ ghost use Rattle.sw_forms.specs.declared.flaw.Flaw.{Flaw};
 ghost use Rattle.sw_forms.specs.Members as members;
 
 use crate::flaw::{Flaw, NO_FORM, Part, first_of, needs};
-use crate::members::as_list;
+use crate::members::{as_list, short_text_of};
 use serde_json::Value;
 use std::alloc::Global;
-use sw_data::{Items, NoMemory};
+use sw_data::{Items, NoMemory, Text};
 
 /// What a JSON value is read as.
 pub trait FromValue: Drop {
@@ -25,6 +25,16 @@ pub trait FromValue: Drop {
     /// The part that a value is.
     fn from_value(alloc: Global, value: &Value) -> Part<Self>
         ensures { IfOk result (λ part. part ≡ reads (view value.now)) };
+}
+
+impl FromValue for Text {
+    ghost use Rattle.sw_forms.specs.Members.{short_text_of};
+
+    ghost reads = { short_text_of };
+
+    fn from_value(alloc: Global, value: &Value) -> Part<Text> {
+        short_text_of(alloc, value)
+    }
 }
 
 // The parts so far and a further one.

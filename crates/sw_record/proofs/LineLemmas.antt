@@ -8,8 +8,7 @@ use Rattle.serde_json.specs.Read.{read}
 use Rattle.sw_data.specs.declared.recordings.Action.{Action}
 use Rattle.sw_forms.specs.declared.flaw.Flaw.{Flaw}
 use Rattle.sw_forms.specs.Flaws.{no_json}
-use Rattle.sw_record.specs.declared.reading.Reading.{Reading}
-use Rattle.sw_record.specs.Grammar.{json_of, with_action, with_text, with_value}
+use Rattle.sw_record.specs.Grammar.{json_of, text_read, with_action}
 
 json_of_is : (line : List ℕ) (value : Data) → IsUtf8 line → read line ≡ Some value → json_of line ≡ Some value
 json_of_is line value text is =
@@ -22,18 +21,18 @@ json_of_none line none =
       | false ↦ λ is. refl
     ] refl
 
-abbrev with_json : Reading → Option Data → Result Reading Flaw
-with_json so_far found = elim found [ Some value ↦ with_value so_far value | None ↦ Err no_json ]
+abbrev with_json : {R : Type 0} → (R → Data → Result R Flaw) → R → Option Data → Result R Flaw
+with_json add so_far found = elim found [ Some value ↦ add so_far value | None ↦ Err no_json ]
 
 -- a line that is read as a value is that value
-pub with_text_is : (so_far : Reading) (line : List ℕ) (value : Data) → IsUtf8 line → read line ≡ Some value →
-    with_text so_far line ≡ with_value so_far value
-with_text_is so_far line value text is = ap (with_json so_far) (json_of_is line value text is)
+pub text_read_is : {R : Type 0} (add : R → Data → Result R Flaw) (so_far : R) (line : List ℕ) (value : Data) →
+    IsUtf8 line → read line ≡ Some value → text_read add so_far line ≡ add so_far value
+text_read_is add so_far line value text is = ap (with_json add so_far) (json_of_is line value text is)
 
 -- bytes that aren't UTF-8, or aren't read, are no JSON
-pub with_text_none : (so_far : Reading) (line : List ℕ) → (IsUtf8 line → read line ≡ None) →
-    with_text so_far line ≡ Err no_json
-with_text_none so_far line none = ap (with_json so_far) (json_of_none line none)
+pub text_read_none : {R : Type 0} (add : R → Data → Result R Flaw) (so_far : R) (line : List ℕ) →
+    (IsUtf8 line → read line ≡ None) → text_read add so_far line ≡ Err no_json
+text_read_none add so_far line none = ap (with_json add so_far) (json_of_none line none)
 
 -- ---- lanes
 

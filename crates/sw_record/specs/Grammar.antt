@@ -93,44 +93,54 @@ with_value so_far value =
       | None ↦ with_lane_line so_far value
     ]
 
--- the JSON value of a line; none where it isn't UTF-8 or isn't JSON
-abbrev pub json_of : List ℕ → Option Data
-json_of line = if is_utf8 line then read line else None
-
--- what was read with a line that isn't blank
-abbrev pub with_text : Reading → List ℕ → Result Reading Flaw
-with_text so_far line = elim (json_of line) [ Some value ↦ with_value so_far value | None ↦ Err no_json ]
-
--- a space, a tab or a carriage return
-abbrev pub is_blank : ℕ → Bool
-is_blank b = b == 32 || b == 9 || b == 13
-
--- what was read with a line; a blank one is skipped
-unfoldable pub with_line : Reading → List ℕ → Result Reading Flaw
-with_line so_far line = elim (list_all is_blank line) [ true ↦ Ok so_far | false ↦ with_text so_far line ]
-
 -- ---- lines
 
 -- the lines of a source, those between line feeds
 abbrev pub lines_of : List ℕ → List (List ℕ)
 lines_of bytes = slice_split (λ b. b == 10) bytes
 
+-- the JSON value of a line; none where it isn't UTF-8 or isn't JSON
+abbrev pub json_of : List ℕ → Option Data
+json_of line = if is_utf8 line then read line else None
+
+-- a space, a tab or a carriage return
+abbrev pub is_blank : ℕ → Bool
+is_blank b = b == 32 || b == 9 || b == 13
+
+-- what was read with a line that isn't blank, its value being added so
+abbrev pub text_read : {R : Type 0} → (R → Data → Result R Flaw) → R → List ℕ → Result R Flaw
+text_read add so_far line = elim (json_of line) [ Some value ↦ add so_far value | None ↦ Err no_json ]
+
+-- what was read with a line; a blank one is skipped
+unfoldable pub line_read : {R : Type 0} → (R → Data → Result R Flaw) → R → List ℕ → Result R Flaw
+line_read add so_far line = elim (list_all is_blank line) [ true ↦ Ok so_far | false ↦ text_read add so_far line ]
+
 -- what was read with the lines from this number on, or the refusal of the first bad one
-abbrev pub with_lines : Reading → ℕ → List (List ℕ) → Result Recording RecordingError
-with_lines so_far number [] = Ok so_far.recording
-with_lines so_far number (line ∷ rest) =
-    elim (with_line so_far line) [
-      | Ok next ↦ with_lines next (number + 1) rest
+abbrev pub lines_from : {R : Type 0} → (R → Data → Result R Flaw) → R → ℕ → List (List ℕ) → Result R RecordingError
+lines_from add so_far number [] = Ok so_far
+lines_from add so_far number (line ∷ rest) =
+    elim (line_read add so_far line) [
+      | Ok next ↦ lines_from add next (number + 1) rest
       | Err why ↦ Err (error_at number why)
     ]
 
+-- what the lines of a source are read as, each line's value being added to what was read before it; or the first bad line,
+-- counted from 1, with what is wrong with it
+unfoldable pub lines_read : {R : Type 0} → (R → Data → Result R Flaw) → R → List ℕ → Result R RecordingError
+lines_read add nothing bytes = lines_from add nothing 1 (lines_of bytes)
+
+-- what is made of what was read
+abbrev pub read_as : {A B : Type 0} → (A → B) → Result A RecordingError → Result B RecordingError
+read_as make (Ok whole) = Ok (make whole)
+read_as make (Err why) = Err why
+
 -- the recording that a source's bytes are, or its first bad line, counted from 1, with what is wrong with it
 unfoldable pub recording_of : List ℕ → Result Recording RecordingError
-recording_of bytes = with_lines nothing_read 1 (lines_of bytes)
+recording_of bytes = read_as (λ reading. reading.recording) (lines_read with_value nothing_read bytes)
 
 -- an answer is the one of the rule, unless memory ran out
-abbrev pub Reads : Result Recording RecordingError → Result Recording RecordingError → Type 0
-Reads (Ok recording) rule = rule ≡ Ok recording
+abbrev pub Reads : {R : Type 0} → Result R RecordingError → Result R RecordingError → Type 0
+Reads (Ok whole) rule = rule ≡ Ok whole
 Reads (Err error.NoMemory) rule = Unit {0}
 Reads (Err (error.BadLine line why)) rule = rule ≡ Err (error.BadLine line why)
 Reads (Err (error.TooLarge line passed)) rule = rule ≡ Err (error.TooLarge line passed)

@@ -290,9 +290,9 @@ fn action_of_word(alloc: Global, word: Word, value: &Value) -> Part<Action>
     }
 }
 
-// The action of a lane line.
+/// The action of a lane line.
 #[tactic(auto, unfolding(crate::specs::Lanes::action_member))]
-fn action_member(alloc: Global, value: &Value) -> Part<Action>
+pub fn action_member(alloc: Global, value: &Value) -> Part<Action>
     ensures { IfOk result (λ action. action ≡ lanes.action_member (view value.now)) }
 {
     match word_member(value) {
@@ -301,9 +301,9 @@ fn action_member(alloc: Global, value: &Value) -> Part<Action>
     }
 }
 
-// The lane of a lane line.
+/// The lane of a lane line.
 #[tactic(auto, unfolding(crate::specs::Lanes::lane_member))]
-fn lane_member(value: &Value) -> Result<usize, Flaw>
+pub fn lane_member(value: &Value) -> Result<usize, Flaw>
     ensures { result ≡ lanes.lane_member (view value.now) }
 {
     match value.get("lane").and_then(Value::as_u64) {

@@ -7,8 +7,13 @@ mod actions;
 mod clients;
 mod lanes;
 pub mod laws;
+mod lines;
 mod reading;
 mod recording;
 
+pub use actions::{action_member, lane_member};
+pub use clients::partition_member;
+pub use lines::{FromLines, read_lines};
+pub use reading::{Reading, has_promise, nothing_read};
 pub use recording::read_recording;
 pub use sw_forms::{Limit, LineCause, RECORDING_LIMIT, RecordingError};

@@ -1,12 +1,12 @@
-//! What was read so far, and one line more.
+//! What was read of a recording so far, and one line more.
 
 ghost use Rattle.std.specs.Prelude.{◌≡◌, ◌<◌, length, IfOk};
-ghost use Rattle.std.specs.List.{list_all};
 ghost use Rattle.serde_json.specs.View.{view};
 ghost use Rattle.sw_data.specs.declared.recordings.Action.{Action};
 ghost use Rattle.sw_record.specs.Grammar as grammar;
 
 use crate::actions::lane_line;
+use crate::lines::FromLines;
 use serde_json::Value;
 use std::alloc::Global;
 use sw_data::{Action, FetchLine, Items, NoMemory, Recording};
@@ -32,8 +32,8 @@ pub fn nothing_read(alloc: Global) -> Reading
     }
 }
 
-// The action's promise can be awaited.
-fn has_promise(action: &Action) -> bool
+/// The action's promise can be awaited.
+pub fn has_promise(action: &Action) -> bool
     ensures { result ≡ grammar.has_promise action.now }
 {
     match action {
@@ -159,52 +159,20 @@ fn with_lane_line(alloc: Global, so_far: Reading, value: &Value) -> Part<Reading
     }
 }
 
-// What was read with a line of this value: a fetch line, or a lane line.
-#[tactic(auto, unfolding(crate::specs::Grammar::with_value))]
-fn with_value(alloc: Global, so_far: Reading, value: &Value) -> Part<Reading>
-    ensures { IfOk result (λ reading. reading ≡ grammar.with_value so_far (view value.now)) }
-{
-    match value.get("fetch") {
-        Some(address) => match fetch_line(alloc, address, value)? {
-            Ok(line) => Ok(Ok(with_fetch(so_far, line)?)),
-            Err(why) => Ok(Err(why)),
-        },
-        None => with_lane_line(alloc, so_far, value),
+impl FromLines for Reading {
+    ghost use Rattle.sw_record.specs.Grammar.{with_value};
+
+    ghost reads = { with_value };
+
+    // A fetch line, or a lane line.
+    #[tactic(auto, unfolding(crate::specs::Grammar::with_value))]
+    fn with_value(self, alloc: Global, value: &Value) -> Part<Reading> {
+        match value.get("fetch") {
+            Some(address) => match fetch_line(alloc, address, value)? {
+                Ok(line) => Ok(Ok(with_fetch(self, line)?)),
+                Err(why) => Ok(Err(why)),
+            },
+            None => with_lane_line(alloc, self, value),
+        }
     }
-}
-
-// What was read with a line that isn't blank.
-#[tactic(auto, using(crate::proofs::LineLemmas::with_text_is, crate::proofs::LineLemmas::with_text_none))]
-fn with_text(alloc: Global, so_far: Reading, line: &[u8]) -> Part<Reading>
-    ensures { IfOk result (λ reading. reading ≡ grammar.with_text so_far line.now) }
-{
-    match Value::from_slice(alloc, line) {
-        Ok(value) => with_value(alloc, so_far, &value),
-        Err(error) if error.is_memory() => Err(NoMemory),
-        Err(_) => Ok(Err(Flaw::Cause(LineCause::Json))),
-    }
-}
-
-// Whether a byte is a space, a tab or a carriage return.
-fn is_blank(byte: u8) -> bool
-    ensures { result ≡ grammar.is_blank byte }
-{
-    byte == b' ' || byte == b'\t' || byte == b'\r'
-}
-
-fn is_blank_line(line: &[u8]) -> bool
-    ensures { result ≡ list_all grammar.is_blank line.now }
-{
-    line.iter().all(|byte| is_blank(*byte))
-}
-
-/// What was read with a line; a blank one is skipped.
-#[tactic(auto, unfolding(crate::specs::Grammar::with_line))]
-pub fn with_line(alloc: Global, so_far: Reading, line: &[u8]) -> Part<Reading>
-    ensures { IfOk result (λ reading. reading ≡ grammar.with_line so_far line.now) }
-{
-    if is_blank_line(line) {
-        return Ok(Ok(so_far));
-    }
-    with_text(alloc, so_far, line)
 }

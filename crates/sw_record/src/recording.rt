@@ -1,36 +1,12 @@
 //! Reading a recording whole.
 
-ghost use Rattle.sw_record.specs.Grammar as grammar;
 ghost use Rattle.sw_record.specs.Grammar.{recording_of, Reads};
 
-use crate::reading::{nothing_read, with_line};
+use crate::lines::read_lines;
+use crate::reading::nothing_read;
 use std::alloc::Global;
 use sw_data::Recording;
-use sw_data::cut::first_part;
-use sw_forms::{RecordingError, error_at};
-
-// What the lines of these bytes come to, or the refusal of the first bad one.
-fn with_lines(alloc: Global, bytes: &[u8]) -> Result<Recording, RecordingError>
-    ensures { Reads result
-        (grammar.with_lines grammar.nothing_read 1 (grammar.lines_of bytes.now)) }
-{
-    let mut so_far = nothing_read(alloc);
-    let mut number: u32 = 0;
-    let mut left = Some(bytes);
-    while let Some(text) = left {
-        let (line, rest) = first_part(text, b'\n');
-        let Some(next) = number.checked_add(1) else {
-            return Err(RecordingError::NoMemory);
-        };
-        number = next;
-        match with_line(alloc, so_far, line)? {
-            Ok(reading) => so_far = reading,
-            Err(why) => return Err(error_at(number, why)),
-        }
-        left = rest;
-    }
-    Ok(so_far.recording)
-}
+use sw_forms::RecordingError;
 
 /// The recording that a source's bytes are: one JSON object on each line, blank lines being
 /// skipped but counted.
@@ -41,5 +17,8 @@ fn with_lines(alloc: Global, bytes: &[u8]) -> Result<Recording, RecordingError>
 pub fn read_recording(alloc: Global, bytes: &[u8]) -> Result<Recording, RecordingError>
     ensures { Reads result (recording_of bytes.now) }
 {
-    with_lines(alloc, bytes)
+    match read_lines(alloc, nothing_read(alloc), bytes) {
+        Ok(reading) => Ok(reading.recording),
+        Err(why) => Err(why),
+    }
 }

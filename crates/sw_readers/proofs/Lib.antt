@@ -1,0 +1,5 @@
+pub mod DivisionLemmas
+pub mod DivisionRows
+pub mod ImportRows
+pub mod RosterRows
+pub mod WatchedRows

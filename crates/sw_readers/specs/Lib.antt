@@ -1,0 +1,4 @@
+pub mod Division
+pub mod Imports
+pub mod Roster
+pub mod Watched
