@@ -66,7 +66,7 @@ with_handler state worker p number called row (Some handler) found at same =
     ∙ (λ i. Some (event.Call (who.Handler worker (phases i) (mades i)) called))
 
 -- a call that is made is the one that comes next
-is_called : (state : State) (worker : ℕ) (p : Phase) (number : ℕ) (called : Call) (o : Outcome)
+pub is_called : (state : State) (worker : ℕ) (p : Phase) (number : ℕ) (called : Call) (o : Outcome)
     → make_call state (who.Handler worker p number) called ≡ Some o → called_event state worker ≡ Some (event.Call (who.Handler worker p number) called)
 is_called state worker p number called o is =
     option_and_then_some (λ (r : Worker). if is_next_call state r p number called then call_by state (who.Handler worker p number) r p called else None)

@@ -30,6 +30,7 @@ pub fn lane_event<B: Board>(lanes: &mut Lanes, board: &B, lane: u32) -> Option<E
     ensures none { (recording : Recording) (before : List past.Entry)
         → AreLanesOf recording before lanes.old → result ≡ None
         → IsBarred recording before (B.state board.now) (mark.Lane lane) }
+    ensures same { result ≡ None → lanes.new ≡ lanes.old }
 {
     if !is_ready(lanes, board, lane) {
         return None;

@@ -3,6 +3,7 @@
 ghost use Rattle.std.specs.Prelude.{◌≡◌, ℕ, true, not, Some, is_some, IfOk, IfSome, length, option_map};
 ghost use Rattle.std.specs.List.{list_all, list_any};
 ghost use Rattle.std.specs.Option.{option_copied};
+ghost use Rattle.sw_activate.specs.Claiming as activating;
 ghost use Rattle.sw_data.specs.declared.events.Who.TheVariants as maker;
 ghost use Rattle.sw_data.specs.declared.recordings.Recording.{Recording};
 ghost use Rattle.sw_lane.specs.Picked.{in_flight, is_fetch, is_task, task_left};
@@ -17,11 +18,28 @@ ghost use Rattle.sw_work.specs.Hosted.{state_of};
 
 use crate::core_tables::Core;
 use std::alloc::Global;
+use sw_activate::claimed;
 use sw_data::{Event, NoMemory, Task, Text};
 use sw_next::{
     busy, cache_count, enabled, event_of, fetches, has_settled, is_ready, mapped_count, may_begin,
     next_task, ready, task_key,
 };
+use sw_work::HostTables;
+
+// The registrations that a claim by this worker would activate, on the tables of a host.
+fn claimed_of(alloc: Global, host: &HostTables, worker: u32) -> Result<Vec<u32>, NoMemory>
+    ensures { IfOk result (λ numbers. numbers.items
+        ≡ activating.claimed (state_of host.now) worker) }
+{
+    claimed(
+        alloc,
+        worker,
+        &host.map,
+        &host.workers,
+        &host.registrations,
+        &host.clients,
+    )
+}
 
 impl Core {
     /// Whether an event is enabled, so that it may be worked out: its maker makes events of its kind, and the state lets it
@@ -79,6 +97,14 @@ impl Core {
             ≡ option_map (λ row. row.key) (task_row (state_of self.now) task) }
     {
         task_key(&self.host, task)
+    }
+
+    /// The registrations that a claim by this worker would activate now, in that order; none where the worker isn't active
+    /// (Service Workers, Clients, "claim()"). It takes time linear in the clients and the registrations.
+    pub fn claimed(&self, alloc: Global, worker: u32) -> Result<Vec<u32>, NoMemory>
+        ensures { IfOk result (λ numbers. numbers.items ≡ activating.claimed (state_of self.now) worker) }
+    {
+        claimed_of(alloc, &self.host, worker)
     }
 
     /// How many registrations are mapped. It takes no memory, and time in the number of all registrations.

@@ -6,6 +6,7 @@ mod apply;
 mod asking;
 mod board;
 mod core_tables;
+mod few;
 mod kept;
 mod lent;
 mod plans;

@@ -2,7 +2,6 @@ pub mod BeginLemmas
 pub mod ChangeLemmas
 pub mod ComingLemmas
 pub mod EndLemmas
-pub mod FetchLemmas
 pub mod FlightLemmas
 pub mod GroupLemmas
 pub mod NextLemmas

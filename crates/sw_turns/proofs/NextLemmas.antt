@@ -30,9 +30,10 @@ use Rattle.sw_lane.proofs.Saying.{says}
 use Rattle.sw_laws.specs.Coherent.{Coherent}
 use Rattle.sw_laws.proofs.Lists.{find_passes}
 use Rattle.sw_turns.specs.Coming.{IsPickedNext}
-use Rattle.sw_turns.specs.Machines.{IsEventOf}
+use Rattle.sw_comes.specs.Machines.{IsEventOf}
 use Rattle.sw_turns.specs.Playing.{ComesNext, IsSoFar}
-use Rattle.sw_turns.proofs.ReadyLemmas.{found_ready, ready_enabled}
+use Rattle.sw_comes.proofs.FetchLemmas.{comes_enabled}
+use Rattle.sw_turns.proofs.ReadyLemmas.{found_ready}
 use Rattle.sw_rules.specs.History.{IsStep, after, moved}
 use Rattle.sw_rules.specs.Picks.{HasLines, IsFollowing, IsNextOfLane, IsPicked, is_host_forget, next}
 use Rattle.sw_rules.specs.Recordings.{recorded_event}
@@ -246,9 +247,7 @@ pub performed : (workers : ℕ) (lines : List FetchLine) (state : State) (lanes 
     → Coherent state → list_any (is_task ready) (ready_tasks state) ≡ true → (workers ≡ 1 → picked state [] lanes ≡ pick.Work (work.Task ready))
     → IsEventOf lines state ready happened → ComesNext workers lines lanes lanes state happened
 performed workers lines state lanes ready happened sound waits is gives = record {
-  is_enabled =
-      let any : Recording = record { fetches = lines; lanes = [] } in
-      ready_enabled any state ready happened sound waits (gives any refl);
+  is_enabled = comes_enabled lines state ready happened sound waits gives;
   goes_on = λ pass recording base history entry new below same so_far is_entry.
       let given : event_of recording state ready ≡ Some happened = gives recording same in
       let of = of_host recording state ready happened given in

@@ -1,5 +1,5 @@
 -- A turn: a group has stopped and is written, and the run goes on or has ended.
-use Rattle.std.proofs.Common.{◌≡◌, ◌∙◌, ◌↔◌, ◌⊎◌, ⊎_elim, inl, inr, ℕ, ◌<◌, ◌≤◌, Bool, true, false, List, [], ◌∷◌, ◌++◌, length, Option, Some, None, Result, Ok, Err, IfErr, IfOk, slice_get, option_map, All, Vec, Global, refl, sym, ap, subst, arith, append-nil}
+use Rattle.std.proofs.Common.{◌≡◌, ◌∙◌, ◌↔◌, ◌⊎◌, ⊎_elim, inl, inr, ℕ, ◌≤◌, Bool, true, false, List, [], ◌∷◌, ◌++◌, length, Option, Some, None, IfErr, IfOk, slice_get, option_map, All, Vec, Global, refl, sym, ap, subst, arith, append-nil}
 use Rattle.std.specs.Prelude.{nat_lt}
 use Rattle.std.specs.Vec.{with_items}
 use Rattle.std.proofs.lemmas.Bool.Decides.{nat_tests}
@@ -25,8 +25,7 @@ use Rattle.sw_laws.specs.Coherent.{Coherent}
 use Rattle.sw_lock.specs.Entries.{ThenOwn}
 use Rattle.sw_rules.specs.History.{Opens}
 use Rattle.sw_rules.specs.State.{State}
-use Rattle.sw_rules.specs.Step.{changes_of}
-use Rattle.sw_store.specs.Groups.{IsGroup, IsTooLong}
+use Rattle.sw_store.specs.Groups.{IsGroup}
 use Rattle.sw_store.specs.Stores.{IsQuiet, IsSameTwin, IsTended, StoreState, all_stamped, stamped}
 use Rattle.sw_turns.proofs.ChangeLemmas.{along_stamped}
 use Rattle.sw_turns.proofs.ComingLemmas.{of_turn_none, of_turn_stamped}
@@ -38,12 +37,11 @@ use Rattle.sw_turns.specs.Flights.{AreInFlight, Flies, IsDue}
 use Rattle.sw_turns.specs.Groups.{Begins, HasSome, IsBarren, IsUnderWay, KeepsLanes, LacksRoom, Leaves, Stops, over_by}
 use Rattle.sw_turns.specs.Settling.{HasStopped, IsWritten, Standing}
 use Rattle.sw_turns.specs.Surviving.{IsAtWork, kept_of}
-use Rattle.sw_turns.specs.Turns.{HadNoRoom, HasAdded, HasPicked, HasTurned, IsAtRest, IsGoing, IsLanding, IsTurn, standing_of}
+use Rattle.sw_turns.specs.Turns.{HadNoRoom, HasPicked, HasTurned, IsAtRest, IsGoing, IsLanding, IsTurn, standing_of}
 use Rattle.sw_turns.specs.declared.ends.DriveEnd.{DriveEnd}
 use Rattle.sw_turns.specs.declared.ends.DriveEnd.TheVariants as drive_end
 use Rattle.sw_turns.specs.declared.ends.Stop.{Stop}
 use Rattle.sw_turns.specs.declared.ends.Stop.TheVariants as stop
-use Rattle.sw_turns.specs.declared.ends.Turn.{Turn}
 use Rattle.sw_turns.specs.declared.ends.Turn.TheVariants as turn
 use Rattle.sw_turns.specs.declared.progress.Progress.{Progress}
 use Rattle.sw_twin.specs.Twin.{StandsIn, TwinState}

@@ -3,7 +3,6 @@ pub mod Coming
 pub mod Ends
 pub mod Flights
 pub mod Groups
-pub mod Machines
 pub mod Playing
 pub mod Settling
 pub mod Surviving

@@ -28,7 +28,7 @@ use crate::ends::{Refusal, Stop};
 use crate::next::{action_event, landing, put_back, ready_event};
 use std::alloc::Global;
 use sw_core::{Core, CoreBoard};
-use sw_data::{Event, NoMemory, Task, Text};
+use sw_data::{Event, NoMemory, Task};
 use sw_lane::{Lanes, Pick, Work};
 use sw_net::Net;
 use sw_store::{StageError, Store};

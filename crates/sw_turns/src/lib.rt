@@ -4,7 +4,6 @@
 
 mod acting;
 mod ends;
-mod fetching;
 mod filling;
 mod next;
 mod progress;

@@ -3,7 +3,7 @@ use Rattle.std.proofs.Common.{rules, length, refl, subst}
 use Rattle.std.proofs.lemmas.Option.{gets}
 use Rattle.sw_data.specs.declared.histories.Task.{Task}
 use Rattle.sw_turns.specs.Flights.{Flies}
-use Rattle.sw_turns.specs.Machines.{IsEventOf}
+use Rattle.sw_comes.specs.Machines.{IsEventOf}
 use Rattle.sw_turns.proofs.FlightLemmas.{due_alone, flies_alike, flies_not_free, landed_stay, landing_spares}
 use Rattle.sw_turns.proofs.NextLemmas.{performed}
 use Rattle.sw_work.specs.Hosted.{state_of}
@@ -15,19 +15,19 @@ returns-in_ok-event-in-Some-clause-next c =
     performed (length c.args.flights.now) c.args.net.now (state_of c.args.core.now) c.args.lanes.now c.in-Some.task c.in_ok-event-in-Some.event
     c.requires.coherent (c.requires.flights.ready c.args.pass c.in-Some.task its)
     (due_alone (state_of c.args.core.now) c.args.lanes.now c.args.flights.now c.args.pass c.in-Some.task c.requires.due its)
-    c.in_ok-event-in-Some.ensures
+    c.in_ok-event-in-Some.ensures.event
 
 pub returns-in_ok-event-in-Some-clause-event : goal.returns-in_ok-event-in-Some-clause-event
 returns-in_ok-event-in-Some-clause-event c = λ flown flies.
     let its : Flies c.args.flights.now c.args.pass c.in-Some.task = search (rules, gets) in
     subst (λ (one : Task). IsEventOf c.args.net.now (state_of c.args.core.now) one c.in_ok-event-in-Some.event)
-    (flies_alike c.args.flights.now c.args.pass c.in-Some.task flown its flies) c.in_ok-event-in-Some.ensures
+    (flies_alike c.args.flights.now c.args.pass c.in-Some.task flown its flies) c.in_ok-event-in-Some.ensures.event
 
 pub returns-in_ok-event-in-Some-clause-spares : goal.returns-in_ok-event-in-Some-clause-spares
 returns-in_ok-event-in-Some-clause-spares c =
     let its : Flies c.args.flights.now c.args.pass c.in-Some.task = search (rules, gets) in
     landing_spares c.args.net.now (state_of c.args.core.now) c.args.flights.now c.args.pass c.in-Some.task c.in_ok-event-in-Some.event
-    c.requires.flights c.requires.pass its c.in_ok-event-in-Some.ensures
+    c.requires.flights c.requires.pass its c.in_ok-event-in-Some.ensures.event
 
 pub returns-in_ok-event-in-Some-clause-none : goal.returns-in_ok-event-in-Some-clause-none
 returns-in_ok-event-in-Some-clause-none c =

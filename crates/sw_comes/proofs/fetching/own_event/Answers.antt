@@ -5,7 +5,7 @@ use Rattle.sw_data.specs.declared.events.Event.{Event}
 use Rattle.sw_data.specs.declared.recordings.Recording.{Recording}
 use Rattle.sw_rules.specs.Tasks.{event_of}
 use Rattle.sw_work.specs.Hosted.{state_of}
-use Rattle.sw_turns.proofs.fetching.task_event.Goals as goal
+use Rattle.sw_comes.proofs.fetching.own_event.Goals as goal
 
 pub returns-in-Some : goal.returns-in-Some
 returns-in-Some c = λ recording same.
