@@ -1,0 +1,4 @@
+pub mod Pairing
+pub mod Drawing
+pub mod Printing
+pub mod Rows

@@ -1,0 +1,4 @@
+pub mod Checking
+pub mod Lines
+pub mod Pairs
+pub mod Counting
