@@ -1,0 +1,5 @@
+pub mod Agreeing
+pub mod Beginnings
+pub mod Leading
+pub mod Persisting
+pub mod Telling
