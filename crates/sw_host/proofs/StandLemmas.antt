@@ -7,12 +7,14 @@ use Rattle.sw_host.specs.declared.command.Command.TheVariants as command
 use Rattle.sw_host.specs.declared.statuses.Status.{Status}
 use Rattle.sw_host.specs.declared.statuses.Status.TheVariants as status
 use Rattle.sw_host.specs.Runs.{status_of}
-use Rattle.sw_host.specs.Stands.{HasEnded, IsRead, RefusedAs, RefusesDisk, ReplaysSource, ReportedAs, Stands}
+use Rattle.sw_host.specs.Reading.{IsRead, RefusedAs}
+use Rattle.sw_host.specs.Stands.{HasEnded, RefusesDisk, ReplaysSource, ReportedAs, Stands}
 use Rattle.sw_lock.specs.declared.pass.Spent.{Spent}
 use Rattle.sw_turns.specs.declared.ends.DriveEnd.{DriveEnd}
 use Rattle.sw_turns.specs.declared.ends.DriveEnd.TheVariants as drive_end
 use Rattle.sw_forms.specs.declared.error.RecordingError.{RecordingError}
 use Rattle.sw_forms.specs.declared.error.RecordingError.TheVariants as error
+use Rattle.sw_forms.specs.declared.limits.TheConstants.{RECORDING_LIMIT}
 use Rattle.sw_record.specs.Grammar.{recording_of}
 
 -- own: statuses that of all recordings only those that were run have
@@ -40,7 +42,7 @@ module _ {D : Type 0} (disk : Ghosts D) (old new : D) (left : Option (List ℕ))
   unread (error.TooLarge line passed) status.TooLarge run refused = absurd run
   unread (error.TooLarge line passed) _ run refused = refused
 
-  reported : (workers : ℕ) (outcome : Status) → IsOfRun outcome → (bytes : List ℕ) → IsRead left bytes → (what : Result Recording RecordingError)
+  reported : (workers : ℕ) (outcome : Status) → IsOfRun outcome → (bytes : List ℕ) → IsRead RECORDING_LIMIT left bytes → (what : Result Recording RecordingError)
       → recording_of bytes ≡ what → ReportedAs disk old new workers what outcome text → HasRun workers outcome
   reported workers outcome of_run bytes read (Ok recording) is (inl run) = (
     run.ended,
@@ -61,8 +63,8 @@ module _ {D : Type 0} (disk : Ghosts D) (old new : D) (left : Option (List ℕ))
 
   replayed : (workers before now : ℕ) (outcome : Status) → IsOfRun outcome → ReplaysSource disk old new workers left before now outcome text → HasRun workers outcome
   replayed workers before now outcome of_run (inl (bytes, read, is)) = reported workers outcome of_run bytes read (recording_of bytes) refl is
-  replayed workers before now outcome of_run (inr (inl is)) = absurd (subst IsOfRun is.0 of_run)
-  replayed workers before now outcome of_run (inr (inr is)) = absurd (subst IsOfRun is.0 of_run)
+  replayed workers before now outcome of_run (inr (inl is, alone)) = absurd (subst IsOfRun is.0 of_run)
+  replayed workers before now outcome of_run (inr (inr is, alone)) = absurd (subst IsOfRun is.0 of_run)
 
   -- ---- each end
 

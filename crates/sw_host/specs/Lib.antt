@@ -1,4 +1,5 @@
 pub mod Generating
+pub mod Reading
 pub mod Runs
 pub mod Stands
 pub mod Texts

@@ -1,10 +1,12 @@
 -- What a run comes to before writing: when each status stands, with which text, and what it has done to the disk.
-use Rattle.std.specs.Prelude.{◌≡◌, ◌⊎◌, ◌+◌, ◌≤◌, ◌<◌, ◌^◌, ℕ, List, length, codes, IsSome, Option, Result, Ok, Err}
+use Rattle.std.specs.Prelude.{◌≡◌, ◌⊎◌, ◌+◌, ◌≤◌, ◌<◌, ◌^◌, ◌++◌, ℕ, List, length, codes, decimal, IsSome, Option, Some, None, Result, Ok, Err}
+use Rattle.sw_check.specs.Accepted.{Says}
+use Rattle.sw_check.specs.declared.verdicts.Verdict.{Verdict}
+use Rattle.sw_check.specs.declared.verdicts.Verdict.TheVariants as verdict
 use Rattle.sw_data.specs.declared.histories.Entry.{Entry}
 use Rattle.sw_data.specs.declared.recordings.Recording.{Recording}
 use Rattle.sw_data.specs.declared.storage.Kept.{Kept}
 use Rattle.sw_data.specs.Faults.{Rose}
-use Rattle.sw_data.specs.Streams.{Tells}
 use Rattle.sw_disk.specs.declared.disk.Disk.{Ghosts}
 use Rattle.sw_disk.specs.DiskRule.{ForTold, written}
 use Rattle.sw_disk.specs.Image.{get, put}
@@ -15,8 +17,12 @@ use Rattle.sw_host.specs.declared.report.Report.{Report}
 use Rattle.sw_host.specs.declared.statuses.Status.{Status}
 use Rattle.sw_host.specs.declared.statuses.Status.TheVariants as status
 use Rattle.sw_host.specs.Generating.{HasGenerated}
+use Rattle.sw_host.specs.Reading.{IsRead, ReadsThen, RefusedAs}
 use Rattle.sw_host.specs.Runs.{EndsAs, last_of}
-use Rattle.sw_host.specs.Texts.{bad_journal_text, help_text, refusal_text, version_text}
+use Rattle.sw_host.specs.Texts.{bad_journal_text, help_text, large_source_text, refusal_text, version_text}
+use Rattle.sw_import.specs.Checking as checking
+use Rattle.sw_import.specs.Lines.{checks_text}
+use Rattle.sw_inputs.specs.declared.ImportRecording.{ImportRecording}
 use Rattle.sw_journal.specs.Format.{format_of}
 use Rattle.sw_journal.specs.Init.{FromSecondCall, first_bytes}
 use Rattle.sw_journal.specs.Quiet.{IsQuiet}
@@ -26,11 +32,11 @@ use Rattle.sw_turns.specs.declared.ends.DriveEnd.{DriveEnd}
 use Rattle.sw_print.specs.Showing.{shown}
 use Rattle.sw_print.specs.Transcript.{transcript}
 use Rattle.sw_forms.specs.declared.error.RecordingError.{RecordingError}
-use Rattle.sw_forms.specs.declared.error.RecordingError.TheVariants as error
 use Rattle.sw_forms.specs.declared.limits.TheConstants.{RECORDING_LIMIT}
-use Rattle.sw_forms.specs.Refusals as refusals
+use Rattle.sw_readers.specs.Division.{division}
+use Rattle.sw_readers.specs.Imports.{imports_of}
 use Rattle.sw_record.specs.Grammar.{recording_of}
-use Rattle.sw_rules.specs.Storage.{nothing}
+use Rattle.sw_rules.specs.Storage.{IsMade, nothing}
 use Rattle.sw_store.specs.declared.errors.OpenError.{OpenError}
 use Rattle.sw_store.specs.declared.errors.OpenError.TheVariants as open_error
 use Rattle.sw_store.specs.Opened.{HasNoRoom, IsUnopened}
@@ -69,14 +75,6 @@ ReplaysOn disk old new workers recording outcome text =
 
 -- ---- bytes that were read
 
--- bytes that are no recording are refused with this status and text
-abbrev pub RefusedAs : RecordingError → Status → List ℕ → Type 0
-RefusedAs error.NoMemory _ text = ⊥
-RefusedAs (error.BadLine line why) status.BadLine text = text ≡ refusals.refusal_text (error.BadLine line why)
-RefusedAs (error.BadLine line why) _ text = ⊥
-RefusedAs (error.TooLarge line passed) status.TooLarge text = text ≡ refusals.refusal_text (error.TooLarge line passed)
-RefusedAs (error.TooLarge line passed) _ text = ⊥
-
 -- what was read is reported with this status and text; a disk on which no recording is run is left alone
 abbrev pub ReportedAs : {D : Type 0} → Ghosts D → (old new : D) → ℕ → Result Recording RecordingError → Status → List ℕ → Type 0
 ReportedAs disk old new workers (Ok recording) outcome text = ReplaysOn disk old new workers recording outcome text
@@ -86,23 +84,12 @@ ReportedAs disk old new workers (Err why) outcome text = RefusedAs why outcome t
 abbrev pub Replays : {D : Type 0} → Ghosts D → (old new : D) → ℕ → List ℕ → Status → List ℕ → Type 0
 Replays disk old new workers bytes outcome text = ReportedAs disk old new workers (recording_of bytes) outcome text
 
--- the source had these bytes left, no more than a recording may have
-pub record IsRead (left : Option (List ℕ)) (bytes : List ℕ) : Type 0 where
-  pub told : Tells left bytes
-  pub within : length bytes ≤ RECORDING_LIMIT
-
--- the source had more bytes left than a recording may have
-abbrev pub IsPastLimit : Option (List ℕ) → Type 0
-IsPastLimit left = (bytes : List ℕ) × Tells left bytes × (RECORDING_LIMIT < length bytes)
-
 -- ---- the commands
 
 -- own: a recording was read and reported; or it was not read, and its disk is left alone
 abbrev pub ReplaysSource : {D : Type 0} → Ghosts D → (old new : D) → ℕ → Option (List ℕ) → (before now : ℕ) → Status → List ℕ → Type 0
-ReplaysSource disk old new workers left before now outcome text =
-    ((bytes : List ℕ) × IsRead left bytes × Replays disk old new workers bytes outcome text)
-    ⊎ (((outcome ≡ status.ReadFault) × Rose before now × (text ≡ refusal_text status.ReadFault) × (new ≡ old))
-    ⊎ ((outcome ≡ status.TooLarge) × IsPastLimit left × (text ≡ refusal_text status.TooLarge) × (new ≡ old)))
+ReplaysSource disk old new workers left before now =
+    ReadsThen RECORDING_LIMIT (refusal_text status.TooLarge) left before now (Replays disk old new workers) (new ≡ old)
 
 -- own: the current part was no journal, and has the first bytes of one without a record, also after a crash
 pub record IsFormatted {D : Type 0} (disk : Ghosts D) (old new : D) : Type 0 where
@@ -137,19 +124,73 @@ Formats disk old new status.AlreadyFormatted text =
     (text ≡ refusal_text status.AlreadyFormatted) × IsQuiet disk old new × IsAlready disk old
 Formats disk old new _ text = ⊥
 
+-- own: a disk that is read alone is refused with this status and text
+abbrev pub RefusesToRead : {D : Type 0} → Ghosts D → (old new : D) → Status → List ℕ → Type 0
+RefusesToRead disk old new status.DiskFault text =
+    (text ≡ refusal_text status.DiskFault) × Rose (disk.faults old) (disk.faults new)
+RefusesToRead disk old new status.NotFormatted text =
+    (text ≡ refusal_text status.NotFormatted) × ForTold (disk.seen old) (λ image. stored image ≡ Unformatted)
+RefusesToRead disk old new status.BadJournal text =
+    (offset : ℕ) × (text ≡ bad_journal_text offset) × ForTold (disk.seen old) (λ image. stored image ≡ Bad offset)
+RefusesToRead disk old new _ text = ⊥
+
+-- own: the disk keeps this, which changes made from nothing
+abbrev pub Keeps : {D : Type 0} → Ghosts D → D → Kept → Type 0
+Keeps disk old kept = IsMade kept × ForTold (disk.seen old) (HasKept kept)
+
+-- own: nothing is written, and what the disk keeps is reported with this status and text, or the disk is refused
+abbrev pub ReadsKept : {D : Type 0} → Ghosts D → (old new : D) → (Kept → Status → List ℕ → Type 0) → Status → List ℕ → Type 0
+ReadsKept disk old new Reports outcome text =
+    IsQuiet disk old new
+    × (((kept : Kept) × Keeps disk old kept × Reports kept outcome text) ⊎ RefusesToRead disk old new outcome text)
+
+-- what is kept is shown
+abbrev pub IsShown : Kept → Status → List ℕ → Type 0
+IsShown kept outcome text = (outcome ≡ status.Done) × (text ≡ shown kept)
+
 -- own: what the disk keeps is shown with this status and text, and nothing is written
 abbrev pub Shows : {D : Type 0} → Ghosts D → (old new : D) → Status → List ℕ → Type 0
-Shows disk old new status.Done text =
-    IsQuiet disk old new × ((kept : Kept) × ForTold (disk.seen old) (HasKept kept) × (text ≡ shown kept))
-Shows disk old new status.DiskFault text =
-    (text ≡ refusal_text status.DiskFault) × Rose (disk.faults old) (disk.faults new) × IsQuiet disk old new
-Shows disk old new status.NotFormatted text =
-    (text ≡ refusal_text status.NotFormatted) × IsQuiet disk old new
-    × ForTold (disk.seen old) (λ image. stored image ≡ Unformatted)
-Shows disk old new status.BadJournal text =
-    (offset : ℕ) × (text ≡ bad_journal_text offset) × IsQuiet disk old new
-    × ForTold (disk.seen old) (λ image. stored image ≡ Bad offset)
-Shows disk old new _ text = ⊥
+Shows disk old new = ReadsKept disk old new IsShown
+
+-- the status and the text of a verdict
+abbrev pub IsVerdict : Verdict → Status → List ℕ → Type 0
+IsVerdict (verdict.Yes entries) outcome text =
+    (outcome ≡ status.Done) × (text ≡ codes "audit yes " ++ decimal entries ++ codes " entries\n")
+IsVerdict verdict.No outcome text = (outcome ≡ status.Refuted) × (text ≡ refusal_text status.Refuted)
+
+-- own: a verdict that is right on a recording and a transcript, of a host that has kept this, is reported
+abbrev pub IsAudited : Recording → List ℕ → Kept → Status → List ℕ → Type 0
+IsAudited recording transcript kept outcome text =
+    (said : Verdict) × Says kept recording transcript said × IsVerdict said outcome text
+
+-- own: a transcript is audited with what is left of the source, or that is refused; of a disk nothing is written
+abbrev pub AuditsRead : {D : Type 0} → Ghosts D → (old new : D) → List ℕ → Result Recording RecordingError → Status → List ℕ → Type 0
+AuditsRead disk old new transcript (Ok recording) outcome text =
+    ReadsKept disk old new (IsAudited recording transcript) outcome text
+AuditsRead disk old new transcript (Err why) outcome text = RefusedAs why outcome text × (new ≡ old)
+
+-- own: the same of the bytes of a recording and a transcript; more bytes than a recording may have are none
+abbrev pub AuditsParts : {D : Type 0} → Ghosts D → (old new : D) → (recorded transcript : List ℕ) → Status → List ℕ → Type 0
+AuditsParts disk old new recorded transcript outcome text =
+    ((length recorded ≤ RECORDING_LIMIT) × AuditsRead disk old new transcript (recording_of recorded) outcome text)
+    ⊎ ((RECORDING_LIMIT < length recorded) × (outcome ≡ status.TooLarge) × (text ≡ refusal_text status.TooLarge) × (new ≡ old))
+
+-- own: the same of the source's bytes, which a line divides
+abbrev pub AuditsDivided : {D : Type 0} → Ghosts D → (old new : D) → Option (List ℕ × List ℕ) → Status → List ℕ → Type 0
+AuditsDivided disk old new (Some parts) outcome text = AuditsParts disk old new parts.0 parts.1 outcome text
+AuditsDivided disk old new None outcome text =
+    (outcome ≡ status.NoTranscript) × (text ≡ refusal_text status.NoTranscript) × (new ≡ old)
+
+abbrev pub Audits : {D : Type 0} → Ghosts D → (old new : D) → List ℕ → Status → List ℕ → Type 0
+Audits disk old new bytes outcome text = AuditsDivided disk old new (division bytes) outcome text
+
+-- own: the scripts that a recording names are checked, in order
+abbrev pub IsChecked : Result ImportRecording RecordingError → Status → List ℕ → Type 0
+IsChecked (Ok recording) outcome text = (outcome ≡ status.Done) × (text ≡ checks_text recording.fetches checking.nothing recording.checks)
+IsChecked (Err why) outcome text = RefusedAs why outcome text
+
+abbrev pub Checks : List ℕ → Status → List ℕ → Type 0
+Checks bytes outcome text = IsChecked (imports_of bytes) outcome text
 
 -- own: a page on the program itself is printed
 abbrev pub IsPage : List ℕ → Status → List ℕ → Type 0
@@ -165,6 +206,8 @@ HasReadAll status.BadJournal = Unit {0}
 HasReadAll status.Stalled = Unit {0}
 HasReadAll status.Full = Unit {0}
 HasReadAll (status.Spent spent) = Unit {0}
+HasReadAll status.Refuted = Unit {0}
+HasReadAll status.NoTranscript = Unit {0}
 HasReadAll _ = ⊥
 
 -- before writing, this status stands with this text: the source had these bytes left, its count of faults went from before to
@@ -176,6 +219,10 @@ Stands disk old new left before now (command.Replay workers) outcome text =
 Stands disk old new left before now command.Show outcome text = Shows disk old new outcome text
 Stands disk old new left before now (command.Gen number size) outcome text =
     HasGenerated number size outcome text × (new ≡ old)
+Stands disk old new left before now command.Imports outcome text =
+    ReadsThen RECORDING_LIMIT (refusal_text status.TooLarge) left before now Checks (Unit {0}) outcome text × (new ≡ old)
+Stands disk old new left before now command.Audit outcome text =
+    ReadsThen 67108864 large_source_text left before now (Audits disk old new) (new ≡ old) outcome text
 Stands disk old new left before now command.Help outcome text = IsPage help_text outcome text × (new ≡ old)
 Stands disk old new left before now command.Version outcome text = IsPage version_text outcome text × (new ≡ old)
 Stands disk old new left before now command.Unknown outcome text =
@@ -196,9 +243,11 @@ LeavesAfterBytes disk old new workers bytes =
 abbrev pub LeavesWithoutMemory : {D : Type 0} → Ghosts D → (old new : D) → Option (List ℕ) → Command → Type 0
 LeavesWithoutMemory disk old new left command.Init = IsLeftAlone disk old new × LeavesOthers disk old new
 LeavesWithoutMemory disk old new left (command.Replay workers) =
-    (new ≡ old) ⊎ ((bytes : List ℕ) × IsRead left bytes × LeavesAfterBytes disk old new workers bytes)
+    (new ≡ old) ⊎ ((bytes : List ℕ) × IsRead RECORDING_LIMIT left bytes × LeavesAfterBytes disk old new workers bytes)
 LeavesWithoutMemory disk old new left command.Show = IsQuiet disk old new
 LeavesWithoutMemory disk old new left (command.Gen number size) = new ≡ old
+LeavesWithoutMemory disk old new left command.Imports = new ≡ old
+LeavesWithoutMemory disk old new left command.Audit = (new ≡ old) ⊎ IsQuiet disk old new
 LeavesWithoutMemory disk old new left command.Help = new ≡ old
 LeavesWithoutMemory disk old new left command.Version = new ≡ old
 LeavesWithoutMemory disk old new left command.Unknown = new ≡ old
@@ -210,7 +259,7 @@ pub record HasEnded {D : Type 0} (disk : Ghosts D) (old new : D) (workers : ℕ)
   pub recording : Recording
   pub base : Kept
   pub history : List Entry
-  pub is_read : IsRead left bytes
+  pub is_read : IsRead RECORDING_LIMIT left bytes
   pub is_recording : recording_of bytes ≡ Ok recording
   pub run : Ended disk old new workers recording base history ended
   pub printed : text ≡ transcript history (last_of ended)

@@ -20,6 +20,8 @@ code_of status.TooLarge = 10
 code_of status.Full = 11
 code_of status.AlreadyFormatted = 12
 code_of (status.Spent spent) = 13
+code_of status.Refuted = 15
+code_of status.NoTranscript = 16
 
 -- the text that a refusal of its own prints
 abbrev pub refusal_text : Status → List ℕ
@@ -30,11 +32,17 @@ refusal_text status.NotFormatted = codes "error: not formatted\n"
 refusal_text status.TooLarge = codes "error: too large: recording\n"
 refusal_text status.Full = codes "error: full\n"
 refusal_text status.AlreadyFormatted = codes "error: already formatted\n"
+refusal_text status.Refuted = codes "audit no\n"
+refusal_text status.NoTranscript = codes "error: no transcript\n"
 refusal_text _ = []
 
 -- the text of a bad journal
 abbrev pub bad_journal_text : ℕ → List ℕ
 bad_journal_text offset = codes "error: bad journal at " ++ decimal offset ++ codes "\n"
+
+-- the text of a source that has more bytes than a recording and a transcript may have
+abbrev pub large_source_text : List ℕ
+large_source_text = codes "error: too large: source\n"
 
 -- own: how the program is called
 abbrev pub help_text : List ℕ

@@ -3,6 +3,7 @@ use Rattle.std.specs.Prelude.{ℕ, ◌≤◌, ◌^◌, ◌&&◌, Bool, true, fal
 use Rattle.std.specs.Option.{option_and_then, option_map_or}
 use Rattle.std.specs.Str.Parse.{digits_value}
 use Rattle.std.specs.declared.alloc.Global.{Global}
+use Rattle.sw_forms.specs.declared.limits.TheConstants.{RECORDING_LIMIT}
 use Rattle.sw_host.specs.declared.command.Command.{Command}
 use Rattle.sw_host.specs.declared.command.Command.TheVariants as command
 
@@ -12,6 +13,8 @@ one_word word =
     if bytes_eq word (codes "init") then command.Init
     else if bytes_eq word (codes "replay") then command.Replay 1
     else if bytes_eq word (codes "show") then command.Show
+    else if bytes_eq word (codes "imports") then command.Imports
+    else if bytes_eq word (codes "audit") then command.Audit
     else if bytes_eq word (codes "--help") then command.Help
     else if bytes_eq word (codes "--version") then command.Version
     else command.Unknown
@@ -51,16 +54,24 @@ command_of (word ∷ first ∷ []) = two_words (string_bytes word) (string_bytes
 command_of (word ∷ first ∷ second ∷ []) = three_words (string_bytes word) (string_bytes first) (string_bytes second)
 command_of (word ∷ first ∷ second ∷ third ∷ rest) = command.Unknown
 
--- the command runs a recording
-abbrev pub is_replay : Command → Bool
-is_replay (command.Replay workers) = true
-is_replay _ = false
+-- the command reads the source
+abbrev pub reads_source : Command → Bool
+reads_source (command.Replay workers) = true
+reads_source command.Imports = true
+reads_source command.Audit = true
+reads_source _ = false
+
+-- how many bytes a command reads of the source at most
+abbrev pub source_limit : Command → ℕ
+source_limit command.Audit = 67108864
+source_limit _ = RECORDING_LIMIT
 
 -- own: the command reads the disk, or writes it
 abbrev pub needs_disk : Command → Bool
 needs_disk command.Init = true
 needs_disk (command.Replay workers) = true
 needs_disk command.Show = true
+needs_disk command.Audit = true
 needs_disk _ = false
 
 -- own: a command that runs a recording has from 1 to 16 workers, and one that generates it a size from 1 to 4096

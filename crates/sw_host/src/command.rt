@@ -16,6 +16,10 @@ pub enum Command {
     Show,
     /// Runs the generated recording of this number and size on a disk of its own.
     Gen(u32, u32),
+    /// Checks imported scripts, as a recording says.
+    Imports,
+    /// Says whether a transcript is one that a recording can have.
+    Audit,
     /// Prints how the program is called.
     Help,
     /// Prints the program's name and version.
@@ -69,6 +73,10 @@ fn one_word(word: &str) -> Command
         Command::Replay(1)
     } else if word == "show" {
         Command::Show
+    } else if word == "imports" {
+        Command::Imports
+    } else if word == "audit" {
+        Command::Audit
     } else if word == "--help" {
         Command::Help
     } else if word == "--version" {
@@ -125,6 +133,6 @@ pub fn needs_disk(words: &[String]) -> bool
 {
     matches!(
         command_of(words),
-        Command::Init | Command::Replay(_) | Command::Show
+        Command::Init | Command::Replay(_) | Command::Show | Command::Audit
     )
 }

@@ -1,10 +1,13 @@
 //! The host: it formats a disk, runs a recording on it and prints the transcript, prints what the disk keeps, or how it is called.
 #![tactic(auto)]
 
+mod auditing;
+mod checking;
 mod command;
 mod ending;
 mod generating;
 mod pages;
+mod reading;
 mod report;
 mod statuses;
 mod storing;

@@ -3,7 +3,7 @@
 ghost use Rattle.std.specs.Prelude.{◌≡◌, IfOk};
 ghost use Rattle.sw_forms.specs.Refusals.{cause_word, limit_word, refusal_text};
 ghost use Rattle.sw_forms.specs.declared.error.RecordingError.{RecordingError};
-ghost use Rattle.sw_host.specs.Stands.{RefusedAs};
+ghost use Rattle.sw_host.specs.Reading.{RefusedAs};
 ghost use Rattle.sw_host.specs.Texts as texts;
 
 use crate::statuses::Status;

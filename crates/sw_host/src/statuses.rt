@@ -36,6 +36,10 @@ pub enum Status {
     AlreadyFormatted,
     /// A worker has made all the turns that a worker makes, and nothing else has ended the run.
     Spent(Spent),
+    /// The transcript is none that the recording can have.
+    Refuted,
+    /// No line of the source divides a recording from a transcript.
+    NoTranscript,
 }
 
 impl Status {
@@ -58,6 +62,8 @@ impl Status {
             Status::Full => 11,
             Status::AlreadyFormatted => 12,
             Status::Spent(_) => 13,
+            Status::Refuted => 15,
+            Status::NoTranscript => 16,
         }
     }
 
@@ -74,6 +80,8 @@ impl Status {
             Status::TooLarge => "error: too large: recording\n",
             Status::Full => "error: full\n",
             Status::AlreadyFormatted => "error: already formatted\n",
+            Status::Refuted => "audit no\n",
+            Status::NoTranscript => "error: no transcript\n",
             Status::Done
             | Status::NoMemory
             | Status::BadLine

@@ -1,9 +1,8 @@
 //! The commands on the disk alone.
 
-ghost use Rattle.std.specs.Prelude.{◌≡◌, IfOk, OnErr};
-ghost use Rattle.sw_host.specs.Stands.{Formats, IsLeftAlone, LeavesOthers, Shows};
+ghost use Rattle.std.specs.Prelude.{IfErr, IfOk, OnErr};
+ghost use Rattle.sw_host.specs.Stands.{Formats, IsLeftAlone, IsShown, Keeps, LeavesOthers, RefusesToRead, Shows};
 ghost use Rattle.sw_journal.specs.Quiet.{IsQuiet};
-ghost use Rattle.sw_print.specs.Showing.{shown};
 
 use crate::report::{Report, bad_journal, refused};
 use crate::statuses::Status;
@@ -35,10 +34,28 @@ pub fn format<D: Disk>(alloc: Global, disk: &mut D) -> Result<Report, NoMemory>
     }
 }
 
+// What the disk keeps; or the report of a disk that could not be read.
+pub(crate) fn kept_of<D: Disk>(
+    alloc: Global,
+    disk: &mut D,
+) -> Result<Content, Result<Report, NoMemory>>
+    ensures keeps { IfOk result (Keeps D.Disk disk.old) }
+    ensures refuses { IfErr result (λ unread. IfOk unread (λ report.
+        RefusesToRead D.Disk disk.old disk.new report.status report.text)) }
+    ensures quiet { IsQuiet D.Disk disk.old disk.new }
+{
+    match open(alloc, disk, LIMIT) {
+        Ok((_, content)) => Ok(content),
+        Err(OpenError::NoMemory) => Err(Err(NoMemory)),
+        Err(OpenError::DiskFault) => Err(refused(alloc, Status::DiskFault)),
+        Err(OpenError::NotFormatted) => Err(refused(alloc, Status::NotFormatted)),
+        Err(OpenError::BadJournal(offset)) => Err(bad_journal(alloc, offset)),
+    }
+}
+
 // What is kept, as text.
 fn shown(alloc: Global, content: Content) -> Result<Report, NoMemory>
-    ensures { IfOk result (λ report. report
-        ≡ record { status = Status.Done; text = shown content }) }
+    ensures { IfOk result (λ report. IsShown content report.status report.text) }
 {
     let kept = content.into_kept(alloc)?;
     Ok(Report {
@@ -53,11 +70,8 @@ pub fn show<D: Disk>(alloc: Global, disk: &mut D) -> Result<Report, NoMemory>
         Shows D.Disk disk.old disk.new report.status report.text) }
     ensures quiet { OnErr result (IsQuiet D.Disk disk.old disk.new) }
 {
-    match open(alloc, disk, LIMIT) {
-        Ok((_, content)) => shown(alloc, content),
-        Err(OpenError::NoMemory) => Err(NoMemory),
-        Err(OpenError::DiskFault) => refused(alloc, Status::DiskFault),
-        Err(OpenError::NotFormatted) => refused(alloc, Status::NotFormatted),
-        Err(OpenError::BadJournal(offset)) => bad_journal(alloc, offset),
+    match kept_of(alloc, disk) {
+        Ok(content) => shown(alloc, content),
+        Err(unread) => unread,
     }
 }

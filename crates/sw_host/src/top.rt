@@ -1,20 +1,26 @@
 //! The top call: words, a source, a sink, a disk and a gate.
 
-ghost use Rattle.std.specs.Prelude.{◌≡◌, ◌≢◌, ◌+◌, ◌≤◌, ℕ, List, Some, true, false, IfOk, OnErr};
+ghost use Rattle.std.specs.Prelude.{◌≡◌, ◌≢◌, ◌⊎◌, ◌+◌, ◌≤◌, ℕ, List, Some, true, false, IfOk, OnErr};
 ghost use Rattle.std.specs.Io.KnownBytes.{IsAtEnd};
 ghost use Rattle.sw_data.specs.Faults.{Rose};
 ghost use Rattle.sw_data.specs.Streams.{ConsumesSome};
 ghost use Rattle.sw_host.specs.declared.command.Command.TheVariants as command;
-ghost use Rattle.sw_host.specs.Stands.{HasEnded, HasReadAll, LeavesAfterBytes, LeavesWithoutMemory, Replays, ReplaysSource, Stands};
-ghost use Rattle.sw_host.specs.Words.{command_of, is_replay, needs_disk};
+ghost use Rattle.sw_host.specs.Reading.{ReadsThen};
+ghost use Rattle.sw_host.specs.Stands.{Audits, Checks, HasEnded, HasReadAll, LeavesAfterBytes, LeavesWithoutMemory, Replays, ReplaysSource, Stands};
+ghost use Rattle.sw_host.specs.Texts.{large_source_text, refusal_text};
+ghost use Rattle.sw_host.specs.Words.{command_of, needs_disk, reads_source, source_limit};
+ghost use Rattle.sw_journal.specs.Quiet.{IsQuiet};
 ghost use Rattle.sw_io.specs.Taking.{Takes, TakesNothing, TakesPrefix};
 ghost use Rattle.sw_lock.specs.declared.pass.Spent.{Spent};
 ghost use Rattle.sw_turns.specs.declared.ends.DriveEnd.TheVariants as drive_end;
 
+use crate::auditing::audit_bytes;
+use crate::checking::check_bytes;
 use crate::command::{Command, command_of};
 use crate::ending::{reported, take_up};
 use crate::generating::run_generated;
 use crate::pages::{help, version};
+use crate::reading::bytes_of;
 use crate::report::{Report, refused};
 use crate::statuses::Status;
 use crate::storing::{format, show};
@@ -23,10 +29,13 @@ use std::sync::Wait;
 use std::thread::Threads;
 use sw_data::NoMemory;
 use sw_disk::Disk;
-use sw_io::{ReadAllError, Sink, Source, read_all, write_all};
+use sw_io::{Sink, Source, write_all};
 use sw_net::Gate;
 use sw_pool::{work, work_alone};
 use sw_record::RECORDING_LIMIT;
+
+// How many bytes a recording and a transcript may have, with the line between them.
+const SOURCE_LIMIT: u64 = 67_108_864;
 
 /// How a run ended, and its disk.
 #[derive(Drop)]
@@ -37,15 +46,18 @@ pub struct Outcome<D> {
 
 /// Does what the words say: `init` formats the disk; `replay` reads a recording from the source to its end, runs it on the
 /// disk by one worker, or by as many as the word behind it says, and writes the transcript to the sink; `show` writes what
-/// the disk keeps; `gen` writes what comes of a generated recording that one worker runs on a disk of its own; `--help`
-/// writes how the program is called, and `--version` its name and version. The last three leave the disk alone.
+/// the disk keeps; `gen` writes what comes of a generated recording that one worker runs on a disk of its own; `imports`
+/// reads a recording of scripts and writes what each check of their imports comes to; `audit` reads a recording and a
+/// transcript, and writes whether a host that has kept what the disk keeps may print it for the recording; `--help` writes
+/// how the program is called, and `--version` its name and version. `show` and `audit` write nothing to the disk, and
+/// `gen`, `imports` and the last two leave it alone.
 ///
 /// Workers take turns under a lock, and pass the gate with what they fetch between their turns. Whatever their
 /// number, a run has one history, which holds the calls of each lane in order, each once; how the lanes follow one another
 /// is as it comes. With one worker it is the history that the pick order fixes.
 ///
-/// Refusals are tested in this order: words, reading, the source's size, lines, the disk's opening, the run; a write fault
-/// replaces the status that stood. Want of memory may come at any point before writing.
+/// Refusals are tested in this order: words, reading, the source's size, the line that divides it, lines, the disk's
+/// opening, the run; a write fault replaces the status that stood. Want of memory may come at any point before writing.
 pub fn run<R: Threads + Wait + Sync, S: Source, K: Sink, D: Disk + Send, G: Gate + Sync>(
     rt: &R,
     alloc: Global,
@@ -99,13 +111,13 @@ pub fn run<R: Threads + Wait + Sync, S: Source, K: Sink, D: Disk + Send, G: Gate
     // Words that don't ask for the disk leave it as it was.
     ensures alone { needs_disk (command_of words.now) ≡ false → result.disk ≡ disk }
 
-    // Other words than `replay` leave the source as it was. It is read no further than its end, and to its end where a
-    // recording is run.
-    ensures untouched { is_replay (command_of words.now) ≡ false → source.new ≡ source.old }
-    ensures reads { S.reads source.new ≤ S.reads source.old + (RECORDING_LIMIT + 2) }
-    ensures consumed { is_replay (command_of words.now) ≡ true
+    // Words that don't ask for the source leave it as it was. It is read no further than its end, and to its end where what
+    // it has is worked on.
+    ensures untouched { reads_source (command_of words.now) ≡ false → source.new ≡ source.old }
+    ensures reads { S.reads source.new ≤ S.reads source.old + (source_limit (command_of words.now) + 2) }
+    ensures consumed { reads_source (command_of words.now) ≡ true
         → ConsumesSome (S.left source.old) (S.left source.new) }
-    ensures end { is_replay (command_of words.now) ≡ true → HasReadAll result.status
+    ensures end { reads_source (command_of words.now) ≡ true → HasReadAll result.status
         → IsAtEnd (S.left source.new) }
 {
     run_on(rt, alloc, words, source, sink, disk, gate)
@@ -133,11 +145,11 @@ fn run_on<R: Threads + Wait + Sync, S: Source, K: Sink, D: Disk + Send, G: Gate 
     ensures no_memory { result.status ≡ Status.NoMemory → TakesNothing K.Sink sink.old sink.new
         × LeavesWithoutMemory D.Disk disk result.disk (S.left source.old) (command_of words.now) }
     ensures alone { needs_disk (command_of words.now) ≡ false → result.disk ≡ disk }
-    ensures untouched { is_replay (command_of words.now) ≡ false → source.new ≡ source.old }
-    ensures reads { S.reads source.new ≤ S.reads source.old + (RECORDING_LIMIT + 2) }
-    ensures consumed { is_replay (command_of words.now) ≡ true
+    ensures untouched { reads_source (command_of words.now) ≡ false → source.new ≡ source.old }
+    ensures reads { S.reads source.new ≤ S.reads source.old + (source_limit (command_of words.now) + 2) }
+    ensures consumed { reads_source (command_of words.now) ≡ true
         → ConsumesSome (S.left source.old) (S.left source.new) }
-    ensures end { is_replay (command_of words.now) ≡ true → HasReadAll result.status
+    ensures end { reads_source (command_of words.now) ≡ true → HasReadAll result.status
         → IsAtEnd (S.left source.new) }
 {
     let (report, disk) = report_of(rt, alloc, words, source, disk, gate);
@@ -169,11 +181,11 @@ fn report_of<R: Threads + Wait + Sync, S: Source, D: Disk + Send, G: Gate + Sync
     ensures no_memory { OnErr result.0 (LeavesWithoutMemory D.Disk disk result.1
         (S.left source.old) (command_of words.now)) }
     ensures alone { needs_disk (command_of words.now) ≡ false → result.1 ≡ disk }
-    ensures untouched { is_replay (command_of words.now) ≡ false → source.new ≡ source.old }
-    ensures reads { S.reads source.new ≤ S.reads source.old + (RECORDING_LIMIT + 2) }
-    ensures consumed { is_replay (command_of words.now) ≡ true
+    ensures untouched { reads_source (command_of words.now) ≡ false → source.new ≡ source.old }
+    ensures reads { S.reads source.new ≤ S.reads source.old + (source_limit (command_of words.now) + 2) }
+    ensures consumed { reads_source (command_of words.now) ≡ true
         → ConsumesSome (S.left source.old) (S.left source.new) }
-    ensures end { is_replay (command_of words.now) ≡ true
+    ensures end { reads_source (command_of words.now) ≡ true
         → IfOk result.0 (λ report. HasReadAll report.status → IsAtEnd (S.left source.new)) }
 {
     match command_of(words) {
@@ -181,6 +193,8 @@ fn report_of<R: Threads + Wait + Sync, S: Source, D: Disk + Send, G: Gate + Sync
         Command::Replay(workers) => read(rt, alloc, source, workers, disk, gate),
         Command::Show => (show(alloc, &mut disk), disk),
         Command::Gen(number, size) => (run_generated(alloc, number, size), disk),
+        Command::Imports => (read_checks(alloc, source), disk),
+        Command::Audit => (read_audit(alloc, source, &mut disk), disk),
         Command::Help => (help(alloc), disk),
         Command::Version => (version(alloc), disk),
         Command::Unknown => (refused(alloc, Status::BadWords), disk),
@@ -207,11 +221,44 @@ fn read<R: Threads + Wait + Sync, S: Source, D: Disk + Send, G: Gate + Sync>(
     ensures end { IfOk result.0 (λ report. HasReadAll report.status
         → IsAtEnd (S.left source.new)) }
 {
-    match read_all(alloc, source, RECORDING_LIMIT) {
+    match bytes_of(alloc, source, RECORDING_LIMIT, Status::TooLarge.refusal()) {
         Ok(bytes) => replay(rt, alloc, bytes.as_bytes(), workers, disk, gate),
-        Err(ReadAllError::ReadFault) => (refused(alloc, Status::ReadFault), disk),
-        Err(ReadAllError::TooLarge) => (refused(alloc, Status::TooLarge), disk),
-        Err(ReadAllError::NoMemory) => (Err(NoMemory), disk),
+        Err(unread) => (unread, disk),
+    }
+}
+
+// The report of the scripts that the source says to check.
+fn read_checks<S: Source>(alloc: Global, source: &mut S) -> Result<Report, NoMemory>
+    ensures checks { IfOk result (λ report. ReadsThen RECORDING_LIMIT (refusal_text Status.TooLarge)
+        (S.left source.old) (S.faults source.old) (S.faults source.new) Checks (Unit {0})
+        report.status report.text) }
+    ensures reads { S.reads source.new ≤ S.reads source.old + (RECORDING_LIMIT + 2) }
+    ensures consumed { ConsumesSome (S.left source.old) (S.left source.new) }
+    ensures end { IfOk result (λ report. HasReadAll report.status → IsAtEnd (S.left source.new)) }
+{
+    match bytes_of(alloc, source, RECORDING_LIMIT, Status::TooLarge.refusal()) {
+        Ok(bytes) => check_bytes(alloc, bytes.as_bytes()),
+        Err(unread) => unread,
+    }
+}
+
+// The report of the recording and the transcript that the source has.
+fn read_audit<S: Source, D: Disk>(
+    alloc: Global,
+    source: &mut S,
+    disk: &mut D,
+) -> Result<Report, NoMemory>
+    ensures audits { IfOk result (λ report. ReadsThen SOURCE_LIMIT large_source_text
+        (S.left source.old) (S.faults source.old) (S.faults source.new)
+        (Audits D.Disk disk.old disk.new) (disk.new ≡ disk.old) report.status report.text) }
+    ensures left { OnErr result ((disk.new ≡ disk.old) ⊎ IsQuiet D.Disk disk.old disk.new) }
+    ensures reads { S.reads source.new ≤ S.reads source.old + (SOURCE_LIMIT + 2) }
+    ensures consumed { ConsumesSome (S.left source.old) (S.left source.new) }
+    ensures end { IfOk result (λ report. HasReadAll report.status → IsAtEnd (S.left source.new)) }
+{
+    match bytes_of(alloc, source, SOURCE_LIMIT, "error: too large: source\n") {
+        Ok(bytes) => audit_bytes(alloc, bytes.as_bytes(), disk),
+        Err(unread) => unread,
     }
 }
 

@@ -11,12 +11,11 @@ ghost use Rattle.sw_data.specs.Faults.{Rose};
 ghost use Rattle.sw_data.specs.Streams.{ConsumesSome};
 ghost use Rattle.sw_disk.specs.Files.{has_file};
 ghost use Rattle.sw_disk.specs.declared.part.Part.{Part};
-ghost use Rattle.sw_forms.specs.declared.limits.TheConstants.{RECORDING_LIMIT};
 ghost use Rattle.sw_host.specs.declared.command.Command.TheVariants as command;
 ghost use Rattle.sw_host.specs.declared.statuses.Status.{Status};
 ghost use Rattle.sw_host.specs.Stands.{HasEnded, HasReadAll, LeavesWithoutMemory, Stands};
 ghost use Rattle.sw_host.specs.Texts.{code_of};
-ghost use Rattle.sw_host.specs.Words.{command_of, is_replay, needs_disk};
+ghost use Rattle.sw_host.specs.Words.{command_of, needs_disk, reads_source, source_limit};
 ghost use Rattle.sw_io.specs.Taking.{Takes, TakesNothing, TakesPrefix};
 ghost use Rattle.sw_lock.specs.declared.pass.Spent.{Spent};
 ghost use Rattle.sw_turns.specs.declared.ends.DriveEnd.TheVariants as drive_end;
@@ -76,11 +75,11 @@ fn ended<R: Threads + Wait + Sync, S: Source, K: Sink, D: Disk + Send, G: Gate +
         × LeavesWithoutMemory D.Disk disk result.1 (S.left source.old) (command_of words.now) }
 
     // What it reads.
-    ensures untouched { is_replay (command_of words.now) ≡ false → source.new ≡ source.old }
-    ensures reads { S.reads source.new ≤ S.reads source.old + (RECORDING_LIMIT + 2) }
-    ensures consumed { is_replay (command_of words.now) ≡ true
+    ensures untouched { reads_source (command_of words.now) ≡ false → source.new ≡ source.old }
+    ensures reads { S.reads source.new ≤ S.reads source.old + (source_limit (command_of words.now) + 2) }
+    ensures consumed { reads_source (command_of words.now) ≡ true
         → ConsumesSome (S.left source.old) (S.left source.new) }
-    ensures end { is_replay (command_of words.now) ≡ true
+    ensures end { reads_source (command_of words.now) ≡ true
         → (outcome : Status) × (exit_status result.0 ≡ code_of outcome)
         × (HasReadAll outcome → IsAtEnd (S.left source.new)) }
 {
