@@ -20,3 +20,5 @@ spent_of status.Stalled is = absurd cc
 spent_of status.TooLarge is = absurd cc
 spent_of status.Full is = absurd cc
 spent_of status.AlreadyFormatted is = absurd cc
+spent_of status.Refuted is = absurd cc
+spent_of status.NoTranscript is = absurd cc
