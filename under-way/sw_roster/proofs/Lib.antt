@@ -1,0 +1,7 @@
+pub mod Askers
+pub mod Free
+pub mod Numbers
+pub mod OnlyOpens
+pub mod Played
+pub mod Recents
+mod Worked
