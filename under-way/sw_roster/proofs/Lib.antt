@@ -1,7 +1,0 @@
-pub mod Askers
-pub mod Free
-pub mod Numbers
-pub mod OnlyOpens
-pub mod Played
-pub mod Recents
-mod Worked

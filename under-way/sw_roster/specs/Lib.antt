@@ -1,4 +1,0 @@
-pub mod Beats
-pub mod Members
-pub mod Playing
-pub mod Texts
