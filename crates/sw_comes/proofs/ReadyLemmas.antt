@@ -28,7 +28,7 @@ use Rattle.sw_data.specs.declared.workers.Phase.TheVariants as phase
 use Rattle.sw_data.specs.Sameness.{same_call, same_header, same_list, same_op, same_options, same_phase, same_request, same_response, same_truth}
 use Rattle.sw_lane.specs.Picked.{is_task}
 use Rattle.sw_laws.specs.Coherent.{ArePlaces, Coherent, has_its_worker, is_parsed, is_place}
-use Rattle.sw_laws.proofs.Lists.{any_weaker, by_truth, bytes_eq_same, find_any, find_passes}
+use Rattle.sw_laws.proofs.Lists.{any_weaker, by_truth, bytes_eq_same, find_passes}
 use Rattle.sw_laws.proofs.Places.{all_at_found, found_any, found_numbered, places_apart}
 use Rattle.sw_rules.specs.Activating.{is_owed}
 use Rattle.sw_rules.specs.Calls.{call_by, is_next_call}

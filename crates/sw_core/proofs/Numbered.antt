@@ -1,7 +1,6 @@
 -- Rows whose numbers are their places.
-use Rattle.std.proofs.Common.{◌≡◌, ◌∙◌, ℕ, zero, suc, ◌+◌, ◌-◌, ◌<◌, ◌≤◌, ◌^◌, List, [], ◌∷◌, map, length, slice_get, Option, Some, refl, sym, ap, arith}
+use Rattle.std.proofs.Common.{◌≡◌, ℕ, zero, suc, ◌+◌, ◌-◌, ◌<◌, ◌≤◌, ◌^◌, List, [], ◌∷◌, map, length, slice_get, Some, ap, arith}
 use Rattle.std.specs.List.{range_with_len}
-use Rattle.std.proofs.lemmas.List.{length-map}
 
 -- a row stands at its number
 stands_at : {X : Type 0} (number : X → ℕ) (first : ℕ) (xs : List X) (place : ℕ) (x : X) → map number xs ≡ range_with_len first (length xs)
@@ -20,12 +19,3 @@ stands_at number first (one ∷ xs) (suc place) x are is =
 pub few : {X : Type 0} (number : X → ℕ) (xs : List X) (last : X) → map number xs ≡ range_with_len 0 (length xs) → Some last ≡ slice_get xs (length xs - 1)
     → number last < 2 ^ 32 → length xs ≤ 2 ^ 32
 few number xs last are is small = let at = stands_at number 0 xs (length xs - 1) last are is in omega (arith, at, small)
-
-map_through : {X Y : Type 0} (show : X → Y) (number : Y → ℕ) (xs : List X) → map number (map show xs) ≡ map (λ x. number (show x)) xs
-map_through show number [] = refl
-map_through show number (x ∷ xs) = ap (λ (rest : List ℕ). number (show x) ∷ rest) (map_through show number xs)
-
--- rows stand at their numbers where what shows them does
-pub shown : {X Y : Type 0} (show : X → Y) (number : Y → ℕ) (xs : List X) → map number (map show xs) ≡ range_with_len 0 (length (map show xs))
-    → map (λ x. number (show x)) xs ≡ range_with_len 0 (length xs)
-shown show number xs are = sym (map_through show number xs) ∙ are ∙ ap (range_with_len 0) (length-map xs show)
