@@ -1,11 +1,13 @@
 -- The end that a worker is answered is the one that is kept.
-use Rattle.std.proofs.Common.{◌≡◌, ◌∙◌, ℕ, List, Option, Some, None, refl, sym, ap}
+use Rattle.std.proofs.Common.{◌≡◌, ◌∙◌, ◌⊎◌, ⊎_elim, ℕ, List, Option, Some, None, refl, sym, ap, subst}
+use Rattle.std.specs.Prelude.{unwrap_or}
 use Rattle.sw_data.specs.declared.histories.Entry.{Entry}
 use Rattle.sw_disk.specs.declared.disk.Disk.{Ghosts}
 use Rattle.sw_pool.specs.declared.ends.Brief.{Brief}
 use Rattle.sw_pool.specs.declared.ends.Brief.TheVariants as brief
+use Rattle.sw_pool.specs.declared.ends.Turned.{Turned}
 use Rattle.sw_pool.specs.declared.ends.Turned.TheVariants as turned
-use Rattle.sw_pool.specs.Yards.{HasStepped, IsEndSeen, Origin, YardState, brief_of, shown}
+use Rattle.sw_pool.specs.Yards.{HasStepped, HasStopped, IsEndSeen, Origin, Stands, YardState, brief_of, shown}
 use Rattle.sw_turns.specs.Ends.{IsKept}
 use Rattle.sw_turns.specs.declared.ends.DriveEnd.{DriveEnd}
 use Rattle.sw_turns.specs.declared.ends.DriveEnd.TheVariants as drive_end
@@ -57,3 +59,46 @@ module _ {D : Type 0} (disk : Ghosts D) (before after : YardState D) (pass : ℕ
         is = it.2;
         history_is = sym saw;
       }
+
+-- the same where the value was stopped behind its step
+module _ {D : Type 0} (disk : Ghosts D) (left after : YardState D) (said : Brief) (stop : HasStopped disk left after (turned.Ended said)) where
+  abbrev stop_end : DriveEnd
+  stop_end = unwrap_or left.end drive_end.NoMemory
+
+  stop_kept : after.end ≡ Some stop_end
+  stop_kept = ap (λ (yard : YardState D). yard.end) stop.after_is
+
+  stop_said : said ≡ brief_of stop_end
+  stop_said = let told = stop.answer in cc
+
+  stop_never_spent : said ≡ brief.Spent → ⊥
+  stop_never_spent is =
+      unspent stop_end (subst (λ (end : Option DriveEnd). Stands disk after.disk after.origin after.progress end) stop_kept stop.stands.stands).1 (sym stop_said ∙ is)
+
+  stop_seen : (origin : Origin D) (history : List Entry) → left.origin ≡ origin → history ≡ left.progress.history.items → IsEndSeen disk origin history said
+  stop_seen origin history base saw = record {
+    yard = after;
+    stands = stop.stands;
+    ended = stop_end;
+    origin_is = ap (λ (yard : YardState D). yard.origin) stop.after_is ∙ base;
+    kept = stop_kept;
+    is = stop_said;
+    history_is = ap (λ (yard : YardState D). yard.progress.history.items) stop.after_is ∙ sym saw;
+  }
+
+-- a step whose answer stays, or behind which the value was stopped
+module _ {D : Type 0} (disk : Ghosts D) (before left after : YardState D) (pass : ℕ) (answer : Turned) (said : Brief) (step : HasStepped disk before pass left answer)
+    (then : (turned.Ended said ≡ answer) ⊎ HasStopped disk left after (turned.Ended said)) where
+  stays : turned.Ended said ≡ answer → HasStepped disk before pass left (turned.Ended said)
+  stays is = subst (HasStepped disk before pass left) (sym is) step
+
+  pub never_spent_then : said ≡ brief.Spent → ⊥
+  never_spent_then is =
+      ⊎_elim (λ same. never_spent disk before left pass said (stays same) is) (λ stop. stop_never_spent disk left after said stop is) then
+
+  pub end_seen_then : (origin : Origin D) (history : List Entry) → before.origin ≡ origin → history ≡ left.progress.history.items → IsEndSeen disk origin history said
+  end_seen_then origin history base saw =
+      ⊎_elim
+      (λ same. end_seen disk before left pass said (stays same) origin history base saw)
+      (λ stop. stop_seen disk left after said stop origin history (step.origin ∙ base) saw)
+      then

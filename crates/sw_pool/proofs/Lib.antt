@@ -1,3 +1,4 @@
 pub mod Crossing
 pub mod EndLemmas
+pub mod KnownLemmas
 pub mod WorkLemmas

@@ -35,3 +35,8 @@ module _ {D : Type 0} (disk : Ghosts D) (origin : Origin D) (now : D) (progress 
   worked None (drive_end.Stalled lane) going unkept = absurd unkept
   worked None (drive_end.DiskFault refused) going unkept = absurd unkept
   worked None (drive_end.Full happened from needed) going unkept = absurd unkept
+
+  -- a value that is stopped stands
+  pub stopped : (kept : Option DriveEnd) → Stands disk now origin progress kept → Stands disk now origin progress (Some (unwrap_or kept drive_end.NoMemory))
+  stopped (Some ended) stands = stands
+  stopped None going = ((counted drive_end.NoMemory (ends_short disk origin.start now origin.recording origin.base progress going), tt), tt)

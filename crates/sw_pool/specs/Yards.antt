@@ -1,11 +1,13 @@
 -- The value that workers take turns with, and what a step of it is.
-use Rattle.std.specs.Prelude.{◌≡◌, ℕ, List, length, Option, Some, None}
+use Rattle.std.specs.Prelude.{◌≡◌, ℕ, Bool, true, false, List, length, Option, Some, None, unwrap_or}
 use Rattle.sw_data.specs.declared.histories.Entry.{Entry}
 use Rattle.sw_data.specs.declared.recordings.Recording.{Recording}
 use Rattle.sw_data.specs.declared.storage.Kept.{Kept}
 use Rattle.sw_disk.specs.declared.disk.Disk.{Ghosts}
+use Rattle.sw_lock.specs.declared.logged.Logged as logged
 use Rattle.sw_pool.specs.declared.ends.Brief.{Brief}
 use Rattle.sw_pool.specs.declared.ends.Brief.TheVariants as brief
+use Rattle.sw_pool.specs.declared.ends.Nothing.{Nothing}
 use Rattle.sw_pool.specs.declared.ends.Turned.{Turned}
 use Rattle.sw_pool.specs.declared.ends.Turned.TheVariants as turned
 use Rattle.sw_turns.specs.Ends.{Ended, IsKept, IsSpentIn}
@@ -105,6 +107,29 @@ pub record HasStepped {D : Type 0} (disk : Ghosts D) (before : YardState D) (pas
       → (made : Turn) × IsTurn pass before.progress after.progress made × (out ≡ shown made)
   pub group : before.end ≡ None → IsOneGroup pass before.progress after.progress
   pub calls : before.end ≡ None → IsOneRecord (disk.clock before.disk) (disk.clock after.disk) after.progress.store
+
+-- own: a value of a run was stopped: an end that is kept stays, else it is that for want of memory; the answer is the end
+pub record HasStopped {D : Type 0} (disk : Ghosts D) (before after : YardState D) (out : Turned) : Type 0 where
+  pub stands : IsYard disk after
+  pub after_is : after ≡ record before { end = Some (unwrap_or before.end drive_end.NoMemory) }
+  pub answer : out ≡ turned.Ended (brief_of (unwrap_or before.end drive_end.NoMemory))
+
+-- the state of the host is the one that the history leaves, where no end is kept, and where it is one of these
+abbrev pub is_known : Option DriveEnd → Bool
+is_known None = true
+is_known (Some drive_end.Done) = true
+is_known (Some (drive_end.Stalled lane)) = true
+is_known (Some (drive_end.Full happened from needed)) = true
+is_known (Some _) = false
+
+-- own: a pass that has seen these entries was answered so by a step of a value of this base
+pub record IsAnswered {T E : Type 0} (value : logged.Ghosts T E Nothing Turned) (base : value.Base) (pass : ℕ) (seen : List E) (said : Brief) : Type 0 where
+  pub before : T
+  pub after : T
+  pub given : Nothing
+  pub base_is : value.base before ≡ base
+  pub step : value.steps before given pass after (turned.Ended said)
+  pub seen_is : seen ≡ value.log after
 
 -- own: a pass that has seen this history was answered the end that is kept in a value of the run, which stands
 pub record IsEndSeen {D : Type 0} (disk : Ghosts D) (origin : Origin D) (history : List Entry) (said : Brief) : Type 0 where

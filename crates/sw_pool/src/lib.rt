@@ -7,7 +7,7 @@ mod ends;
 mod working;
 mod yard;
 
-pub use driving::drive;
+pub use driving::{drive, drive_watched};
 pub use ends::{Brief, Nothing, Turned};
 pub use working::{Worked, work, work_alone};
 pub use yard::Yard;

@@ -1,24 +1,54 @@
 //! The value that workers take turns with.
 
-ghost use Rattle.std.specs.Prelude.{◌≡◌, ◌<◌, None, Some, length};
+ghost use Rattle.std.specs.Prelude.{◌≡◌, ◌<◌, None, Some, length, unwrap_or};
 ghost use Rattle.sw_lock.specs.Entries.{ThenOwn};
-ghost use Rattle.sw_pool.specs.Yards.{HasStepped, Stands};
+ghost use Rattle.sw_pool.specs.Yards.{HasStepped, Stands, brief_of, is_known};
 ghost use Rattle.sw_turns.specs.Turns.{IsGoing};
+ghost use Rattle.sw_turns.specs.declared.ends.DriveEnd.TheVariants as drive_end;
 
-use crate::ends::{Nothing, Turned, brief_of, shown};
+use crate::ends::{Brief, Nothing, Turned, brief_of, shown};
 use std::alloc::Global;
 use std::marker::Model;
 use std::snapshot::Snapshot;
-use sw_data::{Entry, Kept, Recording};
+use sw_data::{Entry, Kept, NoMemory, Recording};
 use sw_disk::Disk;
 use sw_lock::Logged;
 use sw_turns::{DriveEnd, Progress};
+use sw_view::Move;
+use sw_watch::{Mapped, moves_since};
 
 // The end is kept. A larger function that let the old one go itself would have a case for each kind of event.
 fn keep(kept: &mut Option<DriveEnd>, end: DriveEnd)
     ensures { kept.new ≡ Some end }
 {
     drop(kept.replace(end));
+}
+
+// The end that is kept. Where none is, that for want of memory is kept.
+fn stopped(kept: &mut Option<DriveEnd>) -> Brief
+    ensures kept { kept.new ≡ Some (unwrap_or kept.old drive_end.NoMemory) }
+    ensures brief { result ≡ brief_of (unwrap_or kept.old drive_end.NoMemory) }
+{
+    match kept {
+        Some(end) => brief_of(end),
+        None => {
+            keep(kept, DriveEnd::NoMemory);
+            Brief::NoMemory
+        }
+    }
+}
+
+// Whether the state of the host is the one that its history leaves, where this end is kept or none.
+fn is_known(end: &Option<DriveEnd>) -> bool
+    ensures { result ≡ is_known end.now }
+{
+    match end {
+        None => true,
+        Some(DriveEnd::Done) => true,
+        Some(DriveEnd::Stalled(_)) => true,
+        Some(DriveEnd::Full { .. }) => true,
+        Some(_) => false,
+    }
 }
 
 /// A host at work on a recording, on its disk, and how the work has ended, if it has. Of the run it knows the recording, the
@@ -164,5 +194,47 @@ impl<D: Disk> Logged for Yard<D> {
 
     fn entries(&self) -> u64 {
         self.progress.history().len() as u64
+    }
+}
+
+impl<D: Disk> Mapped for Yard<D> {
+    ghost use Rattle.std.specs.Prelude.{is_some};
+    ghost use Rattle.std.proofs.Common.{ap};
+    ghost use Rattle.sw_pool.specs.Yards.{HasStopped, Origin};
+
+    ghost kept = { λ yard. yard.origin.base };
+
+    ghost is_over = { λ yard. is_some yard.end };
+
+    ghost stops = { λ before after answer. HasStopped D.Disk before after answer };
+
+    ghost kept_is = { λ one other same. ap (λ (origin : Origin D). origin.base) same };
+
+    fn entries_since(&self, from: u64) -> &[Entry] {
+        self.progress.history().split_at(from as usize).1
+    }
+
+    // Where the disk or want of memory has ended the work, the host may be ahead of its history. A worker stopped then, and what
+    // it had published stays.
+    fn moves_since(&self, from: u64) -> Result<Vec<Move>, NoMemory> {
+        if from == self.entries() {
+            return Ok(Vec::new(self.alloc));
+        }
+        if !is_known(&self.end) {
+            return Err(NoMemory);
+        }
+        let core = self.progress.core();
+        moves_since(
+            self.alloc,
+            core.registrations(),
+            core.map(),
+            self.progress.history(),
+            from as usize,
+        )
+    }
+
+    #[tactic(auto, using(crate::proofs::WorkLemmas::stopped))]
+    fn stop(&mut self) -> Turned {
+        Turned::Ended(stopped(&mut self.end))
     }
 }

@@ -179,12 +179,12 @@ cut_kept (drive_end.Full happened from needed) cut = tt
 cut_kept drive_end.NoMemory cut = tt
 cut_kept (drive_end.Spent spent) cut = cut
 
--- and isn't done
+-- and has come to no other end
 pub cut_rests : (ended : DriveEnd) (base : Kept) (p : Progress) → IsCutShort ended → IsAtRest ended base p
 cut_rests drive_end.Done base p cut = absurd cut
-cut_rests (drive_end.Stalled lane) base p cut = tt
+cut_rests (drive_end.Stalled lane) base p cut = absurd cut
 cut_rests (drive_end.DiskFault refused) base p cut = tt
-cut_rests (drive_end.Full happened from needed) base p cut = tt
+cut_rests (drive_end.Full happened from needed) base p cut = absurd cut
 cut_rests drive_end.NoMemory base p cut = tt
 cut_rests (drive_end.Spent spent) base p cut = tt
 
@@ -202,7 +202,8 @@ module _ {D : Type 0} (disk : Ghosts D) (start now : D) (recording : Recording) 
   turned_barren stop.Done some barren none stops = absurd barren
   turned_barren (stop.Stalled lane) some barren none stops = absurd barren
   turned_barren (stop.Full happened from needed) some barren none stops =
-      (ends_full disk start now workers recording base p.history.items p.store work p.lanes happened from needed stops, tt)
+      let so_far = so_far_here workers recording base p.history.items stops.held.before p.store stops.held.under_way none in
+      (ends_full disk start now workers recording base p.history.items p.store work p.lanes happened from needed stops, so_far.state_is)
   turned_barren stop.NoMemory some barren none stops = (
     ends_unmade disk start now workers recording base p.history.items p.store work
         (played workers recording base p.history.items stops.0 (state_of p.store.core) (so_far_here workers recording base p.history.items stops.0 p.store stops.1 none)),
@@ -226,7 +227,7 @@ module _ {D : Type 0} (disk : Ghosts D) (start now : D) (recording : Recording) 
         (ends_done disk start now workers recording base p.history.items p.store work p.lanes (in_flight p.flights.items) so_far stops.1, so_far.state_is)
     turned (stop.Stalled lane) some stops =
         let so_far = so_far_here workers recording base p.history.items p.lanes p.store stops.0 quiet.staged in
-        (ends_stalled disk start now workers recording base p.history.items p.store work p.lanes (in_flight p.flights.items) so_far lane stops.1, tt)
+        (ends_stalled disk start now workers recording base p.history.items p.store work p.lanes (in_flight p.flights.items) so_far lane stops.1, so_far.state_is)
     turned (stop.Full happened from needed) some stops = turned_barren (stop.Full happened from needed) some tt quiet.staged stops
     turned stop.NoMemory some stops = turned_barren stop.NoMemory some tt quiet.staged stops
 

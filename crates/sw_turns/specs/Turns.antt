@@ -52,9 +52,11 @@ standing_of recording base p stopped = record {
   stopped = stopped;
 }
 
--- own: where a run is done, the state of its host is the one that its history leaves
+-- own: where a run is done, has stalled, or has found no room on the disk, the state of its host is the one that its history leaves
 abbrev pub IsAtRest : DriveEnd → Kept → Progress → Type 0
 IsAtRest drive_end.Done base p = after base p.history.items ≡ state_of p.store.core
+IsAtRest (drive_end.Stalled lane) base p = after base p.history.items ≡ state_of p.store.core
+IsAtRest (drive_end.Full happened from needed) base p = after base p.history.items ≡ state_of p.store.core
 IsAtRest _ base p = Unit {0}
 
 -- own: after a turn the recording is under way, or the run has ended

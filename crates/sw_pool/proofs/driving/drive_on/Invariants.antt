@@ -1,6 +1,6 @@
 use Rattle.std.proofs.Common.{◌≡◌}
 use Rattle.sw_lock.specs.Passes.{IsPassOf, number}
-use Rattle.sw_pool.proofs.driving.drive.Given as goal
+use Rattle.sw_pool.proofs.driving.drive_on.Given as goal
 
 abbrev pub invariant-turns : goal.invariant-turns
 invariant-turns g l = record {
