@@ -8,6 +8,7 @@ ghost use Rattle.sw_rules.specs.History.{IsOpening};
 ghost use Rattle.sw_rules.specs.Restart.{restart};
 ghost use Rattle.sw_rules.specs.Storage.{IsMade};
 
+use crate::enabled::marks;
 use crate::entering::{enter, opening};
 use crate::taking::taken;
 use std::alloc::Global;
@@ -20,9 +21,9 @@ use sw_lane::Lanes;
 use sw_laws::laws::states_are_coherent;
 use sw_net::Net;
 
-// A host, what is left of the lanes of a recording, and its network.
+/// A host, what is left of the lanes of a recording, and its network.
 #[derive(Drop)]
-pub(crate) struct Host {
+pub struct Host {
     core: Core,
     lanes: Lanes,
     net: Net,
@@ -62,12 +63,8 @@ fn unled(lanes: Lanes, net: Net) -> NoMemory {
 }
 
 impl Host {
-    // The host after a restart from a content, before anything of a recording has happened.
-    pub(crate) fn restart(
-        alloc: Global,
-        base: Content,
-        recording: Recording,
-    ) -> Result<Host, NoMemory>
+    /// The host after a restart from a content, before anything of a recording has happened.
+    pub fn restart(alloc: Global, base: Content, recording: Recording) -> Result<Host, NoMemory>
         requires { IsMade base }
         ensures { IfOk result (λ host. (opening : entries.Entry) → IsOpening base opening
             → Stands host recording (opening ∷ []) (restart base)) }
@@ -80,6 +77,12 @@ impl Host {
             },
             Err(NoMemory) => Err(unmade(base)),
         }
+    }
+
+    /// The marks of the events that may happen next: those of lanes first, then those of handlers, then those of the host.
+    /// It takes time in the rows of the host.
+    pub fn marks(&self, alloc: Global) -> Result<Vec<Mark>, NoMemory> {
+        marks(alloc, &self.core, &self.lanes)
     }
 }
 

@@ -3,8 +3,10 @@
 
 mod auditing;
 mod calls;
+mod enabled;
 mod entering;
 mod hosts;
 mod taking;
 
 pub use auditing::audit;
+pub use hosts::Host;

@@ -12,5 +12,5 @@ pub use checking::check;
 pub use ends::ending;
 pub use laning::lane_event;
 pub use machines::{Ending, Machine};
-pub use marks::{Kind, Mark};
+pub use marks::{Kind, Mark, read_mark};
 pub use verdicts::Verdict;
