@@ -1,5 +1,6 @@
 pub mod EndLemmas
 pub mod GenLemmas
+pub mod NumberLemmas
 pub mod StandLemmas
 pub mod StoringLemmas
 pub mod TextLemmas

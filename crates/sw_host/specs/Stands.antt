@@ -23,6 +23,7 @@ use Rattle.sw_host.specs.Texts.{bad_journal_text, help_text, large_source_text, 
 use Rattle.sw_import.specs.Checking as checking
 use Rattle.sw_import.specs.Lines.{checks_text}
 use Rattle.sw_inputs.specs.declared.ImportRecording.{ImportRecording}
+use Rattle.sw_inputs.specs.declared.RosterRecording.{RosterRecording}
 use Rattle.sw_journal.specs.Format.{format_of}
 use Rattle.sw_journal.specs.Init.{FromSecondCall, first_bytes}
 use Rattle.sw_journal.specs.Quiet.{IsQuiet}
@@ -35,7 +36,13 @@ use Rattle.sw_forms.specs.declared.error.RecordingError.{RecordingError}
 use Rattle.sw_forms.specs.declared.limits.TheConstants.{RECORDING_LIMIT}
 use Rattle.sw_readers.specs.Division.{division}
 use Rattle.sw_readers.specs.Imports.{imports_of}
+use Rattle.sw_readers.specs.Roster.{roster_of}
 use Rattle.sw_record.specs.Grammar.{recording_of}
+use Rattle.sw_roster.specs.Beats.{HasRoster}
+use Rattle.sw_roster.specs.Texts.{roster_text}
+use Rattle.sw_roster.specs.declared.beats.Beat.{Beat}
+use Rattle.sw_roster.specs.declared.beats.RosterEnd.{RosterEnd}
+use Rattle.sw_roster.specs.declared.beats.RosterEnd.TheVariants as roster_end
 use Rattle.sw_rules.specs.Storage.{IsMade, nothing}
 use Rattle.sw_store.specs.declared.errors.OpenError.{OpenError}
 use Rattle.sw_store.specs.declared.errors.OpenError.TheVariants as open_error
@@ -192,6 +199,28 @@ IsChecked (Err why) outcome text = RefusedAs why outcome text
 abbrev pub Checks : List ℕ → Status → List ℕ → Type 0
 Checks bytes outcome text = IsChecked (imports_of bytes) outcome text
 
+-- the status of how the lines of a roster have ended
+abbrev pub roster_status : RosterEnd → Status
+roster_status roster_end.Done = status.Done
+roster_status roster_end.Stalled = status.Stalled
+roster_status roster_end.Spent = status.NoEntryLeft
+
+-- own: the lines of a roster were played from no content, and the status and the text are those of what has come
+pub record IsPlayed (recording : RosterRecording) (outcome : Status) (text : List ℕ) : Type 0 where
+  pub beats : List Beat
+  pub over : RosterEnd
+  pub played : HasRoster recording.fetches recording.lines beats over
+  pub ends : outcome ≡ roster_status over
+  pub printed : text ≡ roster_text beats over
+
+-- own: the lines of a roster are played, in order
+abbrev pub IsRoster : Result RosterRecording RecordingError → Status → List ℕ → Type 0
+IsRoster (Ok recording) outcome text = IsPlayed recording outcome text
+IsRoster (Err why) outcome text = RefusedAs why outcome text
+
+abbrev pub Plays : List ℕ → Status → List ℕ → Type 0
+Plays bytes outcome text = IsRoster (roster_of bytes) outcome text
+
 -- own: a page on the program itself is printed
 abbrev pub IsPage : List ℕ → Status → List ℕ → Type 0
 IsPage page outcome text = (outcome ≡ status.Done) × (text ≡ page)
@@ -208,6 +237,7 @@ HasReadAll status.Full = Unit {0}
 HasReadAll (status.Spent spent) = Unit {0}
 HasReadAll status.Refuted = Unit {0}
 HasReadAll status.NoTranscript = Unit {0}
+HasReadAll status.NoEntryLeft = Unit {0}
 HasReadAll _ = ⊥
 
 -- before writing, this status stands with this text: the source had these bytes left, its count of faults went from before to
@@ -223,6 +253,8 @@ Stands disk old new left before now command.Imports outcome text =
     ReadsThen RECORDING_LIMIT (refusal_text status.TooLarge) left before now Checks (Unit {0}) outcome text × (new ≡ old)
 Stands disk old new left before now command.Audit outcome text =
     ReadsThen 67108864 large_source_text left before now (Audits disk old new) (new ≡ old) outcome text
+Stands disk old new left before now command.Roster outcome text =
+    ReadsThen RECORDING_LIMIT (refusal_text status.TooLarge) left before now Plays (Unit {0}) outcome text × (new ≡ old)
 Stands disk old new left before now command.Help outcome text = IsPage help_text outcome text × (new ≡ old)
 Stands disk old new left before now command.Version outcome text = IsPage version_text outcome text × (new ≡ old)
 Stands disk old new left before now command.Unknown outcome text =
@@ -248,6 +280,7 @@ LeavesWithoutMemory disk old new left command.Show = IsQuiet disk old new
 LeavesWithoutMemory disk old new left (command.Gen number size) = new ≡ old
 LeavesWithoutMemory disk old new left command.Imports = new ≡ old
 LeavesWithoutMemory disk old new left command.Audit = (new ≡ old) ⊎ IsQuiet disk old new
+LeavesWithoutMemory disk old new left command.Roster = new ≡ old
 LeavesWithoutMemory disk old new left command.Help = new ≡ old
 LeavesWithoutMemory disk old new left command.Version = new ≡ old
 LeavesWithoutMemory disk old new left command.Unknown = new ≡ old

@@ -22,6 +22,7 @@ code_of status.AlreadyFormatted = 12
 code_of (status.Spent spent) = 13
 code_of status.Refuted = 15
 code_of status.NoTranscript = 16
+code_of status.NoEntryLeft = 13
 
 -- the text that a refusal of its own prints
 abbrev pub refusal_text : Status → List ℕ

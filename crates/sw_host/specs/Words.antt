@@ -15,6 +15,7 @@ one_word word =
     else if bytes_eq word (codes "show") then command.Show
     else if bytes_eq word (codes "imports") then command.Imports
     else if bytes_eq word (codes "audit") then command.Audit
+    else if bytes_eq word (codes "roster") then command.Roster
     else if bytes_eq word (codes "--help") then command.Help
     else if bytes_eq word (codes "--version") then command.Version
     else command.Unknown
@@ -59,6 +60,7 @@ abbrev pub reads_source : Command → Bool
 reads_source (command.Replay workers) = true
 reads_source command.Imports = true
 reads_source command.Audit = true
+reads_source command.Roster = true
 reads_source _ = false
 
 -- how many bytes a command reads of the source at most

@@ -20,6 +20,8 @@ pub enum Command {
     Imports,
     /// Says whether a transcript is one that a recording can have.
     Audit,
+    /// Plays the lines of a roster.
+    Roster,
     /// Prints how the program is called.
     Help,
     /// Prints the program's name and version.
@@ -77,6 +79,8 @@ fn one_word(word: &str) -> Command
         Command::Imports
     } else if word == "audit" {
         Command::Audit
+    } else if word == "roster" {
+        Command::Roster
     } else if word == "--help" {
         Command::Help
     } else if word == "--version" {

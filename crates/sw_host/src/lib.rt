@@ -9,6 +9,7 @@ mod generating;
 mod pages;
 mod reading;
 mod report;
+mod rostering;
 mod statuses;
 mod storing;
 mod top;

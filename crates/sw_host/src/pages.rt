@@ -21,6 +21,8 @@ Commands:
   swhost gen NUMBER SIZE   runs a generated recording on a disk in memory, and prints its counts;
                            NUMBER is 0 to 4294967295, SIZE 1 to 4096
   swhost imports           checks scripts and what they import, as the lines on standard input say
+  swhost roster            plays the lines of one lane on standard input, and what is asked of its
+                           clients in the order of focus
   swhost audit             reads a recording, a line %%, and a transcript, and says whether a host
                            that has kept what the disk keeps may print it, whatever its workers
   swhost --help            prints this page
@@ -38,7 +40,7 @@ Statuses. What is printed goes to standard output, a refusal too.
    3  a line of the recording is bad     10  a limit is passed
    4  reading failed                     11  the disk has no room
    5  writing failed                     12  init: the disk is formatted already
-   6  the disk failed                    13  a worker has made 2^40 turns
+   6  the disk failed                    13  a worker has made 2^40 turns, or a roster 2^32 entries
                                          15  audit: no such transcript
                                          16  audit: no line %% in the source
 

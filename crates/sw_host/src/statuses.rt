@@ -40,6 +40,8 @@ pub enum Status {
     Refuted,
     /// No line of the source divides a recording from a transcript.
     NoTranscript,
+    /// A roster has made as many entries as it makes, and one more comes next.
+    NoEntryLeft,
 }
 
 impl Status {
@@ -64,10 +66,12 @@ impl Status {
             Status::Spent(_) => 13,
             Status::Refuted => 15,
             Status::NoTranscript => 16,
+            Status::NoEntryLeft => 13,
         }
     }
 
-    // The text that a refusal of its own prints. Done, Stalled and Spent print a transcript or the command's text,
+    // The text that a refusal of its own prints. Done, Stalled, Spent and
+    // NoEntryLeft print a transcript or the command's text,
     // a bad line its number and cause, and a bad journal its offset; want of memory and a write fault print nothing.
     pub(crate) fn refusal(self) -> &'static str
         ensures { result.now ≡ refusal_text self }
@@ -88,7 +92,8 @@ impl Status {
             | Status::WriteFault
             | Status::BadJournal
             | Status::Stalled
-            | Status::Spent(_) => "",
+            | Status::Spent(_)
+            | Status::NoEntryLeft => "",
         }
     }
 }

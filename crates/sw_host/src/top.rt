@@ -6,7 +6,7 @@ ghost use Rattle.sw_data.specs.Faults.{Rose};
 ghost use Rattle.sw_data.specs.Streams.{ConsumesSome};
 ghost use Rattle.sw_host.specs.declared.command.Command.TheVariants as command;
 ghost use Rattle.sw_host.specs.Reading.{ReadsThen};
-ghost use Rattle.sw_host.specs.Stands.{Audits, Checks, HasEnded, HasReadAll, LeavesAfterBytes, LeavesWithoutMemory, Replays, ReplaysSource, Stands};
+ghost use Rattle.sw_host.specs.Stands.{Audits, Checks, HasEnded, HasReadAll, LeavesAfterBytes, LeavesWithoutMemory, Plays, Replays, ReplaysSource, Stands};
 ghost use Rattle.sw_host.specs.Texts.{large_source_text, refusal_text};
 ghost use Rattle.sw_host.specs.Words.{command_of, needs_disk, reads_source, source_limit};
 ghost use Rattle.sw_journal.specs.Quiet.{IsQuiet};
@@ -22,6 +22,7 @@ use crate::generating::run_generated;
 use crate::pages::{help, version};
 use crate::reading::bytes_of;
 use crate::report::{Report, refused};
+use crate::rostering::play_bytes;
 use crate::statuses::Status;
 use crate::storing::{format, show};
 use std::alloc::Global;
@@ -47,10 +48,11 @@ pub struct Outcome<D> {
 /// Does what the words say: `init` formats the disk; `replay` reads a recording from the source to its end, runs it on the
 /// disk by one worker, or by as many as the word behind it says, and writes the transcript to the sink; `show` writes what
 /// the disk keeps; `gen` writes what comes of a generated recording that one worker runs on a disk of its own; `imports`
-/// reads a recording of scripts and writes what each check of their imports comes to; `audit` reads a recording and a
+/// reads a recording of scripts and writes what each check of their imports comes to; `roster` reads the lines of one lane
+/// and what is asked of its clients, and writes what comes of them from no content; `audit` reads a recording and a
 /// transcript, and writes whether a host that has kept what the disk keeps may print it for the recording; `--help` writes
 /// how the program is called, and `--version` its name and version. `show` and `audit` write nothing to the disk, and
-/// `gen`, `imports` and the last two leave it alone.
+/// `gen`, `imports`, `roster` and the last two leave it alone.
 ///
 /// Workers take turns under a lock, and pass the gate with what they fetch between their turns. Whatever their
 /// number, a run has one history, which holds the calls of each lane in order, each once; how the lanes follow one another
@@ -97,6 +99,10 @@ pub fn run<R: Threads + Wait + Sync, S: Source, K: Sink, D: Disk + Send, G: Gate
         → (text : List ℕ) × Stands D.Disk disk result.disk (S.left source.old)
         (S.faults source.old) (S.faults source.new) (command_of words.now) result.status text
         × Takes K.Sink sink.old sink.new text }
+
+    // Of all words `roster` alone ends for want of a number for an entry.
+    ensures numbered { result.status ≡ Status.NoEntryLeft
+        → command_of words.now ≡ command.Roster }
 
     // The sink failed, and took a first part of the text that stood.
     ensures write_fault { result.status ≡ Status.WriteFault
@@ -195,6 +201,7 @@ fn report_of<R: Threads + Wait + Sync, S: Source, D: Disk + Send, G: Gate + Sync
         Command::Gen(number, size) => (run_generated(alloc, number, size), disk),
         Command::Imports => (read_checks(alloc, source), disk),
         Command::Audit => (read_audit(alloc, source, &mut disk), disk),
+        Command::Roster => (read_play(alloc, source), disk),
         Command::Help => (help(alloc), disk),
         Command::Version => (version(alloc), disk),
         Command::Unknown => (refused(alloc, Status::BadWords), disk),
@@ -238,6 +245,21 @@ fn read_checks<S: Source>(alloc: Global, source: &mut S) -> Result<Report, NoMem
 {
     match bytes_of(alloc, source, RECORDING_LIMIT, Status::TooLarge.refusal()) {
         Ok(bytes) => check_bytes(alloc, bytes.as_bytes()),
+        Err(unread) => unread,
+    }
+}
+
+// The report of the lines of a roster that the source has.
+fn read_play<S: Source>(alloc: Global, source: &mut S) -> Result<Report, NoMemory>
+    ensures plays { IfOk result (λ report. ReadsThen RECORDING_LIMIT (refusal_text Status.TooLarge)
+        (S.left source.old) (S.faults source.old) (S.faults source.new) Plays (Unit {0})
+        report.status report.text) }
+    ensures reads { S.reads source.new ≤ S.reads source.old + (RECORDING_LIMIT + 2) }
+    ensures consumed { ConsumesSome (S.left source.old) (S.left source.new) }
+    ensures end { IfOk result (λ report. HasReadAll report.status → IsAtEnd (S.left source.new)) }
+{
+    match bytes_of(alloc, source, RECORDING_LIMIT, Status::TooLarge.refusal()) {
+        Ok(bytes) => play_bytes(alloc, bytes.as_bytes()),
         Err(unread) => unread,
     }
 }

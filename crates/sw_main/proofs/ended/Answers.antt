@@ -8,7 +8,7 @@ use Rattle.sw_main.proofs.ended.Goals as goal
 pub returns-clause-spent : goal.returns-clause-spent
 returns-clause-spent g c = λ is workers wants.
     let code : code_of c.run-outcome.result.status ≡ 13 = search (c.from.ensures, c.code.ensures, is, rules) in
-    let made = spent_of c.run-outcome.result.status code in
+    let made = spent_of c.run-outcome.result.status code (λ left. let only = c.run-outcome.ensures.numbered left in cc) in
     let run = c.run-outcome.ensures.spent made.0 made.1 workers wants in
     (run.0, made.0, run.1, run.2)
 

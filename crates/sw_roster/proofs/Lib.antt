@@ -1,0 +1,8 @@
+pub mod Askers
+pub mod Free
+pub mod Numbers
+pub mod OnlyOpens
+pub mod Played
+pub mod Recents
+pub mod Stepping
+pub mod Worked

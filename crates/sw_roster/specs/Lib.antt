@@ -1,0 +1,4 @@
+pub mod Beats
+pub mod Members
+pub mod Playing
+pub mod Texts
