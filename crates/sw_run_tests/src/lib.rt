@@ -1,12 +1,9 @@
-//! Tests of whole runs on disks that fail, of crashes at every call of a disk, of workers that meet at the network, of what a
-//! claim would activate, and of each index beside the scan whose place it takes. Nothing stands on them: a crate with tests is
-//! proved twice.
+//! Tests of whole runs on disks that fail, of crashes at every call of a disk, of workers that meet at the network, and of each
+//! index beside the scan whose place it takes. Nothing stands on them: a crate with tests is proved twice.
 #![tactic(auto)]
 
 #[cfg(test)]
 mod caches;
-#[cfg(test)]
-mod claims;
 #[cfg(test)]
 mod disks;
 #[cfg(test)]
