@@ -1,0 +1,11 @@
+pub mod Worked
+pub mod Remaining
+pub mod Same
+pub mod Noting
+pub mod Shown
+pub mod Least
+pub mod Parts
+pub mod Lengths
+pub mod Sums
+pub mod Holding
+pub mod Chosen
