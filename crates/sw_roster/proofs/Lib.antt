@@ -5,4 +5,3 @@ pub mod OnlyOpens
 pub mod Played
 pub mod Recents
 pub mod Stepping
-pub mod Worked

@@ -3,6 +3,7 @@ mod Chosen
 mod Excluded
 mod GeneratedRows
 mod Restarts
+mod Rosters
 mod TranscriptRows
 mod Worked
 mod WorkedParts
