@@ -1,5 +1,5 @@
 -- The event of the action that was picked joins the group, or the action goes back to its lane.
-use Rattle.std.proofs.Common.{◌≡◌, ◌∙◌, List, Err, None, ap, length, sym, subst}
+use Rattle.std.proofs.Common.{◌≡◌, List, Err, None, ap, length, sym, subst}
 use Rattle.std.proofs.lemmas.Option.{slice_get_within}
 use Rattle.sw_data.specs.declared.events.Event.{Event}
 use Rattle.sw_lane.specs.Left.{Left}

@@ -1,5 +1,5 @@
 -- A group begins with the event of the fetch that the pass has taken up, where it has.
-use Rattle.std.proofs.Common.{◌≡◌, ◌∙◌, inl, inr, Err, ℕ, zero, suc, List, [], ◌∷◌, length, Option, Some, None, slice_get, slice_set, refl, sym, ap, subst, arith}
+use Rattle.std.proofs.Common.{◌≡◌, ◌∙◌, inl, inr, Err, ℕ, List, [], ◌∷◌, length, Option, Some, None, slice_get, slice_set, refl, sym, ap, subst, arith}
 use Rattle.std.proofs.lemmas.List.{length-set}
 use Rattle.std.specs.Option.{IfSome}
 use Rattle.sw_data.specs.declared.events.Event.{Event}
