@@ -3,8 +3,8 @@ _swhost() {
   local word=${COMP_WORDS[COMP_CWORD]} before=${COMP_WORDS[COMP_CWORD - 1]}
   COMPREPLY=()
   case $before in
-    swhost | */swhost) mapfile -t COMPREPLY < <(compgen -W 'init replay show gen imports roster audit --help --version' -- "$word") ;;
-    replay) mapfile -t COMPREPLY < <(compgen -W '{1..16}' -- "$word") ;;
+    swhost | */swhost) mapfile -t COMPREPLY < <(compgen -W 'init replay watch show gen imports roster audit --help --version' -- "$word") ;;
+    replay | watch) mapfile -t COMPREPLY < <(compgen -W '{1..16}' -- "$word") ;;
     '<')
       compopt -o filenames
       mapfile -t COMPREPLY < <(compgen -f -- "$word")

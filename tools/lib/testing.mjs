@@ -7,7 +7,7 @@
 //   launch(program, words, { folder, input })   the same of any program, in a folder
 //   launch.later(..)            a promise of it, so that several run side by side
 //   inFolder(run)               run(folder), with a fresh folder that is removed afterwards; inFolder.later where run is async
-//   recordings()                the paths of all recordings of conformance/ and examples/ (those of examples/imports/ and examples/roster/ are none)
+//   recordings()                the paths of all recordings of conformance/ and examples/ (those of examples/imports/, examples/roster/ and examples/watch/ are none)
 //   top                         the path of the repository
 import { spawn, spawnSync } from "node:child_process";
 import { once } from "node:events";
@@ -63,7 +63,7 @@ inFolder.later = async (run) => {
 
 export function recordings() {
   const within = (folder) => fs.readdirSync(path.join(top, folder), { recursive: true }).map((name) => path.join(top, folder, name));
-  return ["examples", "conformance"].flatMap(within).filter((name) => name.endsWith(".jsonl") && !/[/]examples[/](imports|roster)[/]/.test(name)).sort();
+  return ["examples", "conformance"].flatMap(within).filter((name) => name.endsWith(".jsonl") && !/[/]examples[/](imports|roster|watch)[/]/.test(name)).sort();
 }
 
 // Runs the tests that were named, and prints each failure and the counts; answers whether all of them passed.

@@ -1,5 +1,5 @@
 -- A run that has ended on a disk, and a disk that is refused.
-use Rattle.std.proofs.Common.{◌≡◌, ◌≤◌, ◌∙◌, ◌^◌, inl, inr, ℕ, List, Some, Result, Ok, Err, length, refl, sym, subst}
+use Rattle.std.proofs.Common.{◌≡◌, ◌⊎◌, ◌≤◌, ◌∙◌, ◌^◌, inl, inr, ℕ, List, Some, Result, Ok, Err, length, refl, sym, subst}
 use Rattle.std.specs.Prelude.{IfErr, IfOk, IsErr, IsErrOf, OnErr}
 use Rattle.sw_data.specs.declared.histories.Entry.{Entry}
 use Rattle.sw_data.specs.declared.recordings.Recording.{Recording}
@@ -30,7 +30,7 @@ use Rattle.sw_store.specs.Opened.{HasNoRoom, IsUnopened}
 -- ---- a run that has ended
 
 -- where there was memory to the end, no run has ended for want of it
-some_status : (ended : DriveEnd) → (ended ≡ drive_end.NoMemory → ⊥) → status_of ended ≡ status.NoMemory → ⊥
+pub some_status : (ended : DriveEnd) → (ended ≡ drive_end.NoMemory → ⊥) → status_of ended ≡ status.NoMemory → ⊥
 some_status drive_end.Done some is = absurd cc
 some_status (drive_end.Stalled lane) some is = absurd cc
 some_status (drive_end.DiskFault refused) some is = absurd cc
@@ -157,13 +157,13 @@ refuses disk old new opened (error.Full from needed) report was unformatted bad 
     by_report (RefusesDisk disk old new) report _ is (refl, unopened, (from, needed, full from needed was))
 
 -- the report of a disk that was not opened
-pub refused : {T D E : Type 0} (disk : Ghosts D) (old new : D) (workers : ℕ) (recording : Recording) (opened : Result T OpenError) (why : OpenError) (result : Result Report E) → opened ≡ Err why
+pub refused : {T D E : Type 0} (disk : Ghosts D) (old new : D) (Ends : Status → List ℕ → Type 0) (opened : Result T OpenError) (why : OpenError) (result : Result Report E) → opened ≡ Err why
     → (IsErrOf opened error.NotFormatted → IsQuiet disk old new × ForTold (disk.seen old) (λ image. stored image ≡ Unformatted))
     → ((offset : ℕ) → IsErrOf opened (error.BadJournal offset) → IsQuiet disk old new × ForTold (disk.seen old) (λ image. stored image ≡ Bad offset))
     → ((from needed : ℕ) → IsErrOf opened (error.Full from needed) → HasNoRoom disk new (2 ^ 32) from needed)
     → (IsErrOf opened error.DiskFault → Rose (disk.faults old) (disk.faults new))
     → IsUnopened disk old new
-    → IfOk result (λ report. IsReportOf why report) → IfOk result (λ report. ReplaysOn disk old new workers recording report.status report.text)
-refused disk old new workers recording opened why (Err none_left) was unformatted bad full fault unopened is = tt
-refused disk old new workers recording opened why (Ok report) was unformatted bad full fault unopened is =
+    → IfOk result (λ report. IsReportOf why report) → IfOk result (λ report. Ends report.status report.text ⊎ RefusesDisk disk old new report.status report.text)
+refused disk old new Ends opened why (Err none_left) was unformatted bad full fault unopened is = tt
+refused disk old new Ends opened why (Ok report) was unformatted bad full fault unopened is =
     inr (refuses disk old new opened why report was unformatted bad full fault unopened is)

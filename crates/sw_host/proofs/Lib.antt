@@ -4,4 +4,5 @@ pub mod NumberLemmas
 pub mod StandLemmas
 pub mod StoringLemmas
 pub mod TextLemmas
+pub mod WatchLemmas
 pub mod WordLemmas

@@ -14,11 +14,13 @@ use Rattle.sw_host.specs.declared.statuses.Status.{Status}
 use Rattle.sw_host.specs.declared.statuses.Status.TheVariants as status
 use Rattle.sw_host.specs.Reading.{IsUnread, ReadsThen, RefusedAs}
 use Rattle.sw_host.specs.Runs.{status_of}
-use Rattle.sw_host.specs.Stands.{Audits, AuditsDivided, AuditsParts, AuditsRead, Checks, IsAudited, IsChecked, IsShown, IsVerdict, ReadsKept, Replays, ReportedAs, Stands}
+use Rattle.sw_host.specs.Stands.{Audits, AuditsDivided, AuditsParts, AuditsRead, Checks, IsAudited, IsChecked, IsShown, IsVerdict, ReadsKept, Replays, ReportedAs, Stands, WatchedAs, Watches}
 use Rattle.sw_host.specs.Texts.{large_source_text, refusal_text}
 use Rattle.sw_inputs.specs.declared.ImportRecording.{ImportRecording}
+use Rattle.sw_inputs.specs.declared.WatchedRecording.{WatchedRecording}
 use Rattle.sw_readers.specs.Division.{division}
 use Rattle.sw_readers.specs.Imports.{imports_of}
+use Rattle.sw_readers.specs.Watched.{watched_of}
 use Rattle.sw_record.specs.Grammar.{recording_of}
 use Rattle.sw_turns.specs.declared.ends.DriveEnd.{DriveEnd}
 use Rattle.sw_turns.specs.declared.ends.DriveEnd.TheVariants as drive_end
@@ -64,6 +66,11 @@ module _ (text : List ℕ) where
     unreported workers (Ok recording) (inr refused) = refused
     unreported workers (Err why) refused = unrefused why refused.0
 
+    unwatched : (workers : ℕ) (what : Result WatchedRecording RecordingError) → WatchedAs disk old new workers what status.NoEntryLeft text → ⊥
+    unwatched workers (Ok watched) (inl run) = unrun run.ended run.ends
+    unwatched workers (Ok watched) (inr refused) = refused
+    unwatched workers (Err why) refused = unrefused why refused.0
+
     unread_with : (transcript : List ℕ) (what : Result Recording RecordingError) → AuditsRead disk old new transcript what status.NoEntryLeft text → ⊥
     unread_with transcript (Ok recording) is = unkept (IsAudited recording transcript) (unaudited recording transcript) is
     unread_with transcript (Err why) refused = unrefused why refused.0
@@ -91,6 +98,9 @@ module _ (text : List ℕ) where
       by_command (command.Replay workers) stood =
           absurd (neither RECORDING_LIMIT (refusal_text status.TooLarge) (Replays disk old new workers) (new ≡ old)
           (λ bytes is. unreported workers (recording_of bytes) is) stood)
+      by_command (command.Watch workers) stood =
+          absurd (neither RECORDING_LIMIT (refusal_text status.TooLarge) (Watches disk old new workers) (new ≡ old)
+          (λ bytes is. unwatched workers (watched_of bytes) is) stood)
       by_command command.Show stood = absurd (unkept IsShown unshown stood)
       by_command (command.Gen number size) stood = absurd (unrun stood.0.ended stood.0.ends)
       by_command command.Imports stood =

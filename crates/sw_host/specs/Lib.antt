@@ -3,4 +3,5 @@ pub mod Reading
 pub mod Runs
 pub mod Stands
 pub mod Texts
+pub mod Watching
 pub mod Words

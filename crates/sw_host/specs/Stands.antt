@@ -1,5 +1,5 @@
 -- What a run comes to before writing: when each status stands, with which text, and what it has done to the disk.
-use Rattle.std.specs.Prelude.{◌≡◌, ◌⊎◌, ◌+◌, ◌≤◌, ◌<◌, ◌^◌, ◌++◌, ℕ, List, length, codes, decimal, IsSome, Option, Some, None, Result, Ok, Err}
+use Rattle.std.specs.Prelude.{◌≡◌, ◌⊎◌, ◌+◌, ◌≤◌, ◌<◌, ◌^◌, ◌++◌, ℕ, List, length, map, codes, decimal, IsSome, Option, Some, None, Result, Ok, Err}
 use Rattle.sw_check.specs.Accepted.{Says}
 use Rattle.sw_check.specs.declared.verdicts.Verdict.{Verdict}
 use Rattle.sw_check.specs.declared.verdicts.Verdict.TheVariants as verdict
@@ -19,17 +19,20 @@ use Rattle.sw_host.specs.declared.statuses.Status.TheVariants as status
 use Rattle.sw_host.specs.Generating.{HasGenerated}
 use Rattle.sw_host.specs.Reading.{IsRead, ReadsThen, RefusedAs}
 use Rattle.sw_host.specs.Runs.{EndsAs, last_of}
+use Rattle.sw_host.specs.Watching.{EndsWatched, asked_of}
 use Rattle.sw_host.specs.Texts.{bad_journal_text, help_text, large_source_text, refusal_text, version_text}
 use Rattle.sw_import.specs.Checking as checking
 use Rattle.sw_import.specs.Lines.{checks_text}
 use Rattle.sw_inputs.specs.declared.ImportRecording.{ImportRecording}
 use Rattle.sw_inputs.specs.declared.RosterRecording.{RosterRecording}
+use Rattle.sw_inputs.specs.declared.WatchedRecording.{WatchedRecording}
 use Rattle.sw_journal.specs.Format.{format_of}
 use Rattle.sw_journal.specs.Init.{FromSecondCall, first_bytes}
 use Rattle.sw_journal.specs.Quiet.{IsQuiet}
 use Rattle.sw_kept.specs.Stored.{Bad, HasKept, Unformatted, stored}
 use Rattle.sw_turns.specs.Ends.{Ended}
 use Rattle.sw_turns.specs.declared.ends.DriveEnd.{DriveEnd}
+use Rattle.sw_pool.specs.declared.looking.Asked.{Asked}
 use Rattle.sw_print.specs.Showing.{shown}
 use Rattle.sw_print.specs.Transcript.{transcript}
 use Rattle.sw_forms.specs.declared.error.RecordingError.{RecordingError}
@@ -37,6 +40,7 @@ use Rattle.sw_forms.specs.declared.limits.TheConstants.{RECORDING_LIMIT}
 use Rattle.sw_readers.specs.Division.{division}
 use Rattle.sw_readers.specs.Imports.{imports_of}
 use Rattle.sw_readers.specs.Roster.{roster_of}
+use Rattle.sw_readers.specs.Watched.{watched_of}
 use Rattle.sw_record.specs.Grammar.{recording_of}
 use Rattle.sw_roster.specs.Beats.{HasRoster}
 use Rattle.sw_roster.specs.Texts.{roster_text}
@@ -80,6 +84,11 @@ abbrev pub ReplaysOn : {D : Type 0} → Ghosts D → (old new : D) → ℕ → R
 ReplaysOn disk old new workers recording outcome text =
     EndsAs disk old new workers recording outcome text ⊎ RefusesDisk disk old new outcome text
 
+-- own: the same with these look-ups beside the lock
+abbrev pub WatchesOn : {D : Type 0} → Ghosts D → (old new : D) → ℕ → Recording → List Asked → Status → List ℕ → Type 0
+WatchesOn disk old new workers recording asked outcome text =
+    EndsWatched disk old new workers recording asked outcome text ⊎ RefusesDisk disk old new outcome text
+
 -- ---- bytes that were read
 
 -- what was read is reported with this status and text; a disk on which no recording is run is left alone
@@ -90,6 +99,16 @@ ReportedAs disk old new workers (Err why) outcome text = RefusedAs why outcome t
 -- bytes are replayed by so many workers on a disk with this status and text
 abbrev pub Replays : {D : Type 0} → Ghosts D → (old new : D) → ℕ → List ℕ → Status → List ℕ → Type 0
 Replays disk old new workers bytes outcome text = ReportedAs disk old new workers (recording_of bytes) outcome text
+
+-- the same of a recording with look-ups
+abbrev pub WatchedAs : {D : Type 0} → Ghosts D → (old new : D) → ℕ → Result WatchedRecording RecordingError → Status → List ℕ → Type 0
+WatchedAs disk old new workers (Ok watched) outcome text =
+    WatchesOn disk old new workers watched.recording (map asked_of watched.looks) outcome text
+WatchedAs disk old new workers (Err why) outcome text = RefusedAs why outcome text × (new ≡ old)
+
+-- bytes are replayed with the look-ups among them by so many workers on a disk with this status and text
+abbrev pub Watches : {D : Type 0} → Ghosts D → (old new : D) → ℕ → List ℕ → Status → List ℕ → Type 0
+Watches disk old new workers bytes outcome text = WatchedAs disk old new workers (watched_of bytes) outcome text
 
 -- ---- the commands
 
@@ -246,6 +265,8 @@ abbrev pub Stands : {D : Type 0} → Ghosts D → (old new : D) → Option (List
 Stands disk old new left before now command.Init outcome text = Formats disk old new outcome text × LeavesOthers disk old new
 Stands disk old new left before now (command.Replay workers) outcome text =
     ReplaysSource disk old new workers left before now outcome text
+Stands disk old new left before now (command.Watch workers) outcome text =
+    ReadsThen RECORDING_LIMIT (refusal_text status.TooLarge) left before now (Watches disk old new workers) (new ≡ old) outcome text
 Stands disk old new left before now command.Show outcome text = Shows disk old new outcome text
 Stands disk old new left before now (command.Gen number size) outcome text =
     HasGenerated number size outcome text × (new ≡ old)
@@ -271,11 +292,19 @@ abbrev pub LeavesAfterBytes : {D : Type 0} → Ghosts D → (old new : D) → �
 LeavesAfterBytes disk old new workers bytes =
     (new ≡ old) ⊎ ((recording : Recording) × (recording_of bytes ≡ Ok recording) × IsLeftAfter disk old new workers recording)
 
+-- own: the same of the bytes of a recording with look-ups
+abbrev pub LeavesAfterLooks : {D : Type 0} → Ghosts D → (old new : D) → ℕ → List ℕ → Type 0
+LeavesAfterLooks disk old new workers bytes =
+    (new ≡ old)
+    ⊎ ((watched : WatchedRecording) × (watched_of bytes ≡ Ok watched) × IsLeftAfter disk old new workers watched.recording)
+
 -- own: what is left of the disk where there was no memory
 abbrev pub LeavesWithoutMemory : {D : Type 0} → Ghosts D → (old new : D) → Option (List ℕ) → Command → Type 0
 LeavesWithoutMemory disk old new left command.Init = IsLeftAlone disk old new × LeavesOthers disk old new
 LeavesWithoutMemory disk old new left (command.Replay workers) =
     (new ≡ old) ⊎ ((bytes : List ℕ) × IsRead RECORDING_LIMIT left bytes × LeavesAfterBytes disk old new workers bytes)
+LeavesWithoutMemory disk old new left (command.Watch workers) =
+    (new ≡ old) ⊎ ((bytes : List ℕ) × IsRead RECORDING_LIMIT left bytes × LeavesAfterLooks disk old new workers bytes)
 LeavesWithoutMemory disk old new left command.Show = IsQuiet disk old new
 LeavesWithoutMemory disk old new left (command.Gen number size) = new ≡ old
 LeavesWithoutMemory disk old new left command.Imports = new ≡ old

@@ -31,11 +31,16 @@ abbrev pub number_within : ℕ → ℕ → List ℕ → Option ℕ
 number_within least most word =
     option_and_then (λ number. if nat_le least number && nat_le number most then Some number else None) (number_of word)
 
+-- the command of a word and so many workers
+abbrev pub by_workers : List ℕ → ℕ → Command
+by_workers word workers =
+    if bytes_eq word (codes "replay") then command.Replay workers
+    else if bytes_eq word (codes "watch") then command.Watch workers
+    else command.Unknown
+
 -- the command that is two words
 abbrev pub two_words : List ℕ → List ℕ → Command
-two_words word workers =
-    if bytes_eq word (codes "replay") then option_map_or command.Replay (number_within 1 16 workers) command.Unknown
-    else command.Unknown
+two_words word workers = option_map_or (by_workers word) (number_within 1 16 workers) command.Unknown
 
 -- the command of a number and a size
 abbrev pub gen_of : Option ℕ → Option ℕ → Command
@@ -58,6 +63,7 @@ command_of (word ∷ first ∷ second ∷ third ∷ rest) = command.Unknown
 -- the command reads the source
 abbrev pub reads_source : Command → Bool
 reads_source (command.Replay workers) = true
+reads_source (command.Watch workers) = true
 reads_source command.Imports = true
 reads_source command.Audit = true
 reads_source command.Roster = true
@@ -72,6 +78,7 @@ source_limit _ = RECORDING_LIMIT
 abbrev pub needs_disk : Command → Bool
 needs_disk command.Init = true
 needs_disk (command.Replay workers) = true
+needs_disk (command.Watch workers) = true
 needs_disk command.Show = true
 needs_disk command.Audit = true
 needs_disk _ = false
@@ -79,5 +86,6 @@ needs_disk _ = false
 -- own: a command that runs a recording has from 1 to 16 workers, and one that generates it a size from 1 to 4096
 abbrev pub AreWithin : Command → Type 0
 AreWithin (command.Replay workers) = (1 ≤ workers) × (workers ≤ 16)
+AreWithin (command.Watch workers) = (1 ≤ workers) × (workers ≤ 16)
 AreWithin (command.Gen number size) = (1 ≤ size) × (size ≤ 4096)
 AreWithin _ = Unit {0}

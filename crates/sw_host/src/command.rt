@@ -12,6 +12,8 @@ pub enum Command {
     Init,
     /// Runs a recording on the disk, by so many workers.
     Replay(u32),
+    /// The same, with look-ups beside the lock.
+    Watch(u32),
     /// Prints what the disk keeps.
     Show,
     /// Runs the generated recording of this number and size on a disk of its own.
@@ -95,12 +97,15 @@ fn two_words(word: &str, workers: &str) -> Command
     ensures command { result ≡ two_words word.now workers.now }
     ensures within { AreWithin result }
 {
-    if word != "replay" {
+    let Some(workers) = number_within(workers, 1, 16) else {
         return Command::Unknown;
-    }
-    match number_within(workers, 1, 16) {
-        Some(workers) => Command::Replay(workers),
-        None => Command::Unknown,
+    };
+    if word == "replay" {
+        Command::Replay(workers)
+    } else if word == "watch" {
+        Command::Watch(workers)
+    } else {
+        Command::Unknown
     }
 }
 
@@ -137,6 +142,6 @@ pub fn needs_disk(words: &[String]) -> bool
 {
     matches!(
         command_of(words),
-        Command::Init | Command::Replay(_) | Command::Show | Command::Audit
+        Command::Init | Command::Replay(_) | Command::Watch(_) | Command::Show | Command::Audit
     )
 }

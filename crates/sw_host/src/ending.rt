@@ -85,7 +85,7 @@ pub(crate) fn printed(alloc: Global, history: Vec<Entry>, end: DriveEnd) -> Resu
 }
 
 // A recording under way for so many workers, on a disk that was opened, which was so at the start.
-fn begin<D: Disk>(
+pub(crate) fn begin<D: Disk>(
     alloc: Global,
     store: Store,
     recording: Recording,
@@ -128,7 +128,11 @@ pub(crate) fn reported<D: Disk>(alloc: Global, worked: Worked<D>) -> (Result<Rep
 }
 
 // The report of a disk that was not opened; the recording is let go here, where that costs the check little.
-fn unopened(alloc: Global, recording: Recording, error: OpenError) -> Result<Report, NoMemory>
+pub(crate) fn unopened(
+    alloc: Global,
+    recording: Recording,
+    error: OpenError,
+) -> Result<Report, NoMemory>
     ensures { IfOk result (λ report. IsReportOf error report) }
 {
     drop(recording);

@@ -13,6 +13,7 @@ mod rostering;
 mod statuses;
 mod storing;
 mod top;
+mod watching;
 
 pub use command::needs_disk;
 pub use report::Report;

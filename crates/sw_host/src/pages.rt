@@ -17,6 +17,8 @@ Commands:
   swhost init              formats the disk
   swhost replay [N]        runs the recording on standard input by N workers, 1 to 16 (1 where N is
                            left out), and prints the transcript
+  swhost watch N           does the same by N workers while one thread more answers the look-ups
+                           among its lines, and prints what each of them found
   swhost show              prints the registrations and caches that the disk keeps
   swhost gen NUMBER SIZE   runs a generated recording on a disk in memory, and prints its counts;
                            NUMBER is 0 to 4294967295, SIZE 1 to 4096

@@ -6,7 +6,7 @@ ghost use Rattle.sw_data.specs.Faults.{Rose};
 ghost use Rattle.sw_data.specs.Streams.{ConsumesSome};
 ghost use Rattle.sw_host.specs.declared.command.Command.TheVariants as command;
 ghost use Rattle.sw_host.specs.Reading.{ReadsThen};
-ghost use Rattle.sw_host.specs.Stands.{Audits, Checks, HasEnded, HasReadAll, LeavesAfterBytes, LeavesWithoutMemory, Plays, Replays, ReplaysSource, Stands};
+ghost use Rattle.sw_host.specs.Stands.{Audits, Checks, HasEnded, HasReadAll, LeavesAfterBytes, LeavesWithoutMemory, Plays, Replays, ReplaysSource, Stands, Watches};
 ghost use Rattle.sw_host.specs.Texts.{large_source_text, refusal_text};
 ghost use Rattle.sw_host.specs.Words.{command_of, needs_disk, reads_source, source_limit};
 ghost use Rattle.sw_journal.specs.Quiet.{IsQuiet};
@@ -25,6 +25,7 @@ use crate::report::{Report, refused};
 use crate::rostering::play_bytes;
 use crate::statuses::Status;
 use crate::storing::{format, show};
+use crate::watching::watch;
 use std::alloc::Global;
 use std::sync::Wait;
 use std::thread::Threads;
@@ -46,7 +47,8 @@ pub struct Outcome<D> {
 }
 
 /// Does what the words say: `init` formats the disk; `replay` reads a recording from the source to its end, runs it on the
-/// disk by one worker, or by as many as the word behind it says, and writes the transcript to the sink; `show` writes what
+/// disk by one worker, or by as many as the word behind it says, and writes the transcript to the sink; `watch` does so with
+/// look-ups beside the lock, and writes what each found behind the transcript; `show` writes what
 /// the disk keeps; `gen` writes what comes of a generated recording that one worker runs on a disk of its own; `imports`
 /// reads a recording of scripts and writes what each check of their imports comes to; `roster` reads the lines of one lane
 /// and what is asked of its clients, and writes what comes of them from no content; `audit` reads a recording and a
@@ -197,6 +199,7 @@ fn report_of<R: Threads + Wait + Sync, S: Source, D: Disk + Send, G: Gate + Sync
     match command_of(words) {
         Command::Init => (format(alloc, &mut disk), disk),
         Command::Replay(workers) => read(rt, alloc, source, workers, disk, gate),
+        Command::Watch(workers) => read_watch(rt, alloc, source, workers, disk, gate),
         Command::Show => (show(alloc, &mut disk), disk),
         Command::Gen(number, size) => (run_generated(alloc, number, size), disk),
         Command::Imports => (read_checks(alloc, source), disk),
@@ -230,6 +233,33 @@ fn read<R: Threads + Wait + Sync, S: Source, D: Disk + Send, G: Gate + Sync>(
 {
     match bytes_of(alloc, source, RECORDING_LIMIT, Status::TooLarge.refusal()) {
         Ok(bytes) => replay(rt, alloc, bytes.as_bytes(), workers, disk, gate),
+        Err(unread) => (unread, disk),
+    }
+}
+
+// The report of a recording with look-ups that is read from the source, and the disk.
+fn read_watch<R: Threads + Wait + Sync, S: Source, D: Disk + Send, G: Gate + Sync>(
+    rt: &R,
+    alloc: Global,
+    source: &mut S,
+    workers: u32,
+    disk: D,
+    gate: &G,
+) -> (Result<Report, NoMemory>, D)
+    requires some { 1 ≤ workers }
+    requires few { workers ≤ 16 }
+    ensures watches { IfOk result.0 (λ report. ReadsThen RECORDING_LIMIT (refusal_text Status.TooLarge)
+        (S.left source.old) (S.faults source.old) (S.faults source.new)
+        (Watches D.Disk disk result.1 workers) (result.1 ≡ disk) report.status report.text) }
+    ensures no_memory { OnErr result.0 (LeavesWithoutMemory D.Disk disk result.1
+        (S.left source.old) (command.Watch workers)) }
+    ensures reads { S.reads source.new ≤ S.reads source.old + (RECORDING_LIMIT + 2) }
+    ensures consumed { ConsumesSome (S.left source.old) (S.left source.new) }
+    ensures end { IfOk result.0 (λ report. HasReadAll report.status
+        → IsAtEnd (S.left source.new)) }
+{
+    match bytes_of(alloc, source, RECORDING_LIMIT, Status::TooLarge.refusal()) {
+        Ok(bytes) => watch(rt, alloc, bytes.as_bytes(), workers, disk, gate),
         Err(unread) => (unread, disk),
     }
 }

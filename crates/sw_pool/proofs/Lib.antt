@@ -1,4 +1,5 @@
 pub mod Crossing
 pub mod EndLemmas
 pub mod KnownLemmas
+pub mod LookLemmas
 pub mod WorkLemmas

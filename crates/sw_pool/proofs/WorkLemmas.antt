@@ -24,7 +24,7 @@ module _ {D : Type 0} (disk : Ghosts D) (origin : Origin D) (now : D) (progress 
   unended drive_end.NoMemory kept = tt
   unended (drive_end.Spent spent) kept = absurd kept
 
-  pub worked : (kept : Option DriveEnd) (otherwise : DriveEnd) → Stands disk now origin progress kept → IsUnkept disk origin otherwise
+  pub worked : (kept : Option DriveEnd) (otherwise : DriveEnd) → Stands disk now origin progress kept → IsUnkept (disk.clock origin.start) otherwise
       → IsWorked disk origin now progress (unwrap_or kept otherwise)
   worked (Some ended) otherwise stands unkept = (stands.0, unended ended stands.1)
   worked None drive_end.NoMemory going unkept =

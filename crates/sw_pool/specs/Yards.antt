@@ -5,12 +5,13 @@ use Rattle.sw_data.specs.declared.recordings.Recording.{Recording}
 use Rattle.sw_data.specs.declared.storage.Kept.{Kept}
 use Rattle.sw_disk.specs.declared.disk.Disk.{Ghosts}
 use Rattle.sw_lock.specs.declared.logged.Logged as logged
+use Rattle.sw_lock.specs.Passes.{lock_of}
 use Rattle.sw_pool.specs.declared.ends.Brief.{Brief}
 use Rattle.sw_pool.specs.declared.ends.Brief.TheVariants as brief
 use Rattle.sw_pool.specs.declared.ends.Nothing.{Nothing}
 use Rattle.sw_pool.specs.declared.ends.Turned.{Turned}
 use Rattle.sw_pool.specs.declared.ends.Turned.TheVariants as turned
-use Rattle.sw_turns.specs.Ends.{Ended, IsKept, IsSpentIn}
+use Rattle.sw_turns.specs.Ends.{Ended, IsKept}
 use Rattle.sw_turns.specs.Settling.{IsOneRecord}
 use Rattle.sw_turns.specs.Turns.{IsAtRest, IsGoing, IsOneGroup, IsTurn}
 use Rattle.sw_turns.specs.declared.ends.DriveEnd.{DriveEnd}
@@ -54,11 +55,12 @@ HasWorked disk origin now progress ended =
     Ended disk origin.start now origin.passes origin.recording origin.base progress.history.items ended
     × IsAtRest ended origin.base progress
 
--- own: how a run has ended of which no end is kept: for want of memory, or with a pass of its lock that is spent
-abbrev pub IsUnkept : {D : Type 0} → Ghosts D → Origin D → DriveEnd → Type 0
-IsUnkept disk origin drive_end.NoMemory = Unit {0}
-IsUnkept disk origin (drive_end.Spent spent) = IsSpentIn disk origin.start spent
-IsUnkept disk origin _ = ⊥
+-- own: how a run has ended of which no end is kept, under a lock of this number: for want of memory, or with a pass of the lock that is
+-- spent
+abbrev pub IsUnkept : ℕ → DriveEnd → Type 0
+IsUnkept number drive_end.NoMemory = Unit {0}
+IsUnkept number (drive_end.Spent spent) = lock_of spent ≡ number
+IsUnkept number _ = ⊥
 
 -- own: where a run has ended with a pass that is spent, no end is kept: the recording is under way
 abbrev pub IsUnended : {D : Type 0} → Ghosts D → Origin D → D → Progress → DriveEnd → Type 0

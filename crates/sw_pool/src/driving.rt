@@ -43,7 +43,7 @@ fn rest<T: Logged>(lock: &Shared<T>, pass: &mut Pass<T>)
 
 // Makes turns until a step answers that the work has ended, or the pass has made 2^40 of them. What the pass takes up passes the
 // gate before its next turn.
-fn drive_on<R: Wait, T: Logged<Given = Nothing, Out = Turned>, G: Gate>(
+pub(crate) fn drive_on<R: Wait, T: Logged<Given = Nothing, Out = Turned>, G: Gate>(
     rt: &R,
     lock: &Shared<T>,
     pass: &mut Pass<T>,

@@ -2,12 +2,15 @@
 //! alone needs neither.
 #![tactic(auto)]
 
+mod crew;
 mod driving;
 mod ends;
+mod looking;
 mod working;
 mod yard;
 
 pub use driving::{drive, drive_watched};
 pub use ends::{Brief, Nothing, Turned};
+pub use looking::{Asked, work_watched};
 pub use working::{Worked, work, work_alone};
 pub use yard::Yard;

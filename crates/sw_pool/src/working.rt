@@ -1,18 +1,16 @@
 //! A recording is worked on to its end.
 
-ghost use Rattle.std.specs.Prelude.{◌≡◌, ◌<◌, ◌≤◌, All, length, unwrap_or, vec_len};
-ghost use Rattle.sw_lock.specs.Passes.{IsPassOf, made_of, number_of, opened_of};
+ghost use Rattle.std.specs.Prelude.{◌≡◌, ◌<◌, ◌≤◌, unwrap_or};
 ghost use Rattle.sw_pool.specs.Yards.{IsUnkept, IsWorked};
 
-use crate::driving::drive;
+use crate::crew::{Crew, drive};
 use crate::ends::{Nothing, Turned};
 use crate::yard::Yard;
 use std::alloc::Global;
 use std::sync::Wait;
-use std::thread::{Threads, for_each_mut};
-use sw_data::NoMemory;
+use std::thread::Threads;
 use sw_disk::Disk;
-use sw_lock::{Logged, Pass, Shared};
+use sw_lock::Logged;
 use sw_net::Gate;
 use sw_turns::{DriveEnd, Progress};
 
@@ -24,9 +22,10 @@ pub struct Worked<D> {
 }
 
 // What a yard comes to where no end is kept but this one.
-fn end_of<D: Disk>(yard: Yard<D>, otherwise: DriveEnd) -> Worked<D>
-    requires { IsUnkept D.Disk yard.origin otherwise }
+pub(crate) fn end_of<D: Disk>(yard: Yard<D>, otherwise: DriveEnd) -> Worked<D>
+    requires { IsUnkept (D.clock yard.origin.start) otherwise }
     ensures worked { IsWorked D.Disk yard.origin result.disk result.progress result.end }
+    ensures progress { result.progress ≡ yard.progress }
     ensures end { result.end ≡ unwrap_or yard.end otherwise }
 {
     let (disk, progress, end) = yard.into_parts();
@@ -34,55 +33,6 @@ fn end_of<D: Disk>(yard: Yard<D>, otherwise: DriveEnd) -> Worked<D>
         disk,
         progress,
         end: end.unwrap_or(otherwise),
-    }
-}
-
-// Each pass works, on a thread of its own where one can be made.
-fn drive_all<R: Threads + Wait + Sync, D: Disk + Send, G: Gate + Sync>(
-    rt: &R,
-    lock: &Shared<Yard<D>>,
-    passes: &mut [Pass<Yard<D>>],
-    gate: &G,
-)
-    requires { All (IsPassOf lock.now) passes.old }
-    ensures all { All (IsPassOf lock.now) passes.new }
-    ensures count { length passes.new ≡ length passes.old }
-{
-    for_each_mut(
-        rt,
-        passes,
-        64,
-        &|_, pass| {
-            let _ = drive(rt, lock, pass, gate);
-        },
-    );
-}
-
-// How a run has ended of which no end is kept: for want of turns, or of memory.
-fn unkept<D: Disk>(lock: &Shared<Yard<D>>, passes: &[Pass<Yard<D>>]) -> DriveEnd
-    requires passes { All (IsPassOf lock.now) passes.now }
-    requires number { number_of lock.now ≡ D.clock (opened_of lock.now).origin.start }
-    ensures { IsUnkept D.Disk (opened_of lock.now).origin result }
-{
-    for pass in passes {
-        if let Some(spent) = pass.spent(lock) {
-            return DriveEnd::Spent(spent);
-        }
-    }
-    DriveEnd::NoMemory
-}
-
-// The lock is closed, with all its passes.
-fn close<D: Disk>(lock: Shared<Yard<D>>, passes: Vec<Pass<Yard<D>>>) -> Worked<D>
-    requires passes { All (IsPassOf lock) passes.items }
-    requires all { vec_len passes ≡ made_of lock }
-    requires number { number_of lock ≡ D.clock (opened_of lock).origin.start }
-    ensures { IsWorked D.Disk (opened_of lock).origin result.disk result.progress result.end }
-{
-    let otherwise = unkept(&lock, &passes);
-    match lock.close(passes) {
-        Ok(yard) => end_of(yard, otherwise),
-        Err(_) => unreachable!(),
     }
 }
 
@@ -101,12 +51,13 @@ pub fn work<R: Threads + Wait + Sync, D: Disk + Send, G: Gate + Sync>(
     ensures { IsWorked D.Disk yard.origin result.disk result.progress result.end }
 {
     let passes = yard.passes();
-    match Shared::numbered(alloc, yard, passes, number) {
-        Ok((lock, mut all)) => {
-            drive_all(rt, &lock, all.as_mut_slice(), gate);
-            close(lock, all)
+    match Crew::new(alloc, yard, passes, number) {
+        Ok(mut crew) => {
+            drive(rt, gate, &mut crew);
+            let (yard, otherwise) = crew.close();
+            end_of(yard, otherwise)
         }
-        Err((NoMemory, yard)) => end_of(yard, DriveEnd::NoMemory),
+        Err(yard) => end_of(yard, DriveEnd::NoMemory),
     }
 }
 

@@ -1,5 +1,6 @@
-//! Tests of whole runs on disks that fail, of crashes at every call of a disk, of workers that meet at the network, and of each
-//! index beside the scan whose place it takes. Nothing stands on them: a crate with tests is proved twice.
+//! Tests of whole runs on disks that fail, of crashes at every call of a disk, of workers that meet at the network, of
+//! look-ups beside them, and of each index beside the scan whose place it takes. Nothing stands on them: a crate with
+//! tests is proved twice.
 #![tactic(auto)]
 
 #[cfg(test)]
@@ -12,3 +13,5 @@ mod runs;
 mod scope;
 #[cfg(test)]
 mod store;
+#[cfg(test)]
+mod watch;

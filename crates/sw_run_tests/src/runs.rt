@@ -53,7 +53,7 @@ fn source(rt: &impl Abort, alloc: Global, lines: &str, failing: Option<u64>) -> 
 }
 
 // Runs a command on a disk, and gives the status, what was written, and the disk.
-fn ran<R: Threads + Wait + Sync + Abort, G: Gate + Sync>(
+pub(crate) fn ran<R: Threads + Wait + Sync + Abort, G: Gate + Sync>(
     rt: &R,
     alloc: Global,
     line: &str,

@@ -2,6 +2,7 @@
 use Rattle.std.proofs.Common.{◌≡◌, Err, IfOk, refl, subst}
 use Rattle.sw_host.proofs.EndLemmas.{begun, left_unbegun, refused}
 use Rattle.sw_host.proofs.ending.open_for.Goals as goal
+use Rattle.sw_host.specs.Runs.{EndsAs}
 use Rattle.sw_pool.specs.Yards.{origin_of}
 
 pub returns-in-Ok-clause-origin : goal.returns-in-Ok-clause-origin
@@ -15,5 +16,5 @@ returns-in-Ok-clause-left g c =
 
 pub returns-in-Err-clause-replays : goal.returns-in-Err-clause-replays
 returns-in-Err-clause-replays g c =
-    refused g.D.Disk c.args.disk c.reopen.new.disk c.args.workers c.args.recording (Err c.in-Err.error) c.in-Err.error c.unopened.result refl
+    refused g.D.Disk c.args.disk c.reopen.new.disk (EndsAs g.D.Disk c.args.disk c.reopen.new.disk c.args.workers c.args.recording) (Err c.in-Err.error) c.in-Err.error c.unopened.result refl
     c.in-Err.ensures.not_formatted c.in-Err.ensures.bad c.in-Err.ensures.full c.in-Err.ensures.fault c.in-Err.ensures.unopened c.unopened.ensures
