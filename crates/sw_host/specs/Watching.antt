@@ -11,7 +11,7 @@ use Rattle.sw_host.specs.Runs.{last_of, status_of}
 use Rattle.sw_inputs.specs.declared.LookLine.{LookLine}
 use Rattle.sw_pool.specs.declared.looking.Asked.{Asked}
 use Rattle.sw_pool.specs.Looks.{AreAnswers}
-use Rattle.sw_print.specs.Transcript.{transcript}
+use Rattle.sw_print.specs.Transcript.{numbered, transcript}
 use Rattle.sw_turns.specs.Ends.{Ended}
 use Rattle.sw_turns.specs.declared.ends.DriveEnd.{DriveEnd}
 use Rattle.sw_view.specs.declared.looker.Look.{Look}
@@ -23,7 +23,7 @@ asked_of line = record { key = unwrap_or (key_of line.address line.partition) []
 
 -- own: what was found
 abbrev pub found_text : Option ℕ → List ℕ
-found_text (Some registration) = codes "r" ++ decimal registration
+found_text (Some registration) = numbered (codes "r") registration
 found_text None = codes "none"
 
 -- own: the line of the look-up of this number

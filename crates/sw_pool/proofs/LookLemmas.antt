@@ -1,17 +1,15 @@
 -- Answers to look-ups stay right of a history that goes on, and one more is put behind them.
 use Rattle.std.proofs.Common.{◌≡◌, ◌≤◌, ◌∙◌, ℕ, List, [], ◌∷◌, ◌++◌, length, take, Result, Ok, Err, refl, ap, sym, subst, arith}
-use Rattle.std.proofs.lemmas.List.{length-append, take-append-le}
+use Rattle.std.proofs.lemmas.List.{take-append-le}
 use Rattle.std.specs.Prelude.{IfOk}
 use mathlib.Core.List.{IsPrefix}
 use Rattle.sw_data.specs.declared.histories.Entry.{Entry}
 use Rattle.sw_data.specs.declared.storage.Kept.{Kept}
 use Rattle.sw_pool.specs.Looks.{AreAnswers, IsAnswer}
 use Rattle.sw_pool.specs.declared.looking.Asked.{Asked}
+use Rattle.sw_view.proofs.Fronts.{prefix_length}
 use Rattle.sw_view.specs.Mapped.{matched_after}
 use Rattle.sw_view.specs.declared.looker.Look.{Look}
-
-pub prefix_length : (history later : List Entry) → IsPrefix history later → length history ≤ length later
-prefix_length history later front = omega (arith, sym (ap length front.1) ∙ length-append history front.0)
 
 -- so many first entries of a beginning are those of the whole
 same_front : (history later : List Entry) (entries : ℕ) → IsPrefix history later → entries ≤ length history → take entries history ≡ take entries later

@@ -18,7 +18,7 @@ use sw_disk::Disk;
 use sw_net::Gate;
 use sw_turns::DriveEnd;
 use sw_view::{Look, Looker, Publisher};
-use sw_watch::{Mapped, Watched, publish_rest};
+use sw_watch::{Mapped, Watched};
 
 /// A look-up: a storage key, and an address.
 #[derive(Drop)]
@@ -92,25 +92,21 @@ fn side_by_side<R: Threads, C: Send, F: Fn(usize, &mut C) + Sync, G: Gate + Sync
     looks
 }
 
-// What isn't published yet of the entries of a value is, where there is memory, and the view ends. It says whether all that the
-// looker has seen begins them.
-fn covers<R: Wait, T: Mapped>(rt: &R, value: &T, mut publisher: Publisher, looker: &Looker) -> bool
-    requires base { publisher.base ≡ T.kept value.now }
+// Whether all that a looker has seen begins the entries of a value, as what is published of them does. The view ends.
+fn covers<R: Wait, T: Mapped>(rt: &R, value: &T, publisher: Publisher, looker: &Looker) -> bool
     requires begins { IsPrefix publisher.entries (T.log value.now) }
     requires book { looker.now.book ≡ publisher.book }
     ensures { IsTrue result → IsPrefix looker.now.entries (T.log value.now) }
 {
-    let told = match publish_rest(rt, value, &mut publisher) {
-        Ok(()) => publisher.covers(looker),
-        Err(NoMemory) => false,
-    };
+    let _ = value;
+    let told = publisher.covers(looker);
     publisher.end(rt);
     told
 }
 
-/// Works on a recording to its end, as `work` does, while these look-ups are taken in order and without the lock, on a thread of
-/// their own where one can be made; else they come behind it. Each look-up passes the gate before, with its address and its number. Where its looks
-/// aren't all answered for want of memory, the run has its end all the same. Publishing waits by `waits`.
+/// Works on a recording to its end, as `work` does, while these look-ups are taken in order and without the lock, on a
+/// thread of their own where one can be made; else they come behind it. Each passes the gate before, with its address and
+/// its number. Where not all are answered for want of memory, the run has its end all the same. Publishing waits by `waits`.
 pub fn work_watched<
     R: Threads + Wait + Sync,
     W: Wait + Drop + Send,

@@ -144,14 +144,25 @@ fn large(rt: &impl Abort, alloc: Global) -> String {
     lines
 }
 
+const CUT_FAILED: &str =
+    "- restarted -> 0 registrations 0 caches\nL0.0 cacheOpen -> made\nL0.1 put -> ok\nend disk\n";
+
 // Where a checkpoint fails, what was written stands, and no event is refused.
 #[test]
 fn a_fault_at_a_checkpoint_is_told(rt: HostRuntime) {
     let alloc = rt.alloc();
     let disk = failing(&rt, alloc, CallKind::Cut, 0, 0);
-    let text =
-        "- restarted -> 0 registrations 0 caches\nL0.0 cacheOpen -> made\nL0.1 put -> ok\nend disk\n";
-    assert!(rt; fails(&rt, alloc, large(&rt, alloc).as_str(), disk, text));
+    assert!(rt; fails(&rt, alloc, large(&rt, alloc).as_str(), disk, CUT_FAILED));
+}
+
+// So it is where the entries of the last turn could not be published.
+#[test]
+fn a_fault_at_a_checkpoint_is_told_of_a_watched_run(rt: HostRuntime) {
+    let alloc = rt.alloc();
+    let disk = failing(&rt, alloc, CallKind::Cut, 0, 0);
+    let lines = large(&rt, alloc);
+    let (status, sink, _) = ran(&rt, alloc, "watch 1", lines.as_str(), disk, &NoGate);
+    assert!(rt; status.code() == 6 && sink.bytes() == CUT_FAILED.as_bytes());
 }
 
 const PAGE: &str =

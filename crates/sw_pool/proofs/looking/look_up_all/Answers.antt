@@ -3,10 +3,11 @@ use Rattle.std.proofs.Common.{◌≡◌, ◌+◌, ◌∙◌, ◌++◌, [], ◌�
 use Rattle.std.proofs.lemmas.List.{take_all, take_more}
 use Rattle.sw_data.specs.declared.histories.Entry.{Entry}
 use Rattle.sw_data.specs.declared.storage.Kept.{Kept}
-use Rattle.sw_pool.proofs.LookLemmas.{answers_stay, last_behind, last_of, one_more, prefix_length}
+use Rattle.sw_pool.proofs.LookLemmas.{answers_stay, last_behind, last_of, one_more}
 use Rattle.sw_pool.proofs.looking.look_up_all.Goals as goal
 use Rattle.sw_pool.specs.declared.looking.Asked.{Asked}
 use Rattle.sw_pool.specs.Looks.{AreAnswers, IsAnswer}
+use Rattle.sw_view.proofs.Fronts.{prefix_length}
 use Rattle.sw_view.specs.Mapped.{matched_after}
 use Rattle.sw_view.specs.declared.looker.Look.{Look}
 
