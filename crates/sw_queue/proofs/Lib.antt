@@ -1,6 +1,9 @@
 pub mod Naming
-pub mod Scoping
-pub mod Keying
+pub mod Linking
+pub mod Placing
+pub mod Making
+pub mod Adding
+pub mod Dropping
 pub mod Listing
 pub mod Places
 pub mod Alike

@@ -1,5 +1,5 @@
 -- What entries have for each name, after one of them changes or comes.
-use Rattle.std.proofs.Common.{◌≡◌, ◌∙◌, ℕ, Bool, true, List, [], ◌∷◌, bytes_eq, Some, None, refl, sym, ap, arith, if◌then◌else◌}
+use Rattle.std.proofs.Common.{◌≡◌, ◌∙◌, ℕ, Bool, true, cond, List, [], ◌∷◌, ◌++◌, bytes_eq, Option, Some, None, refl, sym, ap, arith, if◌then◌else◌}
 use Rattle.std.specs.Cmp.Lexicographic.{bytes_decides, nat_list_eq_equiv}
 use Rattle.std.specs.Map.{lookup, set_value}
 use Rattle.indexmap.specs.IndexMap.{insert_entry}
@@ -45,6 +45,48 @@ module _ {K V : Type 0} (bytes : K → List ℕ) (name : List ℕ) (absent : V) 
   named_new asked eq key new decides is (e ∷ es) none_there =
       let other = decides key e.0 ∙ ap (λ a. bytes_eq a (bytes e.0)) is in
       grind (arith, other, other_name name asked (bytes e.0), named_new asked eq key new decides is es)
+
+module _ {K V : Type 0} (bytes : K → List ℕ) (name : List ℕ) where
+  -- entries by name find what the entries do
+  pub by_name_found : (entries : List (K × V)) → lookup (bytes_eq name) (by_name bytes entries) ≡ lookup (λ key. bytes_eq name (bytes key)) entries
+  by_name_found [] = refl
+  by_name_found (e ∷ es) = ap (cond (bytes_eq name (bytes e.0)) (Some e.1)) (by_name_found es)
+
+  -- what is written for a name is written by name
+  pub by_name_set : (entries : List (K × V)) (new : V)
+      → by_name bytes (set_value (λ key. bytes_eq name (bytes key)) entries new) ≡ set_value (bytes_eq name) (by_name bytes entries) new
+  by_name_set [] new = refl
+  by_name_set (e ∷ es) new = grind (arith, by_name_set es new)
+
+  -- a name that comes is last
+  pub by_name_new : (eq : K → K → Bool) (key : K) (new : V) → ((x y : K) → eq x y ≡ bytes_eq (bytes x) (bytes y))
+      → bytes key ≡ name → (entries : List (K × V)) → lookup (λ k. bytes_eq name (bytes k)) entries ≡ None
+      → by_name bytes (insert_entry eq entries key new) ≡ by_name bytes entries ++ (name, new) ∷ []
+  by_name_new eq key new decides is [] none_there = ap (λ (n : List ℕ). (n, new) ∷ []) is
+  by_name_new eq key new decides is (e ∷ es) none_there =
+      let other = decides key e.0 ∙ ap (λ a. bytes_eq a (bytes e.0)) is in
+      grind (arith, other, by_name_new eq key new decides is es)
+
+-- ---- by name alone
+
+module _ {V : Type 0} where
+  -- what isn't there isn't written
+  pub set_absent : (lines : List (List ℕ × V)) (name : List ℕ) (new : V) → lookup (bytes_eq name) lines ≡ None → set_value (bytes_eq name) lines new ≡ lines
+  set_absent [] name new none_there = refl
+  set_absent (e ∷ es) name new none_there = grind (arith, set_absent es name new)
+
+  pub found_last : (lines : List (List ℕ × V)) (name : List ℕ) (new : V) → lookup (bytes_eq name) lines ≡ None
+      → lookup (bytes_eq name) (lines ++ (name, new) ∷ []) ≡ Some new
+  found_last [] name new none_there = ap (λ (b : Bool). cond b (Some new) None) (bytes_same name)
+  found_last (e ∷ es) name new none_there = grind (arith, found_last es name new)
+
+-- what is found is one value
+pub one_found : {V : Type 0} (found : Option V) (one two : V) → found ≡ Some one → found ≡ Some two → one ≡ two
+one_found found one two first second = cc
+
+-- what isn't found isn't there
+pub none_found : {V : Type 0} (found : Option V) (value : V) → found ≡ None → found ≡ Some value → ⊥
+none_found found value none_there there = absurd cc
 
 -- the same name has the same value
 pub named_same : {V : Type 0} (entries : List (List ℕ × V)) (name asked : List ℕ) (absent : V) → bytes_eq name asked ≡ true

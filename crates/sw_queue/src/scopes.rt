@@ -1,11 +1,15 @@
 //! Lines of numbers, each by the scope that it belongs to.
 
-ghost use Rattle.std.specs.Prelude.{◌≡◌, ◌++◌, ◌∷◌, [], ◌<◌, List, ℕ, bytes_eq, drop, slice_get, if◌then◌else◌, None, IfOk, OnOk};
-ghost use Rattle.std.specs.List.{last_or};
-ghost use Rattle.sw_queue.specs.Lines.{line_at};
+ghost use Rattle.std.specs.Prelude.{◌≡◌, ◌∷◌, [], ◌≤◌, List, ℕ, bytes_eq, slice_get, IfOk, IsSome, OnOk};
+ghost use Rattle.std.specs.Map.{lookup, set_value};
+ghost use Rattle.slab.specs.Slab.{HasRoomFor, slab_len};
+ghost use Rattle.sw_queue.specs.Lines.{named};
+ghost use Rattle.sw_queue.specs.Links.{Adds, Drops, count_by_scope, last_number, no_nodes, numbers_of, with_last, without_first};
+ghost use Rattle.sw_queue.specs.declared.line.Line.{Line};
 
-use crate::line::Line;
+use crate::line::{Line, Node};
 use indexmap::IndexMap;
+use slab::Slab;
 use std::alloc::Global;
 use std::marker::Model;
 use sw_data::NoMemory;
@@ -17,82 +21,82 @@ pub(crate) struct Scopes {
 }
 
 impl Model for Scopes {
-    ghost use Rattle.sw_queue.specs.Lines.{Scoped, by_name};
+    ghost use Rattle.sw_queue.specs.Lines.{by_name};
+    ghost use Rattle.sw_queue.specs.Links.{ByScope};
 
-    ghost Value = { Scoped };
+    ghost Value = { ByScope };
 
     ghost view = { λ scopes. by_name (λ key. key.items) scopes.lines.entries };
 }
 
 impl Scopes {
-    // No number, with room for one of a scope.
-    pub(crate) fn with_room(alloc: Global, scope: &[u8]) -> Result<Scopes, NoMemory>
-        ensures empty { IfOk result (λ scopes. (asked : List ℕ)
-            → (line_at scopes asked).numbers ≡ []) }
-        ensures room { IfOk result (λ scopes. 0 < (line_at scopes scope.now).spare) }
+    // An empty line of a scope.
+    pub(crate) fn with_line(alloc: Global, scope: &[u8]) -> Result<Scopes, NoMemory>
+        ensures lines { IfOk result (λ scopes. (asked : List ℕ) → named scopes asked no_nodes ≡ no_nodes) }
+        ensures count { IfOk result (λ scopes. count_by_scope scopes ≡ 0) }
+        ensures there { IfOk result (λ scopes. IsSome (lookup (bytes_eq scope.now) scopes)) }
     {
         let mut scopes = Scopes {
             lines: IndexMap::new(alloc),
         };
-        scopes.make_room(alloc, scope)?;
+        scopes.make_line(alloc, scope)?;
         Ok(scopes)
     }
 
-    // Makes room for one more number of a scope.
-    #[tactic(auto, using(crate::proofs::Scoping::line_begun, crate::proofs::Naming::named_new, crate::proofs::Naming::bytes_same))]
-    pub(crate) fn make_room(&mut self, alloc: Global, scope: &[u8]) -> Result<(), NoMemory>
-        ensures same { (asked : List ℕ)
-            → (line_at self.new asked).numbers ≡ (line_at self.old asked).numbers }
-        ensures room { OnOk result (0 < (line_at self.new scope.now).spare) }
+    // Makes an empty line of a scope, where it has none.
+    #[tactic(auto, using(crate::proofs::Making::begun_line, crate::proofs::Making::begun_count, crate::proofs::Making::begun_there))]
+    pub(crate) fn make_line(&mut self, alloc: Global, scope: &[u8]) -> Result<(), NoMemory>
+        ensures lines { (asked : List ℕ) → named self.new asked no_nodes ≡ named self.old asked no_nodes }
+        ensures count { count_by_scope self.new ≡ count_by_scope self.old }
+        ensures there { OnOk result (IsSome (lookup (bytes_eq scope.now) self.new)) }
     {
-        match self.lines.get_mut(scope) {
-            Some(line) => line.make_room(),
-            None => {
-                let mut name = Vec::new(alloc);
-                name.extend_from_slice(scope)?;
-                let line = Line::new(alloc)?;
-                self.lines.insert(name, line)?;
-                Ok(())
-            }
+        if self.lines.contains_key(scope) {
+            return Ok(());
         }
+        let mut name = Vec::new(alloc);
+        name.extend_from_slice(scope)?;
+        self.lines.insert(name, Line::new())?;
+        Ok(())
     }
 
     // The first number of a scope; it takes no memory.
     #[tactic(auto, using(crate::proofs::Naming::named_found, crate::proofs::Naming::named_absent))]
-    pub(crate) fn first(&self, scope: &[u8]) -> Option<u32>
-        ensures { result ≡ slice_get (line_at self.now scope.now).numbers 0 }
+    pub(crate) fn first(&self, nodes: &Slab<Node>, scope: &[u8]) -> Option<u32>
+        ensures { result ≡ slice_get (numbers_of nodes.now (named self.now scope.now no_nodes)) 0 }
     {
-        self.lines.get(scope)?.first()
+        self.lines.get(scope)?.first(nodes)
     }
 
     // The last number of a scope; it takes no memory.
     #[tactic(auto, using(crate::proofs::Naming::named_found, crate::proofs::Naming::named_absent))]
-    pub(crate) fn last(&self, scope: &[u8]) -> Option<u32>
-        ensures { result ≡ last_or None (line_at self.now scope.now).numbers }
+    pub(crate) fn last(&self, nodes: &Slab<Node>, scope: &[u8]) -> Option<u32>
+        ensures { result ≡ last_number nodes.now (named self.now scope.now no_nodes) }
     {
-        self.lines.get(scope)?.last()
+        self.lines.get(scope)?.last(nodes)
     }
 
-    // Adds a number of a scope; it takes no memory.
-    pub(crate) fn add(&mut self, scope: &[u8], number: u32)
-        requires { 0 < (line_at self.old scope.now).spare }
-        ensures { (asked : List ℕ) → (line_at self.new asked).numbers
-            ≡ (if bytes_eq scope.now asked then (line_at self.old asked).numbers ++ number ∷ []
-            else (line_at self.old asked).numbers) }
+    // Adds a number of a scope that has a line; it takes no memory.
+    pub(crate) fn add(&mut self, nodes: &mut Slab<Node>, scope: &[u8], number: u32)
+        requires room { HasRoomFor nodes.old 1 }
+        requires count { count_by_scope self.old ≤ slab_len nodes.old }
+        ensures line { (line : Line) → lookup (bytes_eq scope.now) self.old ≡ Some line
+            → self.new ≡ set_value (bytes_eq scope.now) self.old (with_last nodes.old.vacant_key line) }
+        ensures nodes { (line : Line) → lookup (bytes_eq scope.now) self.old ≡ Some line
+            → Adds nodes.old nodes.new line number }
     {
         if let Some(line) = self.lines.get_mut(scope) {
-            line.add(number);
+            line.add(nodes, number);
         }
     }
 
     // Takes the first number of a scope away; it takes no memory.
-    pub(crate) fn drop_first(&mut self, scope: &[u8])
-        ensures { (asked : List ℕ) → (line_at self.new asked).numbers
-            ≡ (if bytes_eq scope.now asked then drop 1 (line_at self.old asked).numbers
-            else (line_at self.old asked).numbers) }
+    pub(crate) fn drop_first(&mut self, nodes: &mut Slab<Node>, scope: &[u8])
+        ensures line { self.new ≡ set_value (bytes_eq scope.now) self.old
+            (without_first nodes.old (named self.old scope.now no_nodes)) }
+        ensures nodes { Drops nodes.old nodes.new (named self.old scope.now no_nodes) }
     {
         if let Some(line) = self.lines.get_mut(scope) {
-            line.drop_first();
+            line.drop_first(nodes);
         }
     }
 }
