@@ -1,4 +1,8 @@
 pub mod BatchLemmas
+mod BytesLemmas
+mod CarryLemmas
+pub mod ChangeLemmas
+mod CountedLemmas
 mod PairLemmas
 mod PlaceLemmas
 pub mod PlanLemmas

@@ -2,7 +2,7 @@
 use Rattle.std.proofs.Common.{◌≡◌, ◌<◌, length, arith, Some, None, Bor, true, List, ℕ, sym, ap, inl, inr}
 use Rattle.std.specs.Prelude.{◌^◌, bytes_eq, Option, option_map}
 use Rattle.std.specs.Option.{IfSome}
-use Rattle.sw_caches.specs.declared.entries.Entry.{Entry}
+use Rattle.sw_caches.specs.declared.entry.Entry.{Entry}
 use Rattle.sw_index.proofs.FindLemmas.{found_low}
 use Rattle.std.specs.Cmp.Lexicographic.{bytes_decides}
 use Rattle.std.proofs.lemmas.Bool.{cases_Bool, and_parts}

@@ -11,7 +11,7 @@ use Rattle.sw_index.specs.Slots.{AreFrom, HasLost, IsFree, KeepsBelow, KeepsSlot
 use Rattle.sw_index.specs.Numbered.{AllBelow, AllFrom, mark_of}
 use Rattle.sw_index.proofs.SlotLemmas.{stays_out, under_either, under_reads}
 use Rattle.sw_index.proofs.IndexLemmas.{added, kept_below, marked_low, marks_joined, more_marks}
-use Rattle.sw_caches.specs.declared.entries.Entry.{Entry}
+use Rattle.sw_caches.specs.declared.entry.Entry.{Entry}
 use Rattle.sw_caches.specs.declared.plan.PairsPlan.{PairsPlan}
 use Rattle.sw_caches.specs.Entries.{AreIndexed, AreTight, marks, number, pair, pair_digest}
 use Rattle.sw_caches.specs.Plans.{IsDraft}

@@ -1,27 +1,31 @@
 -- Rows of a table, by their places.
 use Rattle.std.proofs.Common.{◌≡◌, ℕ, ◌+◌, ◌<◌, ◌≤◌, Bool, true, false, List, [], ◌∷◌, map, length, set, Some, None, refl, inl, inr, sym, ap, subst, ◌∙◌, arith, suc, zero}
-use Rattle.std.specs.Prelude.{filter, Option, Result, Ok, Err, IfOk, IfErr, MatchOption, option_map, position, slice_get, nat_lt}
+use Rattle.std.specs.Prelude.{◌^◌, All, filter, Option, Result, Ok, Err, IfOk, IfErr, MatchOption, option_map, position, slice_get, nat_lt, sum_by}
 use Rattle.std.specs.List.{list_any, position_or_len}
 use Rattle.std.specs.Option.{option_map_or}
 use Rattle.std.proofs.lemmas.Bool.{cases_Bool}
 use Rattle.std.proofs.lemmas.Bool.Decides.{nat_tests}
 use Rattle.std.proofs.lemmas.List.{map-set}
-use Rattle.std.proofs.lemmas.Option.{slice_get-map, slice_get_within}
+use Rattle.std.proofs.lemmas.List.Elements.{All-get_or, All-set}
+use Rattle.std.proofs.lemmas.Option.{get_or_from_slice_get, slice_get-map, slice_get_within}
 use Rattle.sw_data.specs.declared.storage.KeptCache.{KeptCache}
 use Rattle.sw_data.specs.declared.exchange.Op.{Op}
 use Rattle.sw_rules.specs.Batch.{batch}
 use Rattle.sw_rules.specs.Caching.{pairs_of, with_pairs}
+use Rattle.sw_rules.specs.Matching.{Pair}
 use Rattle.sw_rules.specs.Storage.{with_cache}
 use Rattle.sw_index.specs.Named.{is_at, values, with_value}
 use Rattle.sw_caches.specs.declared.fault.BatchFault.{BatchFault}
 use Rattle.sw_caches.specs.declared.table.CachePlan.{CachePlan}
+use Rattle.sw_caches.specs.Bytes.{puts_size}
+use Rattle.sw_caches.specs.Entries.{pairs}
 use Rattle.sw_caches.specs.Plans.{Fits, Indexed, IsThrown, carried}
-use Rattle.sw_caches.specs.Tables.{FitsTable, IsBatch, IsBatchOf, IsRefused, IsRefusedOf, Row, carried_row, carried_rows, kept_row}
+use Rattle.sw_caches.specs.Tables.{FitsTable, HasNames, IsBatch, IsBatchOf, IsRefused, IsRefusedOf, Row, carried_row, carried_rows, index_size, kept_row}
 
 none_some : {A : Type 0} (x : A) → None ≡ Some x → ⊥
 none_some x e = cc
 
-some_is : {A : Type 0} (x y : A) → Some x ≡ Some y → x ≡ y
+pub some_is : {A : Type 0} (x y : A) → Some x ≡ Some y → x ≡ y
 some_is x y e = cc
 
 module _ (key name : List ℕ) where
@@ -122,19 +126,23 @@ set_same [] place x is = refl
 set_same (y ∷ xs) zero x is = ap (λ z. z ∷ xs) (sym (some_is y x is))
 set_same (y ∷ xs) (suc place) x is = ap (λ rest. y ∷ rest) (set_same xs place x is)
 
-set_stands : {X : Type 0} (xs : List X) (place : ℕ) (x : X) → place < length xs → slice_get (set xs place x) place ≡ Some x
+pub set_stands : {X : Type 0} (xs : List X) (place : ℕ) (x : X) → place < length xs → slice_get (set xs place x) place ≡ Some x
 set_stands [] place x low = absurd (omega arith)
 set_stands (y ∷ xs) zero x low = refl
 set_stands (y ∷ xs) (suc place) x low = set_stands xs place x (omega arith)
 
 -- a plan is carried out on what stands at its place
-carried_at : (rows : List KeptCache) (plan : CachePlan) (place : ℕ) (kept : KeptCache) → plan.place ≡ place → slice_get rows place ≡ Some kept → carried_rows plan rows ≡ set rows place (carried_row plan kept)
+pub carried_at : (rows : List KeptCache) (plan : CachePlan) (place : ℕ) (kept : KeptCache) → plan.place ≡ place → slice_get rows place ≡ Some kept → carried_rows plan rows ≡ set rows place (carried_row plan kept)
 carried_at rows plan place kept at stands =
     ap (λ n. option_map_or (λ row. set rows n (carried_row plan row)) (slice_get rows n) rows) at
     ∙ ap (λ found. option_map_or (λ row. set rows place (carried_row plan row)) found rows) stands
 
+-- the pairs that a plan adds
+abbrev added_pairs : CachePlan → List Pair
+added_pairs plan = pairs plan.change.added.items
+
 module _ (rows : List Row) (place : ℕ) (pairs : Indexed) (is : slice_get (values rows) place ≡ Some pairs) where
-  row_at : (row : Row) × (slice_get rows place ≡ Some row) × (row.1 ≡ pairs)
+  pub row_at : (row : Row) × (slice_get rows place ≡ Some row) × (row.1 ≡ pairs)
   row_at = reads (slice_get rows place) refl (sym (slice_get-map (λ row. row.1) rows place) ∙ is)
     where
       reads : (found : Option Row) → slice_get rows place ≡ found → option_map (λ (row : Row). row.1) found ≡ Some pairs → (row : Row) × (slice_get rows place ≡ Some row) × (row.1 ≡ pairs)
@@ -168,6 +176,18 @@ module _ (rows : List Row) (place : ℕ) (pairs : Indexed) (is : slice_get (valu
       ap (λ (item : Indexed). item.pairs) (sym row_at.2)
       ∙ ap (λ (item : KeptCache). item.pairs) (some_is (kept_row row_at.0) kept (sym kept_stands ∙ stands))
 
+  -- what counts the bytes of its pairs counts those of its row
+  pub row_counts : (f : Indexed → ℕ) (row : Row) → slice_get rows place ≡ Some row → f pairs ≡ f row.1
+  row_counts f row stands = ap f (sym row_at.2) ∙ ap (λ (item : Row). f item.1) (some_is row_at.0 row (sym row_at.1 ∙ stands))
+
+  -- a cache that keeps its names has the bytes of its key and name
+  pub named_written : (new : Indexed) → new.names ≡ pairs.names → All HasNames rows → All HasNames (with_value place new rows)
+  named_written new same all =
+      subst (All HasNames) (sym (written new))
+      (All-set HasNames rows place (row_at.0.0, new)
+      (same ∙ (ap (λ (item : Indexed). item.names) (sym row_at.2)
+      ∙ subst HasNames (get_or_from_slice_get rows place row_at.0 row_at.0 row_at.1) (All-get_or HasNames rows place row_at.0 (slice_get_within rows place row_at.0 row_at.1) all))) all)
+
   -- the cache after its plan
   pub row_carried : (plan : CachePlan) (new : Indexed) → plan.place ≡ place → new.pairs ≡ carried plan.change pairs.pairs → map kept_row (with_value place new rows) ≡ carried_rows plan (map kept_row rows)
   row_carried plan new at same =
@@ -185,14 +205,17 @@ module _ (rows : List Row) (place : ℕ) (pairs : Indexed) (is : slice_get (valu
   thrown_row ops (Ok plan) thrown = tt
   thrown_row ops (Err why) thrown = λ kept stands. subst (λ list. IsThrown why (batch list ops)) (row_read kept stands) thrown
 
-  pub fits_row : (new : Indexed) (result : Result CachePlan BatchFault) → IfOk result (λ plan. plan.place ≡ place) → IfOk result (λ plan. Fits plan.change new)
+  pub fits_row : (new : Indexed) (total : ℕ) (result : Result CachePlan BatchFault) → IfOk result (λ plan. plan.place ≡ place) → IfOk result (λ plan. Fits plan.change new)
+      → new.names ≡ pairs.names → IfOk result (λ plan. plan.bytes ≡ puts_size pairs.names (added_pairs plan)) → sum_by index_size (values (with_value place new rows)) ≡ total → IfOk result (λ plan. total + plan.bytes < 2 ^ 64)
       → IfOk result (λ plan. FitsTable plan (values (with_value place new rows)))
-  fits_row new (Ok plan) at fits = record {
+  fits_row new total (Ok plan) at fits names bytes all room = record {
     index = new;
     stands = ap (slice_get (values (with_value place new rows))) at ∙ index_stands new;
     fits = fits;
+    bytes = bytes ∙ ap (λ n. puts_size n (added_pairs plan)) (sym names);
+    room = omega (arith, all, room);
   }
-  fits_row new (Err why) at fits = tt
+  fits_row new total (Err why) at fits names bytes all room = tt
 
 module _ (key name : List ℕ) (ops : List Op) (rows : List Row) (place : ℕ) (at : IsPlace key name rows place) where
   place_stands : slice_get (map kept_row rows) place ≡ Some (kept_row at.row)

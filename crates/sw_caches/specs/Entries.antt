@@ -2,7 +2,7 @@
 use Rattle.std.specs.Prelude.{ℕ, Bool, List, map}
 use Rattle.std.specs.BTreeSet.{BTreeSet}
 use Rattle.sw_rules.specs.Matching.{Pair}
-use Rattle.sw_caches.specs.declared.entries.Entry.{Entry}
+use Rattle.sw_caches.specs.declared.entry.Entry.{Entry}
 use Rattle.sw_index.specs.declared.slots.Mark.{Mark}
 use Rattle.sw_index.specs.Slots.{Slot}
 use Rattle.sw_caches.specs.Slots.{address_digest}

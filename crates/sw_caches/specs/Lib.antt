@@ -1,6 +1,9 @@
+pub mod Bytes
+pub mod Changes
 pub mod Entries
 pub mod Hits
 pub mod Places
 pub mod Plans
 pub mod Slots
+pub mod Sums
 pub mod Tables

@@ -49,12 +49,13 @@ pub record IsDraft (plan : PairsPlan) (slots : BTreeSet Slot) : Type 0 where
   pub start : 0 < plan.first
   pub later : plan.first ≤ plan.next
 
--- a cache as its plans see it: its pairs, its index, its next number, and the room behind its pairs
+-- a cache as its plans see it: its pairs, its index, its next number, the room behind its pairs, and the bytes of its key and name
 pub record Indexed : Type 0 where
   pub pairs : List Pair
   pub slots : BTreeSet Slot
   pub next : ℕ
   pub spare : ℕ
+  pub names : ℕ
 
 -- a plan was made for this cache, and there is room for what it adds
 pub record Fits (plan : PairsPlan) (cache : Indexed) : Type 0 where

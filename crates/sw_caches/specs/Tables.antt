@@ -1,7 +1,7 @@
 -- The caches of all keys, as a list of rows beside what plans need to know of their indexes.
-use Rattle.std.specs.Prelude.{◌≡◌, ℕ, ◌+◌, ◌<◌, ◌≤◌, ◌^◌, true, length, drop, List, [], ◌∷◌, map, filter, set, bytes_eq, slice_get, option_map, Option, Some, None, Ok, if◌then◌else◌}
+use Rattle.std.specs.Prelude.{◌≡◌, ℕ, ◌+◌, ◌<◌, ◌≤◌, ◌^◌, true, length, drop, List, [], ◌∷◌, map, filter, set, sum_by, bytes_eq, slice_get, option_map, Option, Some, None, Ok, if◌then◌else◌}
 use Rattle.std.specs.Option.{option_map_or}
-use Rattle.std.specs.List.{range_with_len}
+use Rattle.std.specs.List.{All, range_with_len}
 use Rattle.sw_data.specs.declared.exchange.Op.{Op}
 use Rattle.sw_data.specs.declared.exchange.Options.{Options}
 use Rattle.sw_data.specs.declared.exchange.Request.{Request}
@@ -11,10 +11,14 @@ use Rattle.sw_rules.specs.Batch.{batch}
 use Rattle.sw_rules.specs.Caching.{pairs_of, with_pairs}
 use Rattle.sw_caches.specs.declared.fault.BatchFault.{BatchFault}
 use Rattle.sw_caches.specs.declared.fault.BatchFault.TheVariants as fault
+use Rattle.sw_caches.specs.declared.sums.Sums.{Sums}
 use Rattle.sw_caches.specs.declared.table.CachePlan.{CachePlan}
 use Rattle.sw_index.specs.Named as named
 use Rattle.sw_index.specs.Named.{Label, Listing, values}
+use Rattle.sw_caches.specs.Bytes.{bytes_of, cache_size, key_bytes, made_size, names_size, puts_size}
+use Rattle.sw_caches.specs.Entries.{pairs}
 use Rattle.sw_caches.specs.Plans.{Fits, Indexed, IsThrown, carried}
+use Rattle.sw_caches.specs.Sums.{held}
 
 -- a cache that was just made (Service Workers, CacheStorage, "open()")
 abbrev pub empty_cache : List ℕ → List ℕ → KeptCache
@@ -28,18 +32,32 @@ Row = Label × Indexed
 abbrev pub kept_row : Row → KeptCache
 kept_row row = record { key = row.0.0; name = row.0.1; pairs = row.1.pairs }
 
--- the caches in order of creation over all keys, their indexes, and how they are found
+-- the caches in order of creation over all keys, their indexes, how they are found, and for how many more keys there is room
 pub record Table : Type 0 where
   pub rows : List KeptCache
   pub indexes : List Indexed
   pub listing : Listing Indexed
+  pub spare : ℕ
 
-abbrev pub table : Listing Indexed → Table
-table listing = record { rows = map kept_row listing.rows; indexes = values listing.rows; listing = listing }
+abbrev pub table : Listing Indexed → ℕ → Table
+table listing spare = record { rows = map kept_row listing.rows; indexes = values listing.rows; listing = listing; spare = spare }
 
--- a cache was made for this table, which has a place in the index for it, and room
-abbrev pub FitsNew : KeptCache → Table → Type 0
-FitsNew new caches = named.Fits (record { key = new.key; name = new.name }) caches.listing
+-- a cache has the bytes of its key and name
+abbrev pub HasNames : Row → Type 0
+HasNames row = row.1.names ≡ names_size row.0.0 row.0.1
+
+-- the bytes of caches are counted, those of each key and those of all, which a sum has room for
+pub record IsCounted (rows : List Row) (sums : Sums) : Type 0 where
+  pub names : All HasNames rows
+  pub few : bytes_of (map kept_row rows) < 2 ^ 64
+  pub total : sums.total ≡ bytes_of (map kept_row rows)
+  pub held : (key : List ℕ) → held sums key ≡ key_bytes key (map kept_row rows)
+
+-- a cache was made for this table, which has a place in the index for it, and room, also for its bytes
+pub record FitsNew (new : KeptCache) (caches : Table) : Type 0 where
+  pub row : named.Fits (record { key = new.key; name = new.name }) caches.listing
+  pub key : 0 < caches.spare
+  pub bytes : bytes_of caches.rows + cache_size new < 2 ^ 64
 
 abbrev pub key_and_name : KeptCache → List ℕ × List ℕ
 key_and_name row = (row.key, row.name)
@@ -53,11 +71,17 @@ abbrev pub carried_rows : CachePlan → List KeptCache → List KeptCache
 carried_rows plan rows =
     option_map_or (λ row. set rows plan.place (carried_row plan row)) (slice_get rows plan.place) rows
 
--- a plan was made for the cache at its place, and there is room for what it adds
+-- the bytes of a cache as its plans see it
+abbrev pub index_size : Indexed → ℕ
+index_size index = made_size index.names index.pairs
+
+-- a plan was made for the cache at its place, and there is room for what it adds, also for its bytes
 pub record FitsTable (plan : CachePlan) (indexes : List Indexed) : Type 0 where
   pub index : Indexed
   pub stands : slice_get indexes plan.place ≡ Some index
   pub fits : Fits plan.change index
+  pub bytes : plan.bytes ≡ puts_size index.names (pairs plan.change.added.items)
+  pub room : sum_by index_size indexes + plan.bytes < 2 ^ 64
 
 -- the rows after a batch on the cache of a key and a name, whose pairs are these, where it isn't refused
 abbrev pub IsBatchOf : Option (List Pair) → List ℕ → List ℕ → List Op → List KeptCache → List KeptCache → Type 0

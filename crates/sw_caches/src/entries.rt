@@ -5,33 +5,17 @@ ghost use Rattle.std.specs.List.{All, AllPairs};
 ghost use Rattle.sw_rules.specs.Matching.{first_match, matches_pair, query_of};
 ghost use Rattle.sw_rules.specs.Batch.{matches_added, without_matching};
 ghost use Rattle.sw_index.specs.Numbered.{KeepsAbove, NoneOfNumber, StandsAt, first_by};
+ghost use Rattle.sw_caches.specs.Bytes.{made_size, puts_size};
 ghost use Rattle.sw_caches.specs.Places.{places_by};
 ghost use Rattle.sw_caches.specs.Entries.{AreIndexed, DropMarks, marks, number, pair, pairs};
 
+use crate::entry::{Entry, Pair};
+use crate::rules::sum;
 use crate::slots::{address_digest, mark_of};
 use std::alloc::Global;
-use sw_data::{Items, NoMemory, Options, Request, Response};
+use sw_data::{Items, NoMemory, Options, Request};
 use sw_index::{Mark, Slots, next_number, take_mark};
 use sw_match::{finds_nothing, matches_pair, number_of};
-
-// A request and the response that is kept under it.
-pub(crate) type Pair = (Request, Response);
-
-/// A request and the response that a cache keeps under it.
-#[derive(Drop)]
-pub struct Entry {
-    pub(crate) number: u64,
-    pub(crate) pair: Box<Pair>,
-}
-
-impl Entry {
-    /// The request and the response; it takes no memory.
-    pub fn pair(&self) -> &(Request, Response)
-        ensures { result.now ≡ pair self.now }
-    {
-        &self.pair
-    }
-}
 
 // The place of the entry of a number.
 fn place_of(entries: &[Entry], number: u64) -> Option<usize>
@@ -168,15 +152,19 @@ fn matching_places(
     Ok(places)
 }
 
-// Takes out the pairs that a query matches, whatever its method; it takes no memory.
+// Takes out the pairs that a query matches, whatever its method, and their bytes; it takes no memory.
 pub(crate) fn drop_matching(
     entries: &mut Vec<Entry>,
     slots: &mut Slots,
+    names: u64,
+    bytes: &mut u64,
     query: &Request,
     options: Options,
 )
-    requires { AreIndexed entries.old.items slots.old }
+    requires indexed { AreIndexed entries.old.items slots.old }
+    requires bytes { bytes.old ≡ made_size names (pairs entries.old.items) }
     ensures indexed { AreIndexed entries.new.items slots.new }
+    ensures bytes { bytes.new ≡ made_size names (pairs entries.new.items) }
     ensures pairs { pairs entries.new.items
         ≡ without_matching query.now options (pairs entries.old.items) }
     ensures above { KeepsAbove number entries.old.items slots.old entries.new.items slots.new }
@@ -186,8 +174,21 @@ pub(crate) fn drop_matching(
 {
     while let Some((place, _)) = first_matching(entries, slots, query, options) {
         let entry = entries.remove(place);
+        *bytes = *bytes - 5 - names - entry.size;
         take_mark(slots, mark_of(&entry.pair.0.url, entry.number));
     }
+}
+
+// The bytes of the changes that put the pairs of entries into a cache whose key and name have so
+// many bytes.
+pub(crate) fn puts_size(names: u64, entries: &[Entry]) -> Result<u64, NoMemory>
+    ensures { IfOk result (λ size. size ≡ puts_size names (pairs entries.now)) }
+{
+    let mut size = 0;
+    for entry in entries {
+        size = sum(size, sum(sum(5, names)?, entry.size)?)?;
+    }
+    Ok(size)
 }
 
 // The marks of entries.

@@ -10,19 +10,23 @@
 
 mod carry;
 mod entries;
+mod entry;
 mod fault;
 mod hits;
+mod laws;
 mod ops;
 mod pairs;
 mod plan;
 mod rows;
 mod rules;
 mod slots;
+mod sums;
 mod table;
 
-pub use entries::Entry;
+pub use entry::Entry;
 pub use fault::{BatchFault, CacheFault};
 pub use hits::Found;
+pub use laws::bytes_are_those_of_changes;
 pub use ops::apply_ops;
 pub use rules::has_http_scheme;
 pub use table::{CachePlan, Caches, Hit, NewCache};

@@ -6,7 +6,7 @@ ghost use Rattle.sw_rules.specs.Matching.{Pair};
 ghost use Rattle.sw_rules.specs.Batch.{batch, go, matches_added, without_matching};
 ghost use Rattle.sw_caches.specs.Plans.{IsThrown, without_op, without_ops};
 
-use crate::entries::Pair;
+use crate::entry::Pair;
 use crate::fault::BatchFault;
 use crate::plan::NO_OPTIONS;
 use crate::rules::{QUOTA, put_fault, size_of};

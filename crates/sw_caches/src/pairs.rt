@@ -7,14 +7,16 @@ ghost use Rattle.sw_rules.specs.Matching.{Pair, first_match, query_of};
 ghost use Rattle.sw_data.specs.Sizes.{op_size};
 ghost use Rattle.sw_rules.specs.Batch.{batch};
 ghost use Rattle.sw_index.specs.Slots.{KeepsBelow, KeepsSlots};
+ghost use Rattle.sw_caches.specs.Bytes.{made_size, puts_size};
 ghost use Rattle.sw_caches.specs.Entries.{marks, pairs};
 ghost use Rattle.sw_caches.specs.Plans.{Fits, IsDraft, IsThrown, carried};
 
 use crate::carry::{drop_deleted, drop_replaced};
-use crate::entries::{Entry, Pair, copy_pairs, first_of, into_pairs, marks_of, places_of};
+use crate::entries::{copy_pairs, first_of, into_pairs, marks_of, places_of, puts_size};
+use crate::entry::{Entry, Pair};
 use crate::fault::BatchFault;
 use crate::plan::{PairsPlan, add_all, unmark_all, work_out};
-use crate::rules::{QUOTA, size_of};
+use crate::rules::{QUOTA, size_of, sum};
 use std::alloc::Global;
 use std::collections::BTreeSet;
 use std::marker::Model;
@@ -34,11 +36,16 @@ pub(crate) struct Pairs {
     next: u64,
     // The marks of a plan that was made, until it or another one is carried out.
     ahead: Vec<Mark>,
+    // The bytes of the key and the name of the cache.
+    names: u64,
+    // The bytes of the changes that make the cache.
+    bytes: u64,
 }
 
 impl Model for Pairs {
-    ghost use Rattle.std.specs.Prelude.{◌<◌, ◌-◌, ◌^◌, length, vec_len, vec_capacity};
+    ghost use Rattle.std.specs.Prelude.{◌≡◌, ◌<◌, ◌-◌, ◌^◌, length, vec_len, vec_capacity};
     ghost use Rattle.sw_index.specs.Numbered.{AllBelow};
+    ghost use Rattle.sw_caches.specs.Bytes.{made_size};
     ghost use Rattle.sw_caches.specs.Entries.{AreIndexed, AreTight, number, pairs};
     ghost use Rattle.sw_caches.specs.Plans.{Indexed};
 
@@ -49,42 +56,36 @@ impl Model for Pairs {
       slots = kept.slots;
       next = kept.next;
       spare = vec_capacity kept.entries - vec_len kept.entries;
+      names = kept.names;
     } };
 
     ghost invariant = { λ kept. AreIndexed kept.entries.items kept.slots
         × AllBelow number kept.next kept.entries.items
         × (0 < kept.next)
         × (length kept.entries.items < 2 ^ 32)
-        × AreTight kept.entries.items kept.slots kept.next kept.ahead.items };
+        × AreTight kept.entries.items kept.slots kept.next kept.ahead.items
+        × (kept.bytes ≡ made_size kept.names (pairs kept.entries.items)) };
 }
 
 impl Pairs {
-    // No pairs; it takes no memory.
-    pub(crate) fn new(alloc: Global) -> Pairs
-        ensures { result.pairs ≡ [] }
-    {
-        Pairs {
-            entries: Vec::new(alloc),
-            slots: BTreeSet::new(alloc),
-            next: 1,
-            ahead: Vec::new(alloc),
-        }
-    }
-
-    // The pairs of a list, with their index.
-    pub(crate) fn from_items(alloc: Global, items: Vec<Pair>) -> Result<Pairs, NoMemory>
-        ensures { IfOk result (λ kept. kept.pairs ≡ items.items) }
+    // The pairs of a list, with their index, in a cache whose key and name have so many bytes.
+    pub(crate) fn from_items(alloc: Global, names: u64, items: Vec<Pair>) -> Result<Pairs, NoMemory>
+        ensures pairs { IfOk result (λ kept. kept.pairs ≡ items.items) }
+        ensures names { IfOk result (λ kept. kept.names ≡ names) }
     {
         if items.len() > PAIRS_LIMIT {
             return Err(NoMemory);
         }
         let mut slots = BTreeSet::new(alloc);
         let plan = add_all(alloc, &mut slots, items)?;
+        let bytes = sum(sum(1, names)?, puts_size(names, &plan.added)?)?;
         Ok(Pairs {
             entries: plan.added,
             slots,
             next: plan.next,
             ahead: Vec::new(alloc),
+            names,
+            bytes,
         })
     }
 
@@ -107,6 +108,20 @@ impl Pairs {
         ensures { result ≡ length self.now.pairs }
     {
         self.entries.len()
+    }
+
+    // The bytes of the key and the name of the cache.
+    pub(crate) fn names(&self) -> u64
+        ensures { result ≡ self.now.names }
+    {
+        self.names
+    }
+
+    // The bytes of the changes that make the cache.
+    pub(crate) fn bytes(&self) -> u64
+        ensures { result ≡ made_size self.now.names self.now.pairs }
+    {
+        self.bytes
     }
 
     // The pairs in order.
@@ -164,6 +179,7 @@ impl Pairs {
     // index without a new mark.
     pub(crate) fn plan(&mut self, alloc: Global, ops: Vec<Op>) -> Result<PairsPlan, BatchFault>
         ensures same { self.new.pairs ≡ self.old.pairs }
+        ensures names { self.new.names ≡ self.old.names }
         ensures fits { IfOk result (λ plan. Fits plan self.new) }
         ensures ok { IfOk result (λ plan.
             batch self.old.pairs ops.items ≡ Ok (carried plan self.old.pairs)) }
@@ -193,10 +209,13 @@ impl Pairs {
         }
     }
 
-    // Carries a plan out; it takes no memory.
-    pub(crate) fn carry_out(&mut self, plan: PairsPlan)
-        requires { Fits plan self.old }
-        ensures { self.new.pairs ≡ carried plan self.old.pairs }
+    // Carries a plan out, which adds so many bytes; it takes no memory.
+    pub(crate) fn carry_out(&mut self, plan: PairsPlan, added_bytes: u64)
+        requires fits { Fits plan self.old }
+        requires bytes { added_bytes ≡ puts_size self.old.names (pairs plan.added.items) }
+        requires room { made_size self.old.names self.old.pairs + added_bytes < 2 ^ 64 }
+        ensures pairs { self.new.pairs ≡ carried plan self.old.pairs }
+        ensures names { self.new.names ≡ self.old.names }
     {
         let PairsPlan {
             deletes,
@@ -204,9 +223,23 @@ impl Pairs {
             first: _,
             next,
         } = plan;
-        drop_deleted(&mut self.entries, &mut self.slots, &deletes);
-        drop_replaced(&mut self.entries, &mut self.slots, &added);
+        let names = self.names;
+        drop_deleted(
+            &mut self.entries,
+            &mut self.slots,
+            names,
+            &mut self.bytes,
+            &deletes,
+        );
+        drop_replaced(
+            &mut self.entries,
+            &mut self.slots,
+            names,
+            &mut self.bytes,
+            &added,
+        );
         let _ = self.entries.append(&mut added);
+        self.bytes += added_bytes;
         self.next = next;
         self.ahead.clear();
     }

@@ -10,9 +10,10 @@ ghost use Rattle.sw_index.specs.Numbered.{AllFrom};
 ghost use Rattle.sw_caches.specs.Entries.{AreTight, marks, number, pairs};
 ghost use Rattle.sw_caches.specs.Plans.{IsDraft, IsThrown, carried, left_by};
 
-use crate::entries::{Entry, has_matching};
+use crate::entries::has_matching;
+use crate::entry::Entry;
 use crate::fault::BatchFault;
-use crate::rules::put_fault;
+use crate::rules::{put_fault, put_size};
 use crate::slots::mark_of;
 use std::alloc::Global;
 use sw_data::{NoMemory, Op, Options, Request, Response};
@@ -159,10 +160,11 @@ impl PairsPlan {
         if number == u64::MAX {
             return Err(NoMemory);
         }
+        let size = put_size(&request, &response)?;
         let pair = Box::new(alloc, (request, response))?;
         self.added.reserve(1)?;
         put_mark(slots, mark_of(&pair.0.url, number))?;
-        self.added.push_reserved(Entry { number, pair });
+        self.added.push_reserved(Entry { number, size, pair });
         self.next = number + 1;
         Ok(())
     }

@@ -1,10 +1,16 @@
 //! The caches of all keys, each under its key and its name.
 
-ghost use Rattle.std.specs.Prelude.{◌≡◌, ◌++◌, ◌∷◌, [], MatchOption, IfOk, OnOk, map};
-ghost use Rattle.sw_index.specs.Named.{named_row, named_rows};
-ghost use Rattle.sw_caches.specs.Tables.{IsNext, caches_from, caches_of, kept_row};
+ghost use Rattle.std.specs.Prelude.{◌≡◌, ◌<◌, ◌^◌, [], Some, MatchOption, IfOk, bytes_eq, filter, map, slice_get, if◌then◌else◌};
+ghost use Rattle.std.specs.List.{All};
+ghost use Rattle.sw_index.specs.Named.{named_row, named_rows, values};
+ghost use Rattle.sw_rules.specs.Storage.{is_cache};
+ghost use Rattle.sw_caches.specs.Bytes.{bytes_of, made_size};
+ghost use Rattle.sw_caches.specs.Plans.{carried};
+ghost use Rattle.sw_caches.specs.Tables as tables;
+ghost use Rattle.sw_caches.specs.Tables.{FitsTable, HasNames, IsNext, caches_from, caches_of, carried_rows, index_size, kept_row};
 
 use crate::pairs::Pairs;
+use crate::table::CachePlan;
 use std::alloc::Global;
 use sw_data::{KeptCache, NoMemory, Text};
 use sw_index::{Named, Row};
@@ -42,26 +48,52 @@ pub(crate) fn names_of(
     Ok(names)
 }
 
-// Kept caches with their index.
-pub(crate) fn rows_of(alloc: Global, kept: Vec<KeptCache>) -> Result<Named<Pairs>, NoMemory>
-    ensures { IfOk result (λ rows. map kept_row rows.rows ≡ kept.items) }
+// The bytes of a cache, where it has this name.
+fn named_size(row: &Row<Pairs>, name: &Text) -> u64
+    ensures { result ≡ (if bytes_eq row.now.name name.now then index_size row.now.value else 0) }
 {
-    let mut rows = Named::new(alloc);
-    for cache in kept {
-        add_cache(&mut rows, alloc, cache)?;
+    if row.name == *name {
+        row.value.bytes()
+    } else {
+        0
     }
-    Ok(rows)
 }
 
-fn add_cache(rows: &mut Named<Pairs>, alloc: Global, cache: KeptCache) -> Result<(), NoMemory>
-    ensures { OnOk result (map kept_row rows.new.rows
-        ≡ map kept_row rows.old.rows ++ cache ∷ []) }
+// The bytes of the caches of a key and a name; it takes no memory.
+pub(crate) fn named_bytes(rows: &Named<Pairs>, key: &Text, name: &Text) -> u64
+    requires names { All HasNames rows.now.rows }
+    requires few { bytes_of (map kept_row rows.now.rows) < 2 ^ 64 }
+    ensures { result
+        ≡ bytes_of (filter (is_cache key.now name.now) (map kept_row rows.now.rows)) }
 {
-    let KeptCache { key, name, pairs } = cache;
-    let pairs = Pairs::from_items(alloc, pairs.into_vec())?;
-    let new = rows.make_row(key, name)?;
-    rows.put(new, pairs);
-    Ok(())
+    let mut bytes = 0;
+    let mut from = 0;
+    while let Some(place) = rows.next_of(key, from) {
+        bytes += named_size(rows.row(place), name);
+        from = place + 1;
+    }
+    bytes
+}
+
+// Carries a plan out on its cache, and gives the bytes of the cache before and behind it; it takes no
+// memory.
+pub(crate) fn carry_row(rows: &mut Named<Pairs>, plan: CachePlan) -> (u64, u64)
+    requires { FitsTable plan (values rows.old.rows) }
+    ensures rows { map kept_row rows.new.rows ≡ carried_rows plan (map kept_row rows.old.rows) }
+    ensures names { All HasNames rows.old.rows → All HasNames rows.new.rows }
+    ensures bytes { (row : tables.Row) → slice_get rows.old.rows plan.place ≡ Some row
+        → (result.0 ≡ index_size row.1)
+        × (result.1 ≡ made_size row.1.names (carried plan.change row.1.pairs)) }
+{
+    let CachePlan {
+        place,
+        change,
+        bytes,
+    } = plan;
+    let cache = rows.value_mut(place);
+    let before = cache.bytes();
+    cache.carry_out(change, bytes);
+    (before, cache.bytes())
 }
 
 // Caches as they are kept, as a list of its own.

@@ -5,9 +5,10 @@ ghost use Rattle.std.specs.List.{list_any};
 ghost use Rattle.sw_data.specs.Addresses.{scheme_of};
 ghost use Rattle.sw_data.specs.Sizes.{headers_size, op_size, request_size, response_size, text_size};
 ghost use Rattle.sw_rules.specs.Batch.{has_http_scheme, put_fault};
+ghost use Rattle.sw_caches.specs.Bytes.{names_size, put_size};
 
 use sw_data::cut::before;
-use sw_data::{Cause, Header, NoMemory, Op, Request, Response};
+use sw_data::{Cause, Header, NoMemory, Op, Request, Response, Text};
 use sw_match::{is_get, varies_on_all};
 
 // The most bytes that the operations of one batch may have together.
@@ -54,7 +55,7 @@ fn is_http(scheme: &[u8]) -> bool
     scheme == b"https".as_slice() || scheme == b"http".as_slice()
 }
 
-fn sum(left: u64, right: u64) -> Result<u64, NoMemory>
+pub(crate) fn sum(left: u64, right: u64) -> Result<u64, NoMemory>
     ensures { IfOk result (λ sum. sum ≡ left + right) }
 {
     match left.checked_add(right) {
@@ -100,6 +101,13 @@ fn response_size(response: &Response) -> Result<u64, NoMemory>
     sum(head, text_size(response.body.as_bytes())?)
 }
 
+// The bytes of the operation that puts a pair.
+pub(crate) fn put_size(request: &Request, response: &Response) -> Result<u64, NoMemory>
+    ensures { IfOk result (λ size. size ≡ put_size (request.now, response.now)) }
+{
+    sum(sum(1, request_size(request)?)?, response_size(response)?)
+}
+
 fn op_size(op: &Op) -> Result<u64, NoMemory>
     ensures { IfOk result (λ size. size ≡ op_size op.now) }
 {
@@ -108,10 +116,15 @@ fn op_size(op: &Op) -> Result<u64, NoMemory>
             request,
             options: _,
         } => sum(2, request_size(request)?),
-        Op::Put { request, response } => {
-            sum(sum(1, request_size(request)?)?, response_size(response)?)
-        }
+        Op::Put { request, response } => put_size(request, response),
     }
+}
+
+// The bytes of the key and the name of a cache.
+pub(crate) fn names_size(key: &Text, name: &Text) -> Result<u64, NoMemory>
+    ensures { IfOk result (λ size. size ≡ names_size key.now name.now) }
+{
+    sum(text_size(key.as_bytes())?, text_size(name.as_bytes())?)
 }
 
 // The bytes that operations have together.

@@ -1,7 +1,8 @@
 //! The caches of all keys.
 
+ghost use Rattle.sw_caches.specs.declared.fault.BatchFault.TheVariants as BatchFault;
 ghost use Rattle.sw_caches.specs.declared.fault.CacheFault.TheVariants as CacheFault;
-ghost use Rattle.std.specs.Prelude.{◌≡◌, ◌↔◌, None, IsErrOf, ◌<◌, Some, Ok, ◌++◌, ◌∷◌, [], IfOk, IfErr, OnOk, OnErr, not, map, filter, length, is_some, bytes_eq, option_map, option_copied, option_and_then, slice_get, if◌then◌else◌};
+ghost use Rattle.std.specs.Prelude.{◌≡◌, ◌+◌, ◌^◌, ◌↔◌, None, IsErrOf, ◌<◌, Some, Ok, ◌++◌, ◌∷◌, [], IfOk, IfErr, OnOk, OnErr, not, map, filter, length, is_some, bytes_eq, option_map, option_copied, option_and_then, slice_get, if◌then◌else◌};
 ghost use Rattle.std.specs.List.{list_any, range_with_len};
 ghost use Rattle.sw_rules.specs.Matching.{first_match, query_of};
 ghost use Rattle.sw_rules.specs.Storage.{is_cache};
@@ -10,35 +11,44 @@ ghost use Rattle.sw_data.specs.declared.storage.KeptCache.{KeptCache};
 ghost use Rattle.sw_rules.specs.Batch.{batch};
 ghost use Rattle.sw_data.specs.declared.answers.Answer.TheVariants as answer;
 ghost use Rattle.std.specs.Option.{option_map_or};
+ghost use Rattle.sw_caches.specs.Bytes.{bytes_of, key_bytes, puts_size};
 ghost use Rattle.sw_caches.specs.Entries.{pairs};
 ghost use Rattle.sw_caches.specs.Hits.{found_answer};
 ghost use Rattle.sw_caches.specs.Plans.{Fits, IsThrown, carried};
 ghost use Rattle.sw_caches.specs.Tables.{FitsNew, FitsTable, IsBatch, IsRefused, asked_places, caches_of, carried_rows, empty_cache, hit_from, key_and_name};
 
-use crate::entries::Entry;
+use crate::entries::puts_size;
+use crate::entry::{Entry, Pair};
 use crate::fault::{BatchFault, CacheFault};
 use crate::hits::{Found, first_found, first_hit};
 use crate::pairs::Pairs;
 use crate::plan::PairsPlan;
-use crate::rows::{into_kept, kept_of, names_of, next_cache, rows_of};
+use crate::rows::{carry_row, into_kept, kept_of, named_bytes, names_of, next_cache};
+use crate::rules::names_size;
+use crate::sums::Sums;
 use std::alloc::Global;
 use std::marker::Model;
 use sw_data::{KeptCache, NoMemory, Op, Options, Request, Response, Text};
 use sw_index::{Named, NewRow};
 
 /// The caches of all keys, in order of creation (Service Workers, "name to cache map"). An index
-/// finds those of a key, or that of a key and a name, in the time that they take themselves.
+/// finds those of a key, or that of a key and a name, in the time that they take themselves. Their
+/// bytes are counted where they change.
 #[derive(Drop)]
 pub struct Caches {
     rows: Named<Pairs>,
+    sums: Sums,
 }
 
 impl Model for Caches {
-    ghost use Rattle.sw_caches.specs.Tables.{Table, table};
+    ghost use Rattle.indexmap.specs.IndexMap.{spare};
+    ghost use Rattle.sw_caches.specs.Tables.{IsCounted, Table, table};
 
     ghost Value = { Table };
 
-    ghost view = { λ caches. table caches.rows };
+    ghost view = { λ caches. table caches.rows (spare caches.sums.keys) };
+
+    ghost invariant = { λ caches. IsCounted caches.rows.rows caches.sums };
 }
 
 /// Where a match is: the place of the cache among those of its key, and the place of the pair.
@@ -52,11 +62,15 @@ pub struct Hit {
 #[derive(Drop)]
 pub struct NewCache {
     row: NewRow,
+    // The key once more, for the bytes of its caches.
+    key: Text,
     pairs: Pairs,
 }
 
 impl Model for NewCache {
+    ghost use Rattle.std.specs.Prelude.{◌≡◌};
     ghost use Rattle.sw_data.specs.declared.storage.KeptCache.{KeptCache};
+    ghost use Rattle.sw_caches.specs.Bytes.{names_size};
 
     ghost Value = { KeptCache };
 
@@ -65,6 +79,9 @@ impl Model for NewCache {
       name = new.row.name;
       pairs = new.pairs.pairs;
     } };
+
+    ghost invariant = { λ new. (new.key ≡ new.row.key)
+        × (new.pairs.names ≡ names_size new.row.key new.row.name) };
 }
 
 /// A batch on a cache, worked out.
@@ -72,24 +89,52 @@ impl Model for NewCache {
 pub struct CachePlan {
     pub(crate) place: usize,
     pub(crate) change: PairsPlan,
+    // The bytes of what it adds.
+    pub(crate) bytes: u64,
 }
 
-// A batch on the cache at a place, which has these pairs, worked out.
+// A plan for the cache at a place, whose key and name have so many bytes, where what it adds fits
+// beside the bytes of all caches.
+fn sized(change: PairsPlan, place: usize, names: u64, total: u64) -> Result<CachePlan, BatchFault>
+    ensures place { IfOk result (λ plan. plan.place ≡ place) }
+    ensures change { IfOk result (λ plan. plan.change ≡ change) }
+    ensures bytes { IfOk result (λ plan.
+        plan.bytes ≡ puts_size names (pairs change.added.items)) }
+    ensures room { IfOk result (λ plan. total + plan.bytes < 2 ^ 64) }
+    ensures err { IfErr result (λ fault. fault ≡ BatchFault.NoMemory) }
+{
+    let bytes = puts_size(names, &change.added)?;
+    if bytes > u64::MAX - total {
+        return Err(BatchFault::NoMemory);
+    }
+    Ok(CachePlan {
+        place,
+        change,
+        bytes,
+    })
+}
+
+// A batch on this cache, which stands at a place, worked out.
 fn plan_pairs(
-    pairs: &mut Pairs,
+    cache: &mut Pairs,
     alloc: Global,
     place: usize,
     ops: Vec<Op>,
+    total: u64,
 ) -> Result<CachePlan, BatchFault>
-    ensures same { pairs.new.pairs ≡ pairs.old.pairs }
+    ensures same { cache.new.pairs ≡ cache.old.pairs }
+    ensures names { cache.new.names ≡ cache.old.names }
     ensures place { IfOk result (λ plan. plan.place ≡ place) }
-    ensures fits { IfOk result (λ plan. Fits plan.change pairs.new) }
+    ensures fits { IfOk result (λ plan. Fits plan.change cache.new) }
+    ensures bytes { IfOk result (λ plan.
+        plan.bytes ≡ puts_size cache.old.names (pairs plan.change.added.items)) }
+    ensures room { IfOk result (λ plan. total + plan.bytes < 2 ^ 64) }
     ensures ok { IfOk result (λ plan.
-        batch pairs.old.pairs ops.items ≡ Ok (carried plan.change pairs.old.pairs)) }
-    ensures err { IfErr result (λ fault. IsThrown fault (batch pairs.old.pairs ops.items)) }
+        batch cache.old.pairs ops.items ≡ Ok (carried plan.change cache.old.pairs)) }
+    ensures err { IfErr result (λ fault. IsThrown fault (batch cache.old.pairs ops.items)) }
 {
-    match pairs.plan(alloc, ops) {
-        Ok(change) => Ok(CachePlan { place, change }),
+    match cache.plan(alloc, ops) {
+        Ok(change) => sized(change, place, cache.names(), total),
         Err(fault) => Err(fault),
     }
 }
@@ -101,6 +146,7 @@ impl Caches {
     {
         Caches {
             rows: Named::new(alloc),
+            sums: Sums::new(alloc),
         }
     }
 
@@ -108,8 +154,21 @@ impl Caches {
     pub fn from_kept(alloc: Global, kept: Vec<KeptCache>) -> Result<Caches, NoMemory>
         ensures { IfOk result (λ caches. caches.rows ≡ kept.items) }
     {
-        let rows = rows_of(alloc, kept)?;
-        Ok(Caches { rows })
+        let mut caches = Caches::new(alloc);
+        for cache in kept {
+            caches.add(alloc, cache)?;
+        }
+        Ok(caches)
+    }
+
+    // Adds a kept cache at the end.
+    fn add(&mut self, alloc: Global, cache: KeptCache) -> Result<(), NoMemory>
+        ensures { OnOk result (self.new.rows ≡ self.old.rows ++ cache ∷ []) }
+    {
+        let KeptCache { key, name, pairs } = cache;
+        let new = self.make_with(alloc, key, name, pairs.into_vec())?;
+        self.make_put(new);
+        Ok(())
     }
 
     /// The caches as they are kept, as a list of its own.
@@ -150,10 +209,31 @@ impl Caches {
         ensures row { IfOk result (λ new. new ≡ empty_cache key.now name.now) }
         ensures fits { IfOk result (λ new. FitsNew new self.new) }
     {
-        let row = self.rows.make_row(key.copy(alloc)?, name.copy(alloc)?)?;
+        self.make_with(alloc, key.copy(alloc)?, name.copy(alloc)?, Vec::new(alloc))
+    }
+
+    // A cache of these pairs, and the room for it.
+    fn make_with(
+        &mut self,
+        alloc: Global,
+        key: Text,
+        name: Text,
+        items: Vec<Pair>,
+    ) -> Result<NewCache, NoMemory>
+        ensures same { self.new.rows ≡ self.old.rows }
+        ensures row { IfOk result (λ new.
+            new ≡ record { key = key; name = name; pairs = items.items }) }
+        ensures fits { IfOk result (λ new. FitsNew new self.new) }
+    {
+        let names = names_size(&key, &name)?;
+        let pairs = Pairs::from_items(alloc, names, items)?;
+        let own = key.copy(alloc)?;
+        self.sums.make_room(pairs.bytes())?;
+        let row = self.rows.make_row(key, name)?;
         Ok(NewCache {
             row,
-            pairs: Pairs::new(alloc),
+            key: own,
+            pairs,
         })
     }
 
@@ -162,7 +242,8 @@ impl Caches {
         requires { FitsNew new self.old }
         ensures { self.new.rows ≡ self.old.rows ++ new ∷ [] }
     {
-        let NewCache { row, pairs } = new;
+        let NewCache { row, key, pairs } = new;
+        self.sums.add(key, pairs.bytes());
         self.rows.put(row, pairs);
     }
 
@@ -190,7 +271,9 @@ impl Caches {
             ≡ filter (λ row. not (is_cache key.now name.now row)) self.old.rows }
     {
         let found = self.has(key, name);
+        let gone = named_bytes(&self.rows, key, name);
         self.rows.remove_named(key, name);
+        self.sums.change(key, gone, 0);
         found
     }
 
@@ -205,7 +288,9 @@ impl Caches {
     pub fn drop_key(&mut self, key: &Text)
         ensures { self.new.rows ≡ filter (λ row. not (bytes_eq row.key key.now)) self.old.rows }
     {
+        let bytes = self.sums.of(key);
         self.rows.remove_key(key);
+        self.sums.change(key, bytes, 0);
     }
 
     /// The names of a key's caches, in order of creation.
@@ -221,6 +306,21 @@ impl Caches {
         ensures { result ≡ length self.now.rows }
     {
         self.rows.len()
+    }
+
+    /// The bytes of all caches: in how many the changes of a checkpoint that make them are spelled; it
+    /// takes no memory.
+    pub fn bytes(&self) -> u64
+        ensures { result ≡ bytes_of self.now.rows }
+    {
+        self.sums.total
+    }
+
+    /// The bytes of the caches of a key; it takes no memory.
+    pub fn key_bytes(&self, key: &Text) -> u64
+        ensures { result ≡ key_bytes key.now self.now.rows }
+    {
+        self.sums.of(key)
     }
 
     /// Key and name of the cache at a place in the order of creation over all keys; it takes no
@@ -308,7 +408,8 @@ impl Caches {
             → slice_get self.old.rows place ≡ Some row
             → IsThrown fault (batch row.pairs ops.items)) }
     {
-        plan_pairs(self.rows.value_mut(place), alloc, place, ops)
+        let total = self.sums.total;
+        plan_pairs(self.rows.value_mut(place), alloc, place, ops, total)
     }
 
     /// Carries a plan out; it takes no memory.
@@ -316,8 +417,9 @@ impl Caches {
         requires { FitsTable plan self.old.indexes }
         ensures { self.new.rows ≡ carried_rows plan self.old.rows }
     {
-        let CachePlan { place, change } = plan;
-        self.rows.value_mut(place).carry_out(change);
+        let place = plan.place;
+        let (before, after) = carry_row(&mut self.rows, plan);
+        self.sums.change(&self.rows.row(place).key, before, after);
     }
 
     /// A batch on the cache of this name (Service Workers, Appendix A, "Batch Cache Operations").

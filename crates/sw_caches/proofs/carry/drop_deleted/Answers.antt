@@ -9,7 +9,8 @@ use Rattle.sw_caches.proofs.carry.drop_deleted.Goals as goal
 
 pub loop-query-init : goal.loop-query-init
 loop-query-init c = record {
-  indexed = c.requires;
+  indexed = c.requires.indexed;
+  bytes = c.requires.bytes;
   pairs = sym (left_nothing (pairs c.args.entries.now.items));
   above = above_same number c.args.entries.now.items c.args.slots.now;
   marks = λ key n h. (h, λ m. m);
@@ -25,6 +26,7 @@ loop-query-preserved c =
     let so_far = take at.query-index c.args.deletes.now in
     record {
       indexed = c.drop_matching.ensures.indexed;
+      bytes = c.drop_matching.ensures.bytes;
       pairs =
           c.drop_matching.ensures.pairs ∙ (ap (without_matching query.0 query.1) at.invariant.pairs
           ∙ (left_delete so_far [] old query.0 query.1

@@ -1,5 +1,6 @@
 use Rattle.std.proofs.Common.{◌≡◌, ◌≤◌, [], take, vec_len, vec_capacity}
 use Rattle.sw_index.specs.Numbered.{KeepsAbove}
+use Rattle.sw_caches.specs.Bytes.{made_size}
 use Rattle.sw_caches.specs.Entries.{AreIndexed, DropMarks, number, pairs}
 use Rattle.sw_caches.specs.Plans.{left_by}
 use Rattle.sw_caches.proofs.carry.drop_deleted.Given as goal
@@ -7,6 +8,7 @@ use Rattle.sw_caches.proofs.carry.drop_deleted.Given as goal
 abbrev pub invariant-loop-query : goal.invariant-loop-query
 invariant-loop-query l = record {
   indexed : AreIndexed l.entries.items l.slots;
+  bytes : l.bytes ≡ made_size l.names (pairs l.entries.items);
   pairs : pairs l.entries.items ≡ left_by (take l.query-index l.deletes) [] (pairs l.initial.entries.items);
   above : KeepsAbove number l.initial.entries.items l.initial.slots l.entries.items l.slots;
   marks : DropMarks l.initial.entries.items l.initial.slots l.entries.items l.slots;

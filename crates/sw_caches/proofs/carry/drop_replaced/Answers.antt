@@ -10,7 +10,8 @@ use Rattle.sw_caches.proofs.carry.drop_replaced.Goals as goal
 
 pub loop-entry-init : goal.loop-entry-init
 loop-entry-init c = record {
-  indexed = c.requires;
+  indexed = c.requires.indexed;
+  bytes = c.requires.bytes;
   pairs = sym (left_nothing (pairs c.args.entries.now.items));
   above = above_same number c.args.entries.now.items c.args.slots.now;
   marks = λ key n h. (h, λ m. m);
@@ -26,6 +27,7 @@ loop-entry-preserved c =
     let so_far = take at.entry-index c.args.added.now in
     record {
       indexed = c.drop_matching.ensures.indexed;
+      bytes = c.drop_matching.ensures.bytes;
       pairs =
           c.drop_matching.ensures.pairs ∙ (ap (λ put. without_matching put.0 no_options (pairs at.entries.items)) c.deref.ensures
           ∙ (ap (without_matching entry.pair.value.0 no_options) at.invariant.pairs

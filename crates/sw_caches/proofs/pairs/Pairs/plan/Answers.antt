@@ -23,4 +23,5 @@ invariant_of-self c =
       c.self.invariant.2,
       c.self.invariant.3,
       planned entries clean slots was.next c.self.invariant.1 c.prepare.new.plan (c.prepare.ensures.first ∙ c.new-plan.ensures.first) c.prepare.ensures.draft below tight,
+      c.self.invariant.5,
     )

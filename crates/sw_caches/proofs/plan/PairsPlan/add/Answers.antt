@@ -1,8 +1,7 @@
-use Rattle.std.proofs.Common.{◌≤◌, ◌<◌, ◌+◌, ◌++◌, ◌∷◌, ◌∙◌, [], ap, refl, rules, subst, sym}
+use Rattle.std.proofs.Common.{◌≡◌, ◌≤◌, ◌<◌, ◌+◌, ◌++◌, ◌∷◌, ◌∙◌, List, [], ap, refl, rules, subst, sym}
 use Rattle.std.specs.Prelude.{◌^◌}
 use Rattle.sw_index.specs.declared.slots.Mark.{Mark}
 use Rattle.sw_index.specs.Slots.{IsFree}
-use Rattle.sw_caches.specs.declared.entries.Entry.{Entry}
 use Rattle.sw_caches.specs.declared.plan.PairsPlan.{PairsPlan}
 use Rattle.sw_caches.specs.Slots.{address_mark}
 use Rattle.sw_caches.proofs.PlanLemmas.{added_above, alike, draft_free, draft_more, draft_same}
@@ -20,13 +19,15 @@ returns-in_err-put_mark-clause-draft c =
 pub returns-in_err-put_mark-clause-below : goal.returns-in_err-put_mark-clause-below
 returns-in_err-put_mark-clause-below c key n l = alike c.args.slots.now c.put_mark.new.slots c.put_mark.ensures.keeps c.in_err-put_mark.ensures.err key n
 
+pushed : {X : Type 0} (xs ys zs : List X) (x : X) → zs ≡ ys ++ x ∷ [] → ys ≡ xs → zs ≡ xs ++ x ∷ []
+pushed xs ys zs x is same = is ∙ ap (λ list. list ++ x ∷ []) same
+
 pub returns-clause-draft : goal.returns-clause-draft
 returns-clause-draft c =
     let plan = c.args.self.now in
     let new : PairsPlan = record { deletes = plan.deletes; added = c.push_reserved.new.self; first = plan.first; next = plan.next + 1 } in
-    let entry : Entry = record { number = plan.next; pair = c.in_ok-pair.pair } in
     let few : plan.next + 1 < 2 ^ 64 = search rules in
-    draft_more plan new c.args.slots.now c.put_mark.new.slots c.requires refl entry c.mark_of.result (c.push_reserved.ensures.items ∙ ap (λ list. list ++ entry ∷ []) c.reserve.ensures.items) refl refl few
+    draft_more plan new c.args.slots.now c.put_mark.new.slots c.requires refl _ c.mark_of.result (pushed _ _ _ _ c.push_reserved.ensures.items c.reserve.ensures.items) refl refl few
     (c.mark_of.ensures ∙ ap (λ p. address_mark p.0.url plan.next) c.deref.ensures) c.put_mark.ensures.keeps c.in_ok-put_mark.ensures.marked c.in_ok-put_mark.ensures.only
 
 pub returns-clause-below : goal.returns-clause-below

@@ -1,7 +1,6 @@
-use Rattle.std.proofs.Common.{◌≡◌, ◌++◌, length, map}
+use Rattle.std.proofs.Common.{◌≡◌, ◌++◌, length}
 use Rattle.std.specs.Vec.Iter.{into_iter_items, into_iter_len}
-use Rattle.sw_caches.specs.Tables.{kept_row}
-use Rattle.sw_caches.proofs.rows.rows_of.Given as goal
+use Rattle.sw_caches.proofs.table.Caches.from_kept.Given as goal
 
 abbrev pub invariant-loop-cache : goal.invariant-loop-cache
 invariant-loop-cache l = record {
@@ -9,5 +8,5 @@ invariant-loop-cache l = record {
   ends : goal.iterator-loop-cache.is_finite l.cache-iterator;
   parts : l.yielded ++ into_iter_items l.cache-iterator ≡ l.fn.kept.items;
   left : into_iter_len l.cache-iterator ≡ length (into_iter_items l.cache-iterator);
-  rows : map kept_row l.rows.rows ≡ l.yielded;
+  rows : l.caches.rows ≡ l.yielded;
 }
