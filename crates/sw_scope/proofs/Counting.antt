@@ -2,11 +2,11 @@
 use Rattle.std.proofs.Common.{◌≡◌, ◌∙◌, ◌<◌, ◌≤◌, ◌+◌, ◌-◌, ℕ, true, false, List, [], ◌∷◌, length, bytes_eq, Some, None, slice_index_or, slice_set, refl, sym, ap, arith}
 use Rattle.std.specs.Prelude.{insert, remove}
 use Rattle.std.proofs.lemmas.Bool.Decides.{nat_tests}
-use Rattle.std.specs.Map.{lookup, remove_entry}
+use Rattle.std.specs.Map.{lookup}
 use Rattle.indexmap.specs.IndexMap.{insert_entry}
 use Rattle.sw_scope.specs.declared.lengths.Counted.{Counted}
 use Rattle.sw_scope.specs.Counted.{IsCounted, IsFalling, entries_of, one_less, one_more, place_of, scopes_of, stands}
-use Rattle.sw_scope.proofs.Entries.{one_at, entries_few, entries_kept, entries_put, entries_removed, lookup_put, lookup_removed}
+use Rattle.sw_scope.proofs.Entries.{one_at, entries_few, entries_kept, entries_put}
 
 -- a greater bound serves
 pub falls_below : (bound more : ℕ) (counted : List Counted) → bound ≤ more → IsFalling bound counted → IsFalling more counted
@@ -113,25 +113,24 @@ module _ (counted : List Counted) (entries : List (List ℕ × ℕ)) (scope : Li
     exact = λ n. is.exact n ∙ sym (entries_kept scope n id before entries there);
   }
 
-  pub counted_removed : (before : ℕ) → lookup (bytes_eq scope) entries ≡ Some before
-      → IsCounted (one_less counted (length scope)) (remove_entry (bytes_eq scope) entries)
-  counted_removed before there =
-      let own : entries_of (remove_entry (bytes_eq scope) entries) (length scope) + one_at (length scope) (length scope) ≡ entries_of entries (length scope)
-      = entries_removed scope (length scope) before entries there in
+  pub counted_removed : (left : List (List ℕ × ℕ)) → ((n : ℕ) → entries_of left n + one_at (length scope) n ≡ entries_of entries n)
+      → IsCounted (one_less counted (length scope)) left
+  counted_removed left fewer =
+      let own = fewer (length scope) in
       let exact = is.exact (length scope) in
       let one : one_at (length scope) (length scope) ≡ 1 = grind (arith, nat_tests) in
       let some : 0 < scopes_of counted (length scope) = omega (arith, own, exact, one) in
       record {
         bound = is.bound;
         falling = falls_less is.bound (length scope) counted is.falling;
-        exact = λ n. by n (less_of is.bound (length scope) n counted is.falling some) (entries_removed scope n before entries there) (is.exact n);
+        exact = λ n. by n (less_of is.bound (length scope) n counted is.falling some) (fewer n) (is.exact n);
       }
     where
       by : (n : ℕ) → scopes_of (one_less counted (length scope)) n + one_at (length scope) n ≡ scopes_of counted n
-          → entries_of (remove_entry (bytes_eq scope) entries) n + one_at (length scope) n ≡ entries_of entries n
+          → entries_of left n + one_at (length scope) n ≡ entries_of entries n
           → scopes_of counted n ≡ entries_of entries n
-          → scopes_of (one_less counted (length scope)) n ≡ entries_of (remove_entry (bytes_eq scope) entries) n
-      by n less fewer exact = omega (arith, less, fewer, exact)
+          → scopes_of (one_less counted (length scope)) n ≡ entries_of left n
+      by n less fewer_at exact = omega (arith, less, fewer_at, exact)
 
   pub counted_fits : (id most : ℕ) → lookup (bytes_eq scope) entries ≡ None → length (insert_entry bytes_eq entries scope id) ≤ most
       → scopes_of counted (length scope) < most
@@ -141,10 +140,3 @@ module _ (counted : List Counted) (entries : List (List ℕ × ℕ)) (scope : Li
       let exact = is.exact (length scope) in
       let one : one_at (length scope) (length scope) ≡ 1 = grind (arith, nat_tests) in
       omega (arith, own, some, exact, one, few)
-
--- what isn't there leaves all as it was
-pub removed_absent : (entries : List (List ℕ × ℕ)) (scope : List ℕ) → lookup (bytes_eq scope) entries ≡ None → remove_entry (bytes_eq scope) entries ≡ entries
-removed_absent [] scope absent = refl
-removed_absent (entry ∷ entries) scope absent = grind (arith, removed_absent entries scope)
-
-pub ruleset kept_counted = (removed_absent, lookup_put, lookup_removed)

@@ -1,8 +1,14 @@
 -- Entries by the bytes of their keys: what is looked up, and how many have a length, after one is put or removed.
-use Rattle.std.proofs.Common.{◌≡◌, ◌∙◌, ◌≤◌, ◌+◌, ◌==◌, ℕ, Bool, true, false, List, [], ◌∷◌, bytes_eq, length, Option, Some, None, is_none, is_some, refl, sym, ap, subst, arith, if◌then◌else◌}
-use Rattle.std.specs.Cmp.Lexicographic.{bytes_decides}
-use Rattle.std.specs.Map.{lookup, remove_entry}
-use Rattle.indexmap.specs.IndexMap.{insert_entry}
+use Rattle.std.proofs.Common.{◌≡◌, ◌∙◌, ◌≤◌, ◌+◌, ◌==◌, ℕ, Bool, true, false, true≢false, List, [], ◌∷◌, bytes_eq, get_or, length, position, sum_by, Option, Some, None, is_none, is_some, refl, sym, ap, subst, arith, if◌then◌else◌}
+use Rattle.std.specs.Cmp.Lexicographic.{bytes_decides, nat_list_eq_equiv}
+use Rattle.std.specs.Option.{IfSome}
+use Rattle.std.specs.Map.{KeepsOthers, keys_of, lookup}
+use Rattle.std.proofs.lemmas.List.{get_or-map}
+use Rattle.std.proofs.lemmas.List.Quantifiers.{position-Some}
+use Rattle.std.proofs.lemmas.List.Sums.{sum_by-cons, sum_by-swap_remove}
+use Rattle.std.proofs.lemmas.Map.Entries.{place_from_lookup}
+use Rattle.indexmap.specs.IndexMap.{insert_entry, swap_remove_entry}
+use Rattle.indexmap.proofs.MapLemmas.{Found-position, some_index, swap_remove_entry-found}
 use Rattle.sw_scope.specs.Counted.{bare, entries_of}
 
 -- one more where a length is this one
@@ -31,10 +37,6 @@ module _ {K V : Type 0} (bytes : K → List ℕ) where
   insert_bare eq decides key value [] = refl
   insert_bare eq decides key value (entry ∷ entries) = grind (arith, decides key entry.0, insert_bare eq decides key value entries)
 
-  pub remove_bare : (test : List ℕ → Bool) (entries : List (K × V)) → bare bytes (remove_entry (λ key. test (bytes key)) entries) ≡ remove_entry test (bare bytes entries)
-  remove_bare test [] = refl
-  remove_bare test (entry ∷ entries) = grind (arith, remove_bare test entries)
-
 -- ---- keys that are bytes
 
 module _ (scope other : List ℕ) where
@@ -50,21 +52,6 @@ module _ {V : Type 0} (scope other : List ℕ) where
       ≡ (if bytes_eq scope other then Some id else lookup (bytes_eq other) entries)
   lookup_put id [] = let turned = both_ways other scope in grind (arith, turned)
   lookup_put id (entry ∷ entries) = grind (arith, here scope other entry.0, there scope other entry.0, lookup_put id entries)
-
-  -- what the others are found at, once a scope is removed
-  pub lookup_removed : (entries : List (List ℕ × V)) → lookup (bytes_eq scope) (remove_entry (bytes_eq scope) entries) ≡ None
-      → lookup (bytes_eq other) (remove_entry (bytes_eq scope) entries)
-      ≡ (if bytes_eq scope other then None else lookup (bytes_eq other) entries)
-  lookup_removed entries gone = by (bytes_eq scope other) refl
-    where
-      apart : (es : List (List ℕ × V)) → bytes_eq scope other ≡ false → lookup (bytes_eq other) (remove_entry (bytes_eq scope) es) ≡ lookup (bytes_eq other) es
-      apart [] are = refl
-      apart (entry ∷ es) are = grind (arith, here scope other entry.0, apart es are)
-
-      by : (same : Bool) → bytes_eq scope other ≡ same → lookup (bytes_eq other) (remove_entry (bytes_eq scope) entries)
-          ≡ (if same then None else lookup (bytes_eq other) entries)
-      by true is = subst (λ text. lookup (bytes_eq text) (remove_entry (bytes_eq scope) entries) ≡ None) ((bytes_decides scope other).0 is) gone
-      by false are = apart entries are
 
 -- ---- how many have a length
 
@@ -82,10 +69,61 @@ module _ (scope : List ℕ) (n : ℕ) where
   entries_kept id before [] there_is = absurd cc
   entries_kept id before (entry ∷ entries) there_is = grind (arith, entries_kept id before entries)
 
-  pub entries_removed : (before : ℕ) (entries : List (List ℕ × ℕ)) → lookup (bytes_eq scope) entries ≡ Some before
-      → entries_of (remove_entry (bytes_eq scope) entries) n + one_at (length scope) n ≡ entries_of entries n
-  entries_removed before [] there_is = absurd cc
-  entries_removed before (entry ∷ entries) there_is = let long = same_length scope entry.0 in grind (arith, long, entries_removed before entries)
+-- ---- once a scope is removed
+
+module _ {K V : Type 0} (bytes : K → List ℕ) (scope other : List ℕ) where
+  -- what the others are found at
+  pub lookup_removed : (old new : List (K × V)) → lookup (λ key. bytes_eq scope (bytes key)) new ≡ None
+      → KeepsOthers (λ x y. bytes_eq (bytes x) (bytes y)) (λ key. bytes_eq scope (bytes key)) old new
+      → lookup (bytes_eq other) (bare bytes new) ≡ (if bytes_eq scope other then None else lookup (bytes_eq other) (bare bytes old))
+  unfolding KeepsOthers
+  lookup_removed old new gone kept = by (bytes_eq scope other) refl
+    where
+      by : (same : Bool) → bytes_eq scope other ≡ same → lookup (bytes_eq other) (bare bytes new) ≡ (if same then None else lookup (bytes_eq other) (bare bytes old))
+      by true is = subst (λ text. lookup (bytes_eq text) (bare bytes new) ≡ None) ((bytes_decides scope other).0 is)
+          (lookup_bare bytes (bytes_eq scope) new ∙ gone)
+      by false are = lookup_bare bytes (bytes_eq other) new
+          ∙ (kept (λ key. bytes_eq other (bytes key)) (λ x y. nat_list_eq_equiv.congr other (bytes x) (bytes y)) (λ key is. here scope other (bytes key) is ∙ are)
+          ∙ sym (lookup_bare bytes (bytes_eq other) old))
+
+module _ {K : Type 0} (bytes : K → List ℕ) (n : ℕ) where
+  -- one where the key of an entry has this length
+  abbrev long : K × ℕ → ℕ
+  long entry = one_at (length (bytes entry.0)) n
+
+  by_sum : (entries : List (K × ℕ)) → entries_of (bare bytes entries) n ≡ sum_by long entries
+  by_sum [] = refl
+  by_sum (entry ∷ entries) = let here = sum_by-cons long entry entries in let rest = by_sum entries in omega (arith, here, rest)
+
+  -- how many have a length
+  entries_removed : (scope : List ℕ) (old new : List (K × ℕ)) (id : ℕ) → new ≡ swap_remove_entry (λ key. bytes_eq scope (bytes key)) old
+      → lookup (λ key. bytes_eq scope (bytes key)) old ≡ Some id → entries_of (bare bytes new) n + one_at (length scope) n ≡ entries_of (bare bytes old) n
+  entries_removed scope old new id is there_is = by (position test (keys_of old)) refl
+    where
+      test : K → Bool
+      test key = bytes_eq scope (bytes key)
+
+      entry : K × ℕ
+      entry = ((place_from_lookup test old id there_is).1, id)
+
+      by : (at : Option ℕ) → position test (keys_of old) ≡ at → entries_of (bare bytes new) n + one_at (length scope) n ≡ entries_of (bare bytes old) n
+      by None at = absurd (true≢false (sym (ap is_some there_is) ∙ (sym (some_index test old) ∙ ap is_some at)))
+      by (Some i) at =
+          let within = (Found-position test old i at).within in
+          let key = get_or-map (λ (e : K × ℕ). e.0) old i entry entry.0 within in
+          let passes = subst (λ k. test k ≡ true) key (position-Some test (keys_of old) i entry.0 at).1 in
+          let one = ap (λ l. one_at l n) (same_length scope (bytes (get_or old i entry).0) passes) in
+          let swapped = ap (sum_by long) (is ∙ swap_remove_entry-found test old i entry at) in
+          let sums = sum_by-swap_remove long old i entry within in
+          let before = by_sum old in let after = by_sum new in
+          omega (arith, one, swapped, sums, before, after)
+
+-- what was found goes out of those of its length
+pub fewer_removed : {K : Type 0} (bytes : K → List ℕ) (scope : List ℕ) (old new : List (K × ℕ)) (found : Option ℕ)
+    → found ≡ lookup (λ key. bytes_eq scope (bytes key)) old → new ≡ swap_remove_entry (λ key. bytes_eq scope (bytes key)) old
+    → IfSome found (λ id. (n : ℕ) → entries_of (bare bytes new) n + one_at (length scope) n ≡ entries_of (bare bytes old) n)
+fewer_removed bytes scope old new None is left = tt
+fewer_removed bytes scope old new (Some id) is left = λ n. entries_removed bytes n scope old new id left (sym is)
 
 -- no more have a length than there are
 pub entries_few : (entries : List (List ℕ × ℕ)) (n : ℕ) → entries_of entries n ≤ length entries
@@ -97,7 +135,7 @@ pub length_bare : {K V : Type 0} (bytes : K → List ℕ) (entries : List (K × 
 length_bare bytes [] = refl
 length_bare bytes (entry ∷ entries) = grind (arith, length_bare bytes entries)
 
-pub ruleset by_bytes = (lookup_bare, insert_bare, remove_bare, length_bare)
+pub ruleset by_bytes = (lookup_bare, insert_bare, length_bare)
 
 pub absent_of : {V : Type 0} (found : Option V) → is_none found ≡ true → found ≡ None
 absent_of None is = refl

@@ -1,9 +1,9 @@
 //! The scopes of one storage key.
 
-ghost use Rattle.std.specs.Prelude.{◌≡◌, ◌+◌, ◌<◌, ◌≤◌, [], ℕ, List, bytes_eq, is_none, length, OnOk, Some, None, if◌then◌else◌};
+ghost use Rattle.std.specs.Prelude.{◌≡◌, ◌==◌, ◌+◌, ◌<◌, ◌≤◌, [], ℕ, List, bytes_eq, is_none, length, IfNone, IfSome, OnOk, Some, None, if◌then◌else◌};
 ghost use Rattle.std.specs.Map.{lookup};
-ghost use Rattle.indexmap.specs.IndexMap.{insert_entry, shift_remove_entry, spare};
-ghost use Rattle.sw_scope.specs.Counted.{IsCounted, bare};
+ghost use Rattle.indexmap.specs.IndexMap.{insert_entry, spare};
+ghost use Rattle.sw_scope.specs.Counted.{IsCounted, bare, entries_of};
 
 use crate::lengths::{Counted, add, subtract};
 use indexmap::IndexMap;
@@ -54,18 +54,24 @@ fn insert(scopes: &mut IndexMap<Vec<u8>, u32>, scope: Vec<u8>, id: u32) -> bool
     is_new
 }
 
-// Removes a scope and gives what it mapped to; it takes no memory.
+// Removes a scope and gives what it mapped to; the order of the others may change. It takes no memory.
 #[tactic(auto, using(crate::proofs::Entries::by_bytes))]
 fn take(scopes: &mut IndexMap<Vec<u8>, u32>, scope: &[u8]) -> Option<u32>
     ensures value { result
         ≡ lookup (bytes_eq scope.now) (bare (λ key. key.items) scopes.old.entries) }
-    ensures entries { bare (λ key. key.items) scopes.new.entries
-        ≡ shift_remove_entry (bytes_eq scope.now) (bare (λ key. key.items) scopes.old.entries) }
-    ensures gone { lookup (bytes_eq scope.now) (bare (λ key. key.items) scopes.new.entries)
-        ≡ None }
+    ensures removed { (other : List ℕ)
+        → lookup (bytes_eq other) (bare (λ key. key.items) scopes.new.entries)
+        ≡ (if bytes_eq scope.now other then None
+        else lookup (bytes_eq other) (bare (λ key. key.items) scopes.old.entries)) }
+    ensures fewer { IfSome result (λ id. (n : ℕ)
+        → entries_of (bare (λ key. key.items) scopes.new.entries) n
+        + (if length scope.now == n then 1 else 0)
+        ≡ entries_of (bare (λ key. key.items) scopes.old.entries) n) }
+    ensures same { IfNone result (bare (λ key. key.items) scopes.new.entries
+        ≡ bare (λ key. key.items) scopes.old.entries) }
     ensures room { spare scopes.old ≤ spare scopes.new }
 {
-    scopes.shift_remove(scope)
+    scopes.swap_remove(scope)
 }
 
 impl KeyScopes {
@@ -106,7 +112,7 @@ impl KeyScopes {
     }
 
     // Maps a scope to a registration; it takes no memory.
-    #[tactic(auto, using(crate::proofs::Counting::kept_counted))]
+    #[tactic(auto, using(crate::proofs::Entries::lookup_put))]
     pub(crate) fn put(&mut self, scope: Vec<u8>, id: u32)
         requires { 0 < self.old.room }
         ensures put { (other : List ℕ) → lookup (bytes_eq other) self.new.entries
@@ -121,7 +127,6 @@ impl KeyScopes {
     }
 
     // Removes a scope and gives what it mapped to; it takes no memory.
-    #[tactic(auto, using(crate::proofs::Counting::kept_counted))]
     pub(crate) fn remove(&mut self, scope: &[u8]) -> Option<u32>
         ensures value { result ≡ lookup (bytes_eq scope.now) self.old.entries }
         ensures removed { (other : List ℕ) → lookup (bytes_eq other) self.new.entries

@@ -1,9 +1,10 @@
-use Rattle.std.proofs.Common.{◌∙◌, bytes_eq, ap}
-use Rattle.sw_scope.specs.Counted.{bare}
-use Rattle.sw_scope.proofs.Entries.{remove_bare}
+use Rattle.sw_scope.proofs.Entries.{fewer_removed, lookup_removed}
 use Rattle.sw_scope.proofs.key_scopes.take.Goals as goal
 
-pub returns-clause-entries : goal.returns-clause-entries
-returns-clause-entries c =
-    ap (λ entries. bare (λ key. key.items) entries) c.shift_remove.ensures.entries
-    ∙ remove_bare (λ key. key.items) (bytes_eq c.args.scope.now) c.args.scopes.now.entries
+pub returns-clause-removed : goal.returns-clause-removed
+returns-clause-removed c = λ other. lookup_removed (λ key. key.items) c.args.scope.now other c.args.scopes.now.entries c.swap_remove.new.self.entries
+    c.swap_remove.ensures.updates.1 c.swap_remove.ensures.updates.3
+
+pub returns-clause-fewer : goal.returns-clause-fewer
+returns-clause-fewer c = fewer_removed (λ key. key.items) c.args.scope.now c.args.scopes.now.entries c.swap_remove.new.self.entries
+    c.swap_remove.result c.swap_remove.ensures.value c.swap_remove.ensures.entries
