@@ -1,19 +1,16 @@
--- Stamps behind their numbers: how the place of a number is found, and what an addition and a removal leave.
-use Rattle.std.proofs.Common.{◌≡◌, ◌∙◌, ◌<◌, ◌≤◌, ◌+◌, ℕ, zero, suc, false, cond, nat_eq, List, [], ◌∷◌, ◌++◌, length, map, get_or, slice_get, position, remove, is_some, Option, Some, None, All, refl, sym, ap, subst, inl, inr, arith}
+-- Stamps behind their numbers: where a number stands, and what an addition and a removal leave.
+use Rattle.std.proofs.Common.{◌≡◌, ◌∙◌, ◌<◌, ◌+◌, ℕ, zero, suc, false, cond, nat_eq, List, [], ◌∷◌, ◌++◌, length, map, slice_get, position, remove, is_some, Option, Some, None, All, refl, sym, ap, subst, inl, inr, arith}
 use Rattle.std.specs.Cmp.{nat_eq_equiv}
-use Rattle.std.specs.List.{AllPairs, IsDistinct}
+use Rattle.std.specs.List.{IsDistinct}
 use Rattle.std.specs.Map.{keys_of, lookup, remove_entry}
-use Rattle.std.proofs.lemmas.Bool.{cases_lt, cases_order}
-use Rattle.std.proofs.lemmas.Bool.Decides.{nat_tests}
+use Rattle.std.proofs.lemmas.Bool.{cases_lt}
 use Rattle.std.proofs.lemmas.List.{length-map, map-append}
 use Rattle.std.proofs.lemmas.List.Edits.{get_or-remove_above, get_or-remove_below, insert_end, length-remove}
 use Rattle.std.proofs.lemmas.List.Elements.{All-push}
 use Rattle.std.proofs.lemmas.List.Quantifiers.{all_pairs_push, all_pairs_remove}
 use Rattle.std.proofs.lemmas.Map.{lookup-insert, lookup-remove_entry, none_passes_from_lookup}
-use Rattle.std.proofs.lemmas.Map.Entries.{place_from_lookup}
 use Rattle.std.proofs.lemmas.Map.Keys.{IsDistinct-from_apart, IsDistinct-push, apart_from_distinct}
 use Rattle.std.proofs.lemmas.Map.Made.{is_some-lookup}
-use Rattle.std.proofs.lemmas.Option.{get_or_from_slice_get, slice_get-get_or, slice_get_within}
 use Rattle.indexmap.proofs.MapLemmas.{Found-position, index-first, remove_entry-first}
 use Rattle.indexmap.proofs.RemoveLemmas.{own_first}
 use Rattle.sw_order.specs.Kept.{IsKept}
@@ -24,28 +21,6 @@ Marks = List (ℕ × ℕ)
 -- the place of an entry is that of its number
 pub place_here : {X : Type 0} (entries : List (ℕ × X)) (i n : ℕ) (x : X) → IsDistinct nat_eq (keys_of entries) → slice_get entries i ≡ Some (n, x) → position (nat_eq n) (keys_of entries) ≡ Some i
 place_here entries i n x apart at = index-first (nat_eq n) entries i (own_first nat_eq nat_eq_equiv entries i n x apart at)
-
--- where the stamps below one end, that one stands
-pub found_place : (marks : Marks) (n s i : ℕ) → AllPairs (λ left right. left.1 < right.1) marks → IsDistinct nat_eq (keys_of marks) → lookup (nat_eq n) marks ≡ Some s
-    → ((k : ℕ) (mark : ℕ × ℕ) → k < i → slice_get marks k ≡ Some mark → mark.1 < s) → ((k : ℕ) (mark : ℕ × ℕ) → i ≤ k → slice_get marks k ≡ Some mark → s ≤ mark.1)
-    → position (nat_eq n) (keys_of marks) ≡ Some i
-found_place marks n s i rising apart is low high =
-    let place = place_from_lookup (nat_eq n) marks s is in
-    let j = place.0 in
-    let number : n ≡ place.1 = (let same = place.3 in grind (arith, nat_tests)) in
-    let at : slice_get marks j ≡ Some (n, s) = place.2 ∙ ap (λ (k : ℕ). Some (k, s)) (sym number) in
-    let here : position (nat_eq n) (keys_of marks) ≡ Some j = place_here marks j n s apart at in
-    elim (cases_order i j) [
-      | inl e ↦ here ∙ ap Some (sym e)
-      | inr (inl before) ↦ absurd (
-          let within = slice_get_within marks j (n, s) at in
-          let first = slice_get-get_or marks i (n, s) (omega arith) in
-          let above = high i (get_or marks i (n, s)) (omega arith) first in
-          let rises = rising i j (n, s) before within in
-          let stamp : (get_or marks j (n, s)).1 ≡ s = ap (λ (mark : ℕ × ℕ). mark.1) (get_or_from_slice_get marks j (n, s) (n, s) at) in
-          omega arith)
-      | inr (inr past) ↦ absurd (let under = low j (n, s) past at in omega arith)
-    ]
 
 -- ---- one more
 

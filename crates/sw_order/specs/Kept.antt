@@ -5,19 +5,19 @@ use Rattle.std.specs.Map.{keys_of, lookup}
 use Rattle.sw_order.specs.declared.Row.{Row}
 
 -- a value behind its number
-abbrev pub entry_of : {V : Type 0} → Row V → ℕ × V
-entry_of row = (row.number, row.value)
+abbrev pub entry_of : {V : Type 0} → ℕ × Row V → ℕ × V
+entry_of row = (row.1.number, row.1.value)
 
 -- a stamp behind its number
-abbrev pub mark_of : {V : Type 0} → Row V → ℕ × ℕ
-mark_of row = (row.number, row.stamp)
+abbrev pub mark_of : {V : Type 0} → ℕ × Row V → ℕ × ℕ
+mark_of row = (row.1.number, row.0)
 
--- the values of rows, in order
-abbrev pub entries_of : {V : Type 0} → List (Row V) → List (ℕ × V)
+-- the values of rows behind their stamps, in order
+abbrev pub entries_of : {V : Type 0} → List (ℕ × Row V) → List (ℕ × V)
 entries_of rows = map entry_of rows
 
 -- the stamps of rows, in order
-abbrev pub marks_of : {V : Type 0} → List (Row V) → List (ℕ × ℕ)
+abbrev pub marks_of : {V : Type 0} → List (ℕ × Row V) → List (ℕ × ℕ)
 marks_of rows = map mark_of rows
 
 -- the stamps rise and are below the next one, no number stands twice, and the index finds the stamp of each number

@@ -12,30 +12,27 @@ use indexmap::IndexMap;
 use std::alloc::Global;
 use std::marker::Model;
 use sw_data::NoMemory;
+use sw_list::Numbered;
 
-// A value under its number. The stamp tells when it was added.
+// A value under its number.
 #[derive(Drop)]
 struct Row<V> {
-    stamp: u64,
     number: u32,
     value: V,
 }
 
 /// Values under numbers, in order of adding. The hash of a number is fixed, so numbers can be chosen that collide. A
-/// removal takes a binary search, a constant number of look-ups and a plain move of the values behind.
+/// removal takes binary searches and a constant number of look-ups; what stands behind isn't moved.
 #[derive(Drop)]
 pub struct Ordered<V> {
-    // By rising stamps.
-    rows: Vec<Row<V>>,
+    // Each under a stamp, which tells when it was added.
+    rows: Numbered<Row<V>>,
     // The stamp of each number; their order says nothing.
     stamps: IndexMap<u32, u64>,
-    // Above each stamp.
-    next: u64,
 }
 
 impl<V> Model for Ordered<V> {
-    ghost use Rattle.std.specs.Prelude.{◌-◌, ◌^◌, min};
-    ghost use Rattle.std.specs.Vec.{vec_len, vec_capacity};
+    ghost use Rattle.std.specs.Prelude.{min};
     ghost use Rattle.indexmap.specs.IndexMap.{spare};
     ghost use Rattle.sw_order.specs.Sequence.{Sequence};
     ghost use Rattle.sw_order.specs.Kept.{IsKept, entries_of, marks_of};
@@ -43,12 +40,11 @@ impl<V> Model for Ordered<V> {
     ghost Value = { Sequence V };
 
     ghost view = { λ o. record {
-      entries = entries_of o.rows.items;
-      spare = min (spare o.stamps)
-          (min (vec_capacity o.rows - vec_len o.rows) (2 ^ 64 - 1 - o.next));
+      entries = entries_of o.rows.rows;
+      spare = min (spare o.stamps) o.rows.spare;
     } };
 
-    ghost invariant = { λ o. IsKept (marks_of o.rows.items) o.stamps.entries o.next };
+    ghost invariant = { λ o. IsKept (marks_of o.rows.rows) o.stamps.entries o.rows.next };
 }
 
 impl<V> Ordered<V> {
@@ -57,9 +53,8 @@ impl<V> Ordered<V> {
         ensures { result.entries ≡ [] }
     {
         Ordered {
-            rows: Vec::new(alloc),
+            rows: Numbered::new(alloc, 0),
             stamps: IndexMap::new(alloc),
-            next: 0,
         }
     }
 
@@ -82,10 +77,7 @@ impl<V> Ordered<V> {
         ensures { result ≡ position (nat_eq number) (keys_of self.now.entries) }
     {
         match self.stamps.get(&number) {
-            Some(stamp) => {
-                let stamp = *stamp;
-                Some(self.rows.partition_point(|row| row.stamp < stamp))
-            }
+            Some(stamp) => self.rows.place(*stamp),
             None => None,
         }
     }
@@ -94,7 +86,7 @@ impl<V> Ordered<V> {
     pub fn at(&self, place: usize) -> Option<&V>
         ensures { option_copied result ≡ slice_get (values_of self.now.entries) place }
     {
-        Some(&self.rows.get(place)?.value)
+        Some(&self.rows.at(place)?.value)
     }
 
     /// The value under a number. It takes no memory.
@@ -114,7 +106,7 @@ impl<V> Ordered<V> {
         ensures* writes_back { sem 𝓛 (LendsValue V.row place self.entry result) }
         ensures value { slice_get (values_of self.old.entries) place ≡ Some result.now }
     {
-        let row = &mut self.rows[place];
+        let row = self.rows.at_mut(place);
         &mut row.value
     }
 
@@ -135,10 +127,7 @@ impl<V> Ordered<V> {
         ensures kept { self.old.spare ≤ self.new.spare }
         ensures room { OnOk result (0 < self.new.spare) }
     {
-        if self.next == u64::MAX {
-            return Err(NoMemory);
-        }
-        self.rows.reserve(1)?;
+        self.rows.make_room()?;
         self.stamps.reserve(1)?;
         Ok(())
     }
@@ -151,16 +140,12 @@ impl<V> Ordered<V> {
         ensures apart { IsDistinct nat_eq (keys_of self.new.entries) }
         ensures room { self.old.spare ≤ self.new.spare + 1 }
     {
-        let stamp = self.next;
-        self.next = stamp + 1;
-        let _ = self.stamps.insert(number, stamp);
-        self.rows.push_reserved(Row {
-            stamp,
-            number,
-            value,
-        });
+        let _ = self.stamps.insert(number, self.rows.next());
+        self.rows.add(Row { number, value });
     }
+}
 
+impl<V: Drop> Ordered<V> {
     /// Takes out the value under a number; the others keep their order. It takes no memory.
     pub fn remove(&mut self, number: u32) -> Option<V>
         ensures value { result ≡ lookup (nat_eq number) self.old.entries }

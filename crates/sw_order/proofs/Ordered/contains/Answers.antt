@@ -6,5 +6,5 @@ use Rattle.sw_order.proofs.Ordered.contains.Goals as goal
 
 pub returns : goal.returns
 returns g c =
-    c.contains_key.ensures ∙ (ap is_some (c.self.invariant.found c.args.number) ∙ (same_found c.self.inside.rows.items c.args.number
+    c.contains_key.ensures ∙ (ap is_some (c.self.invariant.found c.args.number) ∙ (same_found c.self.inside.rows.rows c.args.number
     ∙ ap (λ (o : Sequence g.row.V.Denot). is_some (lookup (nat_eq c.args.number) o.entries)) c.self.view_is))
