@@ -157,6 +157,7 @@ fn may_end_install(host: &HostTables, job: u32) -> bool
 }
 
 // Whether an event of the host may happen.
+#[tactic(auto, unfolding(sw_rules::specs::Step::step, sw_data::specs::Events::who_of))]
 fn host_enabled(host: &HostTables, event: &Event) -> bool
     requires { who_of event.now ≡ maker.Host }
     ensures { result ≡ enabled (state_of host.now) event.now }

@@ -1,11 +1,12 @@
 -- What was worked out on the tables of a host was worked out on the host.
-use Rattle.std.proofs.Common.{◌≡◌, ◌∙◌, ℕ, Option, Some, None, IfSome, option_map, refl, sym, ap, subst}
+use Rattle.std.proofs.Common.{◌≡◌, ◌∙◌, ℕ, Option, Some, None, IfSome, IsSome, option_map, is_some, refl, sym, ap, subst}
 use Rattle.sw_prepare.proofs.Same.{same_refl}
 use Rattle.sw_data.specs.declared.events.Event.{Event}
 use Rattle.sw_data.specs.declared.events.Event.TheVariants as event
 use Rattle.sw_data.specs.declared.events.Who.{Who}
 use Rattle.sw_data.specs.declared.events.Who.TheVariants as maker
 use Rattle.sw_data.specs.Events.{who_of}
+use Rattle.sw_laws.proofs.KeptRechecks.{mapped_some}
 use Rattle.sw_pages.specs.Acts.{outcome_of}
 use Rattle.sw_pages.specs.declared.worked.Worked.{Worked}
 use Rattle.sw_rules.specs.Clients.{await, begin, ready}
@@ -37,22 +38,17 @@ workers_same host of_workers rows events =
       draws = kept.draws;
     }
 
--- ---- what is asked only where an action is enabled
+-- ---- actions that may not be enabled
 
-pub some_given : (mine : Outcome) (asked : Option Outcome) → Some mine ≡ asked → IfSome asked (λ outcome. outcome ≡ mine)
-some_given mine asked is = subst (λ (o : Option Outcome). IfSome o (λ outcome. outcome ≡ mine)) is refl
+module _ (who : Who) (state : State) (asked : Option Outcome) (found : Option Worked) (same : option_map (λ w. outcome_of who w state) found ≡ asked) where
+  pub found_there : IsSome asked → IsSome found
+  found_there there = sym (mapped_some (λ (w : Worked). outcome_of who w state) found) ∙ (ap is_some same ∙ there)
 
-pub none_given : (mine : Outcome) (asked : Option Outcome) → None ≡ asked → IfSome asked (λ outcome. outcome ≡ mine)
-none_given mine asked is = subst (λ (o : Option Outcome). IfSome o (λ outcome. outcome ≡ mine)) is tt
+  pub found_given : (worked : Worked) → found ≡ Some worked → asked ≡ Some (outcome_of who worked state)
+  found_given worked is = sym same ∙ ap (option_map (λ (w : Worked). outcome_of who w state)) is
 
-module _ (who : Who) (state : State) (asked : Option Outcome) (found : Option Worked) where
-  pub found_given : (worked : Worked) → found ≡ Some worked → option_map (λ w. outcome_of who w state) found ≡ asked
-      → IfSome asked (λ outcome. outcome ≡ outcome_of who worked state)
-  found_given worked is same = some_given (outcome_of who worked state) asked (sym (ap (option_map (λ (w : Worked). outcome_of who w state)) is) ∙ same)
-
-  pub nothing_given : (worked : Worked) → found ≡ None → option_map (λ w. outcome_of who w state) found ≡ asked
-      → IfSome asked (λ outcome. outcome ≡ outcome_of who worked state)
-  nothing_given worked is same = none_given (outcome_of who worked state) asked (sym (ap (option_map (λ (w : Worked). outcome_of who w state)) is) ∙ same)
+pub given : (mine : Outcome) (comes : Option Outcome) → comes ≡ Some mine → IfSome comes (λ outcome. outcome ≡ mine)
+given mine comes is = subst (λ (o : Option Outcome). IfSome o (λ outcome. outcome ≡ mine)) (sym is) refl
 
 -- an outcome that is another one is that of what was asked, as that is
 pub agrees_too : (mine : Outcome) (asked : Asked) (state : State) (comes : Option Outcome) → IsAsked mine asked state → IfSome comes (λ outcome. outcome ≡ mine)
@@ -60,26 +56,15 @@ pub agrees_too : (mine : Outcome) (asked : Asked) (state : State) (comes : Optio
 agrees_too mine asked state None agrees is = tt
 agrees_too mine asked state (Some outcome) agrees is = subst (λ (o : Outcome). IsAsked o asked state) (sym is) agrees
 
--- ---- steps that may not be enabled
-
-module _ (state : State) (happened : Event) (by : Who) (lane at : ℕ) (mine : Outcome) where
-  pub await_given : (of : ℕ) → happened ≡ event.Await by of → who_of happened ≡ maker.Lane lane at
-      → IfSome (await state (maker.Lane lane at) of) (λ outcome. outcome ≡ mine) → IfSome (step state happened) (λ outcome. outcome ≡ mine)
+module _ (state : State) (happened : Event) (by : Who) (lane at : ℕ) (made : who_of happened ≡ maker.Lane lane at) where
+  pub await_comes : (of : ℕ) → happened ≡ event.Await by of → step state happened ≡ await state (maker.Lane lane at) of
   unfolding step who_of
-  await_given of is made gives =
-      subst (λ (e : Event). IfSome (step state e) (λ outcome. outcome ≡ mine)) (sym is)
-      (subst (λ (w : Who). IfSome (await state w of) (λ outcome. outcome ≡ mine)) (sym made ∙ ap who_of is) gives)
+  await_comes of is = ap (step state) is ∙ ap (λ (w : Who). await state w of) (sym (ap who_of is) ∙ made)
 
-  pub ready_given : (client : ℕ) → happened ≡ event.Ready by client → who_of happened ≡ maker.Lane lane at
-      → IfSome (ready state client) (λ outcome. outcome ≡ mine) → IfSome (step state happened) (λ outcome. outcome ≡ mine)
+  pub ready_comes : (client : ℕ) → happened ≡ event.Ready by client → step state happened ≡ ready state client
   unfolding step who_of
-  ready_given client is made gives =
-      subst (λ (e : Event). IfSome (step state e) (λ outcome. outcome ≡ mine)) (sym is)
-      (subst (λ (w : Who). IfSome (by_lane w (ready state client)) (λ outcome. outcome ≡ mine)) (sym made ∙ ap who_of is) gives)
+  ready_comes client is = ap (step state) is ∙ ap (λ (w : Who). by_lane w (ready state client)) (sym (ap who_of is) ∙ made)
 
-  pub begin_given : (client number : ℕ) → happened ≡ event.Begin by client number → who_of happened ≡ maker.Lane lane at
-      → IfSome (begin state client number) (λ outcome. outcome ≡ mine) → IfSome (step state happened) (λ outcome. outcome ≡ mine)
+  pub begin_comes : (client number : ℕ) → happened ≡ event.Begin by client number → step state happened ≡ begin state client number
   unfolding step who_of
-  begin_given client number is made gives =
-      subst (λ (e : Event). IfSome (step state e) (λ outcome. outcome ≡ mine)) (sym is)
-      (subst (λ (w : Who). IfSome (by_lane w (begin state client number)) (λ outcome. outcome ≡ mine)) (sym made ∙ ap who_of is) gives)
+  begin_comes client number is = ap (step state) is ∙ ap (λ (w : Who). by_lane w (begin state client number)) (sym (ap who_of is) ∙ made)

@@ -1,5 +1,5 @@
 -- What an action of a page that was worked out needs of a host, and what it comes to there.
-use Rattle.std.specs.Prelude.{◌≡◌, Bool, true, is_some, Option, IfSome}
+use Rattle.std.specs.Prelude.{◌≡◌, Bool, true, is_some, Option, Some}
 use Rattle.sw_cachestorage.specs.Actions.{cache_action}
 use Rattle.sw_data.specs.declared.events.Event.{Event}
 use Rattle.sw_data.specs.declared.events.Event.TheVariants as event
@@ -19,10 +19,9 @@ FitsHost worked host = FitsPage worked.act host.workers host.registrations host.
 abbrev pub Gives : (State → Who → Outcome) → Worked → Hosted → Type 0
 Gives action worked host = (who : Who) → action (state_of host) who ≡ outcome_of who worked (state_of host)
 
--- own: the same for an action that may not be enabled
+-- own: the same for an action that may not be enabled, where it is
 abbrev pub MayGive : (State → Who → Option Outcome) → Worked → Hosted → Type 0
-MayGive action worked host =
-    (who : Who) → IfSome (action (state_of host) who) (λ outcome. outcome ≡ outcome_of who worked (state_of host))
+MayGive action worked host = (who : Who) → action (state_of host) who ≡ Some (outcome_of who worked (state_of host))
 
 -- own: an event is an action on caches, an addAll, or the forgetting of a key
 abbrev pub is_of_storage : Event → Bool

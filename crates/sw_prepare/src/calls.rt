@@ -1,20 +1,17 @@
 //! Calls of handlers, worked out with all their room.
 
-ghost use Rattle.std.specs.Prelude.{◌≡◌, true, IfOk};
+ghost use Rattle.std.specs.Prelude.{◌≡◌, true, IfOk, IsSome};
 ghost use Rattle.sw_data.specs.declared.events.Who.TheVariants as maker;
 ghost use Rattle.sw_data.specs.Events.{is_handler, who_of};
 ghost use Rattle.sw_laws.specs.Coherent.{Coherent};
 ghost use Rattle.sw_rules.specs.Calls as calls;
-ghost use Rattle.sw_rules.specs.Step.{step};
+ghost use Rattle.sw_rules.specs.Step.{enabled, step};
 ghost use Rattle.sw_work.specs.Hosted.{SameRows, state_of};
 ghost use Rattle.sw_work.specs.Plans.{Works};
 
 use std::alloc::Global;
 use sw_data::{Call, Event, NoMemory, Phase, Who};
-use sw_work::{
-    HostTables, Work, add_all_work, caches_work, claim_work, has_calls_left, idle, skip_work,
-    update_work,
-};
+use sw_work::{HostTables, Work, add_all_work, caches_work, claim_work, skip_work, update_work};
 
 // The next call of the handler of a worker.
 fn work_of_next(
@@ -26,19 +23,18 @@ fn work_of_next(
     call: &Call,
 ) -> Result<Work, NoMemory>
     requires coherent { Coherent (state_of host.old) }
+    requires next { IsSome (calls.make_call (state_of host.old)
+        (maker.Handler worker phase number) call.now) }
     ensures same { SameRows host.old host.new }
     ensures works { IfOk result (Works host.old host.new
         (calls.make_call (state_of host.old) (maker.Handler worker phase number) call.now)) }
 {
     let Some(row) = host.workers.row(worker) else {
-        return Ok(idle());
+        unreachable!();
     };
     let Some(of) = host.registrations.row(row.registration) else {
-        return Ok(idle());
+        unreachable!();
     };
-    if !has_calls_left(row) {
-        return Ok(idle());
-    }
     match call {
         Call::SkipWaiting => Ok(skip_work(row)),
         Call::Claim => Ok(claim_work(row)),
@@ -70,7 +66,7 @@ fn work_of_next(
     }
 }
 
-// What a call of a handler comes to. An event that isn't one isn't enabled, and any work fits.
+// What a call of a handler comes to.
 #[tactic(auto, unfolding(sw_rules::specs::Step::step, sw_data::specs::Events::who_of))]
 pub(crate) fn work_of_call(
     host: &mut HostTables,
@@ -79,6 +75,7 @@ pub(crate) fn work_of_call(
 ) -> Result<Work, NoMemory>
     requires coherent { Coherent (state_of host.old) }
     requires who { is_handler (who_of event.now) ≡ true }
+    requires enabled { enabled (state_of host.old) event.now ≡ true }
     ensures same { SameRows host.old host.new }
     ensures works { IfOk result (Works host.old host.new (step (state_of host.old) event.now)) }
 {
@@ -91,6 +88,7 @@ pub(crate) fn work_of_call(
             },
             call,
         } => work_of_next(host, alloc, *worker, *phase, *number, call),
-        _ => Ok(idle()),
+        // Handlers make no others.
+        _ => unreachable!(),
     }
 }

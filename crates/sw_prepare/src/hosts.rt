@@ -1,13 +1,13 @@
 //! The host's events, worked out.
 
-ghost use Rattle.std.specs.Prelude.{◌≡◌, option_copied, IfOk};
+ghost use Rattle.std.specs.Prelude.{◌≡◌, true, option_copied, IfOk, IsSome};
 ghost use Rattle.sw_data.specs.declared.events.Who.TheVariants as maker;
 ghost use Rattle.sw_data.specs.Events.{who_of};
 ghost use Rattle.sw_laws.specs.Coherent.{Coherent};
 ghost use Rattle.sw_rules.specs.Caching.{added};
 ghost use Rattle.sw_rules.specs.Installing as rules;
 ghost use Rattle.sw_rules.specs.Registering.{run};
-ghost use Rattle.sw_rules.specs.Step.{step};
+ghost use Rattle.sw_rules.specs.Step.{enabled, step};
 ghost use Rattle.sw_work.specs.Hosted.{SameRows, state_of};
 ghost use Rattle.sw_work.specs.Plans.{Works};
 
@@ -18,44 +18,45 @@ use sw_data::{Event, FetchLine, NoMemory};
 use sw_install::Rows;
 use sw_work::{HostTables, Work, fetch_ended, fetched_of, run_work};
 
-// The run of a job. Where the job isn't there it isn't enabled, and any work fits.
+// The run of a job, which may run.
 fn work_of_run(host: &mut HostTables, alloc: Global, job: u32) -> Result<Work, NoMemory>
+    requires { IsSome (run (state_of host.old) job) }
     ensures same { SameRows host.old host.new }
     ensures works { IfOk result (Works host.old host.new (run (state_of host.old) job)) }
 {
-    match host.queues.row(job) {
-        Some(row) => run_work(
-            alloc,
-            job,
-            row,
-            &mut host.map,
-            &mut host.registrations,
-            &mut host.clients,
-            &mut host.preloads,
-            &mut host.draws,
-        ),
-        None => Ok(Work::Evaluated(job)),
-    }
+    let Some(row) = host.queues.row(job) else {
+        unreachable!();
+    };
+    run_work(
+        alloc,
+        job,
+        row,
+        &mut host.map,
+        &mut host.registrations,
+        &mut host.clients,
+        &mut host.preloads,
+        &mut host.draws,
+    )
 }
 
-// The end of the fetch of a job's script. Where the job isn't there, or has no registration, it isn't enabled, and any
-// work fits.
+// The end of the fetch of a job's script, which is in flight.
 fn work_of_fetched(
     host: &mut HostTables,
     alloc: Global,
     job: u32,
     line: Option<&FetchLine>,
 ) -> Result<Work, NoMemory>
-    requires { Coherent (state_of host.old) }
+    requires coherent { Coherent (state_of host.old) }
+    requires ends { IsSome (rules.fetched (state_of host.old) job (option_copied line)) }
     ensures same { SameRows host.old host.new }
     ensures works { IfOk result (Works host.old host.new
         (rules.fetched (state_of host.old) job (option_copied line.entry))) }
 {
     let Some(row) = host.queues.row(job) else {
-        return Ok(Work::Evaluated(job));
+        unreachable!();
     };
     let Some(registration) = row.registration else {
-        return Ok(Work::Evaluated(job));
+        unreachable!();
     };
     let (outcome, worker) = fetch_ended(
         alloc,
@@ -73,27 +74,24 @@ fn work_of_fetched(
     Ok(Work::Fetched { job, outcome, rows })
 }
 
-// What the end of an addAll's fetches comes to. Any work fits one that has settled, or isn't there, since its end isn't
-// enabled.
+// What the end of the fetches of an addAll comes to, which has not settled.
 fn work_of_added(
     host: &mut HostTables,
     alloc: Global,
     task: u32,
     lines: &[Option<FetchLine>],
 ) -> Result<Work, NoMemory>
+    requires { IsSome (added (state_of host.old) task lines.now) }
     ensures same { SameRows host.old host.new }
     ensures works { IfOk result
         (Works host.old host.new (added (state_of host.old) task lines.now)) }
 {
-    if !host.is_unsettled(task) {
-        return Ok(Work::Evaluated(task));
-    }
     let step = added(alloc, task, lines, &mut host.caches, &host.tasks)?;
     Ok(Work::Added { task, step })
 }
 
-// What an event of the host comes to. Any work fits an event that the host doesn't make, since it isn't
-// enabled.
+// What an event of the host comes to.
+#[tactic(auto, unfolding(sw_rules::specs::Step::step, sw_data::specs::Events::who_of))]
 pub(crate) fn work_of_host(
     host: &mut HostTables,
     alloc: Global,
@@ -101,6 +99,7 @@ pub(crate) fn work_of_host(
 ) -> Result<Work, NoMemory>
     requires coherent { Coherent (state_of host.old) }
     requires who { who_of event.now ≡ maker.Host }
+    requires enabled { enabled (state_of host.old) event.now ≡ true }
     ensures same { SameRows host.old host.new }
     ensures works { IfOk result
         (Works host.old host.new (step (state_of host.old) event.now)) }
@@ -114,6 +113,7 @@ pub(crate) fn work_of_host(
         Event::Activated { worker, .. } => Ok(Work::Activated(*worker)),
         Event::Added { task, lines, .. } => { work_of_added(host, alloc, *task, lines.as_slice()) }
         Event::Forget { place, .. } => work_of_forget(host, alloc, place),
-        _ => Ok(Work::Evaluated(0)),
+        // The host makes no others.
+        _ => unreachable!(),
     }
 }

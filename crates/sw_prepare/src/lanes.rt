@@ -10,15 +10,15 @@ ghost use Rattle.sw_data.specs.Events.{is_lane, who_of};
 ghost use Rattle.sw_laws.specs.Coherent.{Coherent};
 ghost use Rattle.sw_pages.specs.Acts as pages;
 ghost use Rattle.sw_rules.specs.Caching as rules;
-ghost use Rattle.sw_rules.specs.Step.{step};
+ghost use Rattle.sw_rules.specs.Step.{enabled, step};
 ghost use Rattle.sw_work.specs.Hosted.{Hosted, SameRows, state_of};
 ghost use Rattle.sw_work.specs.Plans.{FitsAsked, FitsWork, IsAsked, Means, Works};
 
 use crate::asked::{asked, then_of};
 use crate::pages::{
-    await_value, begin, claim_in, close, end, idle, open, preload_state, preload_switch,
-    preload_value, ready_value, register_script, registration, registrations_of, skip_waiting_in,
-    soft_update, unregister, update,
+    await_value, begin, claim_in, close, end, open, preload_state, preload_switch, preload_value,
+    ready_value, register_script, registration, registrations_of, skip_waiting_in, soft_update,
+    unregister, update,
 };
 use std::alloc::Global;
 use sw_cachestorage::{
@@ -43,7 +43,7 @@ fn answered(answer: Answer) -> Asked
     }
 }
 
-// What an action of a page comes to, where it is enabled.
+// What an action of a page comes to.
 #[tactic(auto, unfolding(sw_rules::specs::Step::step, sw_data::specs::Events::who_of))]
 fn page(
     host: &mut HostTables,
@@ -55,6 +55,7 @@ fn page(
     requires coherent { Coherent (state_of host.old) }
     requires who { who_of event.now ≡ maker.Lane lane at }
     requires page { is_of_storage event.now ≡ false }
+    requires enabled { enabled (state_of host.old) event.now ≡ true }
     ensures same { SameRows host.old host.new }
     ensures fits { IfOk result (λ worked. FitsHost worked host.new) }
     ensures gives { IfOk result (λ worked. IfSome (step (state_of host.old) event.now)
@@ -86,7 +87,7 @@ fn page(
         Event::PreloadValue { of, value, .. } => preload_value(host, alloc, of, value),
         Event::PreloadState { of, .. } => preload_state(host, alloc, of),
         // No lane makes the others.
-        _ => Ok(idle()),
+        _ => unreachable!(),
     }
 }
 
@@ -101,6 +102,7 @@ fn work_of_page(
     requires coherent { Coherent (state_of host.old) }
     requires who { who_of event.now ≡ maker.Lane lane at }
     requires page { is_of_storage event.now ≡ false }
+    requires enabled { enabled (state_of host.old) event.now ≡ true }
     ensures same { SameRows host.old host.new }
     ensures works { IfOk result (Works host.old host.new (step (state_of host.old) event.now)) }
 {
@@ -243,6 +245,7 @@ pub(crate) fn work_of_lane(
 ) -> Result<Work, NoMemory>
     requires coherent { Coherent (state_of host.old) }
     requires who { who_of event.now ≡ maker.Lane lane at }
+    requires enabled { enabled (state_of host.old) event.now ≡ true }
     ensures same { SameRows host.old host.new }
     ensures works { IfOk result (Works host.old host.new (step (state_of host.old) event.now)) }
 {

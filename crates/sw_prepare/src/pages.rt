@@ -1,6 +1,6 @@
 //! Actions of pages, worked out on the tables of a host.
 
-ghost use Rattle.std.specs.Prelude.{◌≡◌, ℕ, IfOk, IfSome, option_copied};
+ghost use Rattle.std.specs.Prelude.{◌≡◌, ℕ, Some, IfOk, IsSome, option_copied};
 ghost use Rattle.sw_prepare.specs.Paged.{FitsHost, Gives, MayGive};
 ghost use Rattle.sw_data.specs.declared.events.Who.TheVariants as maker;
 ghost use Rattle.sw_laws.specs.Coherent.{Coherent};
@@ -11,23 +11,11 @@ ghost use Rattle.sw_rules.specs.Registering as registering;
 ghost use Rattle.sw_work.specs.Hosted.{SameRows, state_of};
 
 use std::alloc::Global;
-use sw_data::{Answer, ClientScope, NoMemory, Registering, Slot, Text};
+use sw_data::{ClientScope, NoMemory, Registering, Slot, Text};
 use sw_pages::{
-    PageAct, Worked, await_promise, claim, close_client, open_client, ready, registration_at,
-    skip_waiting,
+    Worked, await_promise, claim, close_client, open_client, ready, registration_at, skip_waiting,
 };
 use sw_work::HostTables;
-
-// What stands for an action that isn't enabled, of which nothing is asked.
-pub(crate) fn idle() -> Worked
-    ensures { result ≡ record { answer = Answer.Ok; act = PageAct.Nothing; awaited = None } }
-{
-    Worked {
-        answer: Answer::Ok,
-        act: PageAct::Nothing,
-        awaited: None,
-    }
-}
 
 // A client opens.
 pub(crate) fn open(
@@ -137,33 +125,28 @@ pub(crate) fn unregister(
 
 // The value of the promise of an action of this lane.
 pub(crate) fn await_value(host: &HostTables, lane: u32, of: u32) -> Worked
+    requires { (at : ℕ) → IsSome (clients.await (state_of host.now) (maker.Lane lane at) of) }
     ensures fits { FitsHost result host.now }
-    ensures gives { (at : ℕ) → IfSome
-        (clients.await (state_of host.now) (maker.Lane lane at) of)
-        (λ outcome. outcome
-        ≡ outcome_of (maker.Lane lane at) result (state_of host.now)) }
+    ensures gives { (at : ℕ) → clients.await (state_of host.now) (maker.Lane lane at) of
+        ≡ Some (outcome_of (maker.Lane lane at) result (state_of host.now)) }
 {
-    match await_promise(lane, of, &host.promises, &host.queues, &host.tasks) {
-        Some(worked) => worked,
-        None => idle(),
-    }
+    await_promise(lane, of, &host.promises, &host.queues, &host.tasks).unwrap()
 }
 
-// The registration that a client's address matches, once it has an active worker.
+// The registration that a client's address matches, which has an active worker.
 pub(crate) fn ready_value(host: &HostTables, client: u32) -> Worked
+    requires { IsSome (clients.ready (state_of host.now) client) }
     ensures fits { FitsHost result host.now }
     ensures gives { MayGive (λ state who. clients.ready state client) result host.now }
 {
-    match ready(
+    ready(
         client,
         &host.map,
         &host.workers,
         &host.registrations,
         &host.clients,
-    ) {
-        Some(worked) => worked,
-        None => idle(),
-    }
+    )
+    .unwrap()
 }
 
 // The registration that an address matches.
@@ -249,16 +232,13 @@ pub(crate) fn claim_in(
 // A fetch event of a client begins on its controller.
 pub(crate) fn begin(host: &mut HostTables, client: u32, event: u32) -> Result<Worked, NoMemory>
     requires coherent { Coherent (state_of host.old) }
+    requires enabled { IsSome (clients.begin (state_of host.old) client event) }
     ensures same { SameRows host.old host.new }
     ensures fits { IfOk result (λ worked. FitsHost worked host.new) }
     ensures gives { IfOk result (λ worked. MayGive (λ state who.
         clients.begin state client event) worked host.old) }
 {
-    match sw_pages::begin(client, event, &mut host.workers, &host.clients) {
-        Ok(Some(worked)) => Ok(worked),
-        Ok(None) => Ok(idle()),
-        Err(why) => Err(why),
-    }
+    Ok(sw_pages::begin(client, event, &mut host.workers, &host.clients)?.unwrap())
 }
 
 // A fetch event ends.

@@ -1,5 +1,5 @@
 -- Calls of handlers that were worked out: what they come to, and that they fit.
-use Rattle.std.proofs.Common.{◌≡◌, ◌∙◌, ◌==◌, ℕ, Bool, true, false, List, [], ◌++◌, map, length, Option, Some, None, IfSome, option_map, option_and_then, is_some, nat_lt, slice_get, refl, sym, ap, subst, arith, if◌then◌else◌}
+use Rattle.std.proofs.Common.{◌≡◌, ◌∙◌, ◌==◌, ℕ, Bool, true, false, List, [], ◌++◌, map, length, Option, Some, None, IfSome, IsSome, option_map, option_and_then, is_some, nat_lt, slice_get, refl, sym, ap, subst, arith, if◌then◌else◌}
 use Rattle.std.specs.Option.{option_map_or}
 use Rattle.std.specs.Prelude.{IfOk, Result, Ok, Err}
 use Rattle.std.proofs.lemmas.Bool.{and_parts}
@@ -311,7 +311,16 @@ module _ (scopes : Scopes) (of_workers : workers.Table) (of_registrations : regi
 
 -- ---- the next call of a handler
 
-module _ (host : Hosted) (worker : ℕ) (in_phase : Phase) (number : ℕ) (asked : Call) (P : Outcome → Type 0) where
+-- the row of a worker is that of its number
+pub own_row : (host : Hosted) (worker : ℕ) (row : WorkerRow) → worker_at worker host.workers.rows ≡ Some row → HasRow row host
+own_row host worker row there =
+    subst (λ (n : ℕ). worker_at n host.workers.rows ≡ Some row)
+    (sym (found_number (λ (w : WorkerRow). w.number) worker host.workers.rows row there)) there
+
+module _ (host : Hosted) (worker : ℕ) (in_phase : Phase) (number : ℕ) (asked : Call) where
+  abbrev comes : Option Outcome
+  comes = make_call (state_of host) (who.Handler worker in_phase number) asked
+
   abbrev next_of : Worker → Option Outcome
   next_of row =
       if is_next_call (state_of host) row in_phase number asked
@@ -325,10 +334,9 @@ module _ (host : Hosted) (worker : ℕ) (in_phase : Phase) (number : ℕ) (asked
       found
 
   -- what holds of the next call of a worker holds of what its event comes to
-  pub next_holds : (row : WorkerRow) (of : RegistrationRow) → worker_at worker host.workers.rows ≡ Some row → registration_at row.registration host.registrations.rows ≡ Some of
-      → P (noted_call (who.Handler worker in_phase number) in_phase row of.key asked (state_of host))
-      → IfSome (make_call (state_of host) (who.Handler worker in_phase number) asked) P
-  next_holds row of there held holds =
+  pub next_holds : (P : Outcome → Type 0) (row : WorkerRow) (of : RegistrationRow) → worker_at worker host.workers.rows ≡ Some row → registration_at row.registration host.registrations.rows ≡ Some of
+      → P (noted_call (who.Handler worker in_phase number) in_phase row of.key asked (state_of host)) → IfSome comes P
+  next_holds P row of there held holds =
       subst (λ (o : Option Worker). IfSome (option_and_then next_of o) P) (sym (row_shown host worker row there))
       (by (is_next_call (state_of host) (shown_worker row) in_phase number asked))
     where
@@ -336,66 +344,26 @@ module _ (host : Hosted) (worker : ℕ) (in_phase : Phase) (number : ℕ) (asked
       by true = subst (λ (o : Option Registration). IfSome (noted_for row o) P) (sym (of_shown host.scopes host.workers host.registrations host.clients (rest_of host) row of held)) holds
       by false = tt
 
-module _ (host : Hosted) (worker : ℕ) (in_phase : Phase) (number : ℕ) (asked : Call) (work : Work) where
-  -- what the next call comes to is the meaning of a work
-  abbrev IsMeant : Option Outcome → Type 0
-  IsMeant comes = IfSome comes (Means work host)
-
-  abbrev comes : Option Outcome
-  comes = make_call (state_of host) (who.Handler worker in_phase number) asked
-
-  abbrev next : Worker → Option Outcome
-  next row =
-      if is_next_call (state_of host) row in_phase number asked
-      then call_by (state_of host) (who.Handler worker in_phase number) row in_phase asked
-      else None
-
-  pub no_worker : worker_at worker host.workers.rows ≡ None → IsMeant comes
-  no_worker gone =
-      subst (λ (o : Option Worker). IsMeant (option_and_then next o))
-      (sym (worker_shown worker host.workers.rows ∙ ap (option_map shown_worker) gone)) tt
+  -- the worker whose handler makes a call is there
+  pub no_worker : IsSome comes → worker_at worker host.workers.rows ≡ None → ⊥
+  no_worker happens gone =
+      let none = worker_shown worker host.workers.rows ∙ ap (option_map shown_worker) gone in
+      grind (arith, happens, none)
 
   module _ (row : WorkerRow) (there : worker_at worker host.workers.rows ≡ Some row) where
-    pub own_row : HasRow row host
-    own_row =
-        subst (λ (n : ℕ). worker_at n host.workers.rows ≡ Some row)
-        (sym (found_number (λ (w : WorkerRow). w.number) worker host.workers.rows row there)) there
+    happens_by : IsSome comes → IsSome (next_of (shown_worker row))
+    happens_by = subst (λ (o : Option Worker). IsSome (option_and_then next_of o)) (row_shown host worker row there)
 
-    by_row : IsMeant (next (shown_worker row)) → IsMeant comes
-    by_row means = subst (λ (o : Option Worker). IsMeant (option_and_then next o)) (sym (row_shown host worker row there)) means
+    -- and so is its registration
+    pub no_registration : IsSome comes → registration_at row.registration host.registrations.rows ≡ None → ⊥
+    no_registration happens gone =
+        let none =
+        find_map (is_registration row.registration) (shown_registration host.scopes (rest_of host)) host.registrations.rows
+        ∙ ap (option_map (shown_registration host.scopes (rest_of host))) gone in
+        let by = happens_by happens in
+        grind (arith, by, none)
 
-    abbrev by_registration : Option Registration → Option Outcome
-    by_registration found =
-        option_map
-        (λ r. noted (called (state_of host) (who.Handler worker in_phase number) (shown_worker row) in_phase r.key asked) row.number)
-        found
-
-    pub no_registration : registration_at row.registration host.registrations.rows ≡ None → IsMeant comes
-    no_registration gone = by_row (by (is_next_call (state_of host) (shown_worker row) in_phase number asked))
-      where
-        none : registration_row (state_of host) row.registration ≡ None
-        none =
-            find_map (is_registration row.registration) (shown_registration host.scopes (rest_of host)) host.registrations.rows
-            ∙ ap (option_map (shown_registration host.scopes (rest_of host))) gone
-
-        by : (is_next : Bool) → IsMeant (if is_next then call_by (state_of host) (who.Handler worker in_phase number) (shown_worker row) in_phase asked else None)
-        by true = subst (λ (o : Option Registration). IsMeant (by_registration o)) (sym none) tt
-        by false = tt
-
-    pub next_means : (of : RegistrationRow) → registration_at row.registration host.registrations.rows ≡ Some of
-        → Means work host (noted_call (who.Handler worker in_phase number) in_phase row of.key asked (state_of host)) → IsMeant comes
-    next_means of held means = next_holds host worker in_phase number asked (Means work host) row of there held means
-
-    pub works_next : (new : Hosted) (of : RegistrationRow) (called_for : Call) → registration_at row.registration host.registrations.rows ≡ Some of → asked ≡ called_for
-        → Means work host (noted_call (who.Handler worker in_phase number) in_phase row of.key called_for (state_of host)) → FitsWork work new → Works host new comes work
-    works_next new of called_for held is means fits = record {
-      means =
-          next_means of held
-          (subst (λ (k : Call). Means work host (noted_call (who.Handler worker in_phase number) in_phase row of.key k (state_of host))) (sym is) means);
-      fits = fits;
-    }
-
-    -- a handler that has made all its calls has no next one
+    -- and its handler has calls left
     same_phases : (one other : Phase) → same_phase one other ≡ true → one ≡ other
     same_phases phase.Install phase.Install is = refl
     same_phases phase.Install phase.Activate is = absurd cc
@@ -432,16 +400,21 @@ module _ (host : Hosted) (worker : ℕ) (in_phase : Phase) (number : ℕ) (asked
         free_runs _ (option_and_then (λ (w : Worker). w.handler) (worker_row (state_of host) row.number)) parts.0 in
         let at_it =
         ap (λ (o : Option Worker). option_map_or (is_at in_phase number) (option_and_then (λ (w : Worker). w.handler) o) false)
-        (sym (row_shown host row.number row own_row))
+        (sym (row_shown host row.number row (own_row host worker row there)))
         ∙ runs in
         let below = within (rules.calls_of (shown_worker row) in_phase) parts.1 in
         left_by row.handler at_it
         (ap (λ (calls : List Call). nat_lt number (length calls)) (sym (same_calls (shown_worker row) in_phase)) ∙ below)
 
-    pub no_calls : workers.has_calls_left row ≡ false → IsMeant comes
-    no_calls over = by_row (by (is_next_call (state_of host) (shown_worker row) in_phase number asked) refl)
-      where
-        by : (is_next : Bool) → is_next_call (state_of host) (shown_worker row) in_phase number asked ≡ is_next
-            → IsMeant (if is_next then call_by (state_of host) (who.Handler worker in_phase number) (shown_worker row) in_phase asked else None)
-        by true is = let left = next_left is in absurd cc
-        by false is = tt
+    pub calls_left : IsSome comes → workers.has_calls_left row ≡ true
+    calls_left happens = let by = happens_by happens in next_left (grind (arith, by))
+
+    -- what was worked out for it
+    pub works_next : (new : Hosted) (of : RegistrationRow) (called_for : Call) (work : Work) → registration_at row.registration host.registrations.rows ≡ Some of → asked ≡ called_for
+        → Means work host (noted_call (who.Handler worker in_phase number) in_phase row of.key called_for (state_of host)) → FitsWork work new → Works host new comes work
+    works_next new of called_for work held is means fits = record {
+      means =
+          next_holds (Means work host) row of there held
+          (subst (λ (k : Call). Means work host (noted_call (who.Handler worker in_phase number) in_phase row of.key k (state_of host))) (sym is) means);
+      fits = fits;
+    }

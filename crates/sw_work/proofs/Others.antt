@@ -1,5 +1,5 @@
--- Events that the host doesn't make.
-use Rattle.std.proofs.Common.{◌≡◌, ℕ, List, Option, Some, None, refl, sym, subst}
+-- What an event that the host makes comes to.
+use Rattle.std.proofs.Common.{◌≡◌, ℕ, List, Option, Some, refl, sym, subst}
 use Rattle.sw_data.specs.declared.events.Event.{Event}
 use Rattle.sw_data.specs.declared.events.Event.TheVariants as event
 use Rattle.sw_data.specs.declared.events.Who.{Who}
@@ -14,63 +14,6 @@ use Rattle.sw_rules.specs.Installing.{evaluated, fetched, installed}
 use Rattle.sw_rules.specs.Registering.{run}
 use Rattle.sw_rules.specs.Step.{by_host, by_page, step}
 use Rattle.sw_rules.specs.Told.{Outcome}
-
--- own: an event is none of those that the host makes
-pub record IsOther (happened : Event) : Type 0 where
-  pub run : (w : Who) (job : ℕ) → happened ≡ event.Run w job → ⊥
-  pub fetched : (w : Who) (job : ℕ) (line : Option FetchLine) → happened ≡ event.Fetched w job line → ⊥
-  pub evaluated : (w : Who) (job : ℕ) → happened ≡ event.Evaluated w job → ⊥
-  pub installed : (w : Who) (job : ℕ) → happened ≡ event.Installed w job → ⊥
-  pub tries : (w : Who) (registration : ℕ) → happened ≡ event.TryActivate w registration → ⊥
-  pub activated : (w : Who) (worker : ℕ) → happened ≡ event.Activated w worker → ⊥
-  pub added : (w : Who) (task : ℕ) (lines : List (Option FetchLine)) → happened ≡ event.Added w task lines → ⊥
-  pub forgets : (w : Who) (place : Place) → happened ≡ event.Forget w place → ⊥
-
--- such an event isn't enabled where the host is its maker
-pub host_rests : (state : State) (happened : Event) → who_of happened ≡ who.Host → IsOther happened → step state happened ≡ None
-unfolding step who_of
-host_rests state (event.Open who.Host client url partition) is rest = refl
-host_rests state (event.Close who.Host client) is rest = refl
-host_rests state (event.Register who.Host asked) is rest = refl
-host_rests state (event.Update who.Host of) is rest = refl
-host_rests state (event.SoftUpdate who.Host of) is rest = refl
-host_rests state (event.Unregister who.Host of) is rest = refl
-host_rests state (event.Await who.Host of) is rest = refl
-host_rests state (event.Ready who.Host client) is rest = refl
-host_rests state (event.Registration who.Host client url) is rest = refl
-host_rests state (event.Registrations who.Host client) is rest = refl
-host_rests state (event.SkipWaiting who.Host of place) is rest = refl
-host_rests state (event.Claim who.Host of place) is rest = refl
-host_rests state (event.Begin who.Host client number) is rest = refl
-host_rests state (event.End who.Host number) is rest = refl
-host_rests state (event.CacheOpen who.Host place name) is rest = refl
-host_rests state (event.CacheHas who.Host place name) is rest = refl
-host_rests state (event.CacheDelete who.Host place name) is rest = refl
-host_rests state (event.CacheKeys who.Host place) is rest = refl
-host_rests state (event.Match who.Host place asked) is rest = refl
-host_rests state (event.MatchAll who.Host place asked) is rest = refl
-host_rests state (event.Keys who.Host place asked) is rest = refl
-host_rests state (event.Put who.Host place put) is rest = refl
-host_rests state (event.Delete who.Host place asked) is rest = refl
-host_rests state (event.Batch who.Host place asked) is rest = refl
-host_rests state (event.AddAll who.Host place asked) is rest = refl
-host_rests state (event.PreloadEnable who.Host of) is rest = refl
-host_rests state (event.PreloadDisable who.Host of) is rest = refl
-host_rests state (event.PreloadValue who.Host of text) is rest = refl
-host_rests state (event.PreloadState who.Host of) is rest = refl
-host_rests state (event.Call who.Host call) is rest = refl
-host_rests state (event.Restarted who.Host) is rest = refl
-host_rests state (event.Run w job) is rest = absurd (rest.run w job refl)
-host_rests state (event.Fetched w job line) is rest = absurd (rest.fetched w job line refl)
-host_rests state (event.Evaluated w job) is rest = absurd (rest.evaluated w job refl)
-host_rests state (event.Installed w job) is rest = absurd (rest.installed w job refl)
-host_rests state (event.TryActivate w registration) is rest = absurd (rest.tries w registration refl)
-host_rests state (event.Activated w worker) is rest = absurd (rest.activated w worker refl)
-host_rests state (event.Added w task lines) is rest = absurd (rest.added w task lines refl)
-host_rests state (event.Forget w place) is rest = absurd (rest.forgets w place refl)
-host_rests state _ is rest = absurd cc
-
--- ---- events that the host makes
 
 by_host_is : (w : Who) (o : Option Outcome) → w ≡ who.Host → by_host w o ≡ o
 by_host_is w o is = subst (λ (x : Who). by_host x o ≡ o) (sym is) refl

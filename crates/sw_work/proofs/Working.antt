@@ -49,10 +49,6 @@ pub some_is : {X : Type 0} (o : Option X) → IfSome o (λ x. o ≡ Some x)
 some_is None = tt
 some_is (Some x) = refl
 
--- nothing is asked of what isn't there
-pub none_if : {X : Type 0} (P : X → Type 0) (o : Option X) → o ≡ None → IfSome o P
-none_if {X = X} P o is = subst (λ (p : Option X). IfSome p P) (sym is) tt
-
 -- what an event comes to is what it is
 pub comes_so : {X : Type 0} (o p : Option X) → o ≡ p → IfSome o (λ x. p ≡ Some x)
 comes_so {X = X} o p is = subst (λ (q : Option X). IfSome q (λ x. p ≡ Some x)) (sym is) (some_is p)
@@ -63,10 +59,6 @@ if_some_map P Q to (Some x) is = to x is
 if_some_map P Q to None is = is
 
 -- ---- the run of a job
-
--- a job that isn't there doesn't run
-pub none_runs : (state : State) (job : ℕ) → find (is_job job) state.jobs ≡ None → run state job ≡ None
-none_runs state job none = grind (arith, none)
 
 module _ (job : ℕ) (row : JobRow) where
   fetch_fits : (fetch : NewFetch) (host : Hosted) → find (is_job job) host.queues.rows ≡ Some row
@@ -138,14 +130,6 @@ module _ (job : ℕ) (row : JobRow) where
 -- ---- the end of a fetch
 
 module _ (job : ℕ) (line : Option FetchLine) where
-  -- the fetch of a job that isn't there doesn't end
-  pub none_fetched : (state : State) → find (is_job job) state.jobs ≡ None → fetched state job line ≡ None
-  none_fetched state none = grind (arith, none)
-
-  -- nor that of a job without registration
-  pub unowned_fetched : (state : State) (row : JobRow) → find (is_job job) state.jobs ≡ Some row → row.registration ≡ None → fetched state job line ≡ None
-  unowned_fetched state row found none = grind (arith, found, none)
-
   comes_to : (given : FetchOutcome) (made : Option WorkerRow) (state : State) (row : JobRow) (registration : ℕ)
       → find (is_job job) state.jobs ≡ Some row → row.registration ≡ Some registration → IsOutcome given made state row (fetched_of line) registration
       → ComesTo given made state job line

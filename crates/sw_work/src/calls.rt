@@ -33,8 +33,7 @@ use sw_cachestorage::{
     put_response,
 };
 use sw_data::{
-    Answer, CacheAddAll, Call, Fault, Handlers, Items, NoMemory, Phase, RegistrationRow,
-    StateCause, Who, WorkerRow,
+    Answer, CacheAddAll, Call, Fault, NoMemory, Phase, RegistrationRow, StateCause, Who, WorkerRow,
 };
 use sw_ledgers::{Draws, Tasks};
 use sw_pages::{PageAct, Worked, claim_of, skip_waiting_of, update_named};
@@ -53,17 +52,6 @@ fn called(worker: u32, answer: &Answer) -> Then
         worker,
         fault: matches!(answer, Answer::Fault(_)),
     }
-}
-
-/// The work of an event that isn't enabled, of which nothing is asked.
-pub fn idle() -> Work
-    ensures { (host : Hosted) → FitsWork result host }
-{
-    Work::Asked(Asked {
-        answer: Answer::Ok,
-        act: Act::Page(PageAct::Nothing),
-        then: Then::Nothing,
-    })
 }
 
 // The work of a call on caches that was worked out.
@@ -296,29 +284,4 @@ pub fn add_all_work(
 {
     let step = add_all(alloc, by, &row.script, &of.key, asked, caches, tasks, draws)?;
     Ok(begun_work(row.number, step))
-}
-
-// ---- the calls that are left
-
-// The calls of the handler of a phase.
-fn calls_of(phase: Phase, handlers: &Handlers) -> &Items<Call>
-    ensures { result.now ≡ workers_of.calls_of phase handlers.now }
-{
-    match phase {
-        Phase::Install => &handlers.install,
-        Phase::Activate => &handlers.activate,
-    }
-}
-
-/// Whether a handler of a worker runs that has calls left.
-pub fn has_calls_left(row: &WorkerRow) -> bool
-    ensures { result ≡ workers_of.has_calls_left row.now }
-{
-    match row.handler {
-        Some(handler) => {
-            let calls = calls_of(handler.phase, &row.handlers).as_slice();
-            (handler.made as usize) < calls.len()
-        }
-        None => false,
-    }
 }

@@ -13,9 +13,7 @@ pub use answers::{
     activate_answer, draw_where, evaluated_answer, fetched_answer, finished_answer,
     installed_answer, ok_answer, ran_answer,
 };
-pub use calls::{
-    add_all_work, caches_work, claim_work, has_calls_left, idle, skip_work, update_work,
-};
+pub use calls::{add_all_work, caches_work, claim_work, skip_work, update_work};
 pub use fetches::{fetch_ended, fetched_of};
 pub use plan::{Act, Asked, NewFetch, Plan, Reply, Then, Work};
 pub use runs::run_work;

@@ -1,7 +1,7 @@
 use Rattle.std.proofs.Common.{◌∙◌, sym, ap}
 use Rattle.std.specs.Prelude.{is_some}
 use Rattle.sw_next.proofs.Enabling.{activated_where, added_where, tried_where}
-use Rattle.sw_work.proofs.Others.{activated_comes, added_comes, evaluated_comes, fetched_comes, forgets_comes, host_rests, installed_comes, run_comes, tries_comes}
+use Rattle.sw_work.proofs.Others.{activated_comes, added_comes, evaluated_comes, fetched_comes, forgets_comes, installed_comes, run_comes, tries_comes}
 use Rattle.sw_work.specs.Hosted.{state_of}
 use Rattle.sw_next.proofs.events.host_enabled.Goals as goal
 
@@ -45,17 +45,3 @@ returns-in-Added c =
 pub returns-in-Forget : goal.returns-in-Forget
 returns-in-Forget c =
     sym (ap is_some (forgets_comes (state_of c.args.host.now) c.args.event.now c.in-Forget.who c.in-Forget.place c.requires c.in-Forget.is))
-
-pub returns-in_default : goal.returns-in_default
-returns-in_default c =
-    sym (ap is_some (host_rests (state_of c.args.host.now) c.args.event.now c.requires
-    (record {
-      run = c.in_default.not-Run;
-      fetched = c.in_default.not-Fetched;
-      evaluated = c.in_default.not-Evaluated;
-      installed = c.in_default.not-Installed;
-      tries = c.in_default.not-TryActivate;
-      activated = c.in_default.not-Activated;
-      added = c.in_default.not-Added;
-      forgets = c.in_default.not-Forget;
-    })))

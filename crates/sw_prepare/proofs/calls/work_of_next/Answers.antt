@@ -1,9 +1,12 @@
 -- The next call of a handler.
-use Rattle.std.proofs.Common.{Some, refl, sym, ap, subst}
+use Rattle.std.proofs.Common.{◌≡◌, ℕ, true, Some, IsSome, refl, sym, ap, subst}
 use Rattle.sw_prepare.proofs.Same.{same_refl}
+use Rattle.sw_data.specs.declared.events.Who.{Who}
 use Rattle.sw_data.specs.declared.events.Who.TheVariants as maker
+use Rattle.sw_data.specs.declared.recordings.Call.{Call}
 use Rattle.sw_data.specs.declared.recordings.Call.TheVariants as call
 use Rattle.sw_data.specs.declared.rows.WorkerRow.{WorkerRow}
+use Rattle.sw_data.specs.declared.workers.Phase.{Phase}
 use Rattle.sw_laws.specs.Coherent.{Coherent}
 use Rattle.sw_rules.specs.Calls.{make_call}
 use Rattle.sw_tables.proofs.Rows.{found_number}
@@ -11,35 +14,52 @@ use Rattle.sw_work.specs.contracts.tables.HostTables.{the_view}
 use Rattle.sw_work.specs.Hosted.{Hosted, SameRows, state_of}
 use Rattle.sw_work.specs.Plans.{Works}
 use Rattle.sw_work.specs.declared.plan.Work.{Work}
-use Rattle.sw_work.proofs.Calling.{both_ok, no_calls, no_registration, no_worker, own_row, works_next}
+use Rattle.sw_work.proofs.Calling.{both_ok, calls_left, no_registration, no_worker, own_row, works_next}
+use Rattle.sw_worker.specs.Table.{has_calls_left, worker_at}
 use Rattle.sw_prepare.proofs.calls.work_of_next.Goals as goal
 
-pub returns-in_default-clause-works : goal.returns-in_default-clause-works
-returns-in_default-clause-works c =
-    let host : Hosted = the_view c.host.inside in
-    subst (λ (h : Hosted). Works h h (make_call (state_of h) (maker.Handler c.args.worker c.args.phase c.args.number) c.args.call.now) c.idle.result) c.host.view_is
-    (record {
-      means = no_worker host c.args.worker c.args.phase c.args.number c.args.call.now c.idle.result (sym c.in_default.ensures);
-      fits = c.idle.ensures host;
-    })
+-- a call that happens on a host happens on its tables
+happens : (host now : Hosted) (by : Who) (asked : Call) → host ≡ now → IsSome (make_call (state_of now) by asked) → IsSome (make_call (state_of host) by asked)
+happens host now by asked is = subst (λ (h : Hosted). IsSome (make_call (state_of h) by asked)) (sym is)
 
-pub returns-in_default-row-clause-works : goal.returns-in_default-row-clause-works
-returns-in_default-row-clause-works c =
-    let host : Hosted = the_view c.host.inside in
-    subst (λ (h : Hosted). Works h h (make_call (state_of h) (maker.Handler c.args.worker c.args.phase c.args.number) c.args.call.now) c.idle-in_default-row.result) c.host.view_is
-    (record {
-      means = no_registration host c.args.worker c.args.phase c.args.number c.args.call.now c.idle-in_default-row.result c.in-Some.row.now (sym c.in-Some.ensures) (sym c.in_default-row.ensures);
-      fits = c.idle-in_default-row.ensures host;
-    })
+left_at : (host now : Hosted) (worker : ℕ) (in_phase : Phase) (number : ℕ) (asked : Call) (row : WorkerRow) → host ≡ now → worker_at worker host.workers.rows ≡ Some row
+    → IsSome (make_call (state_of now) (maker.Handler worker in_phase number) asked) → has_calls_left row ≡ true
+left_at host now worker in_phase number asked row is there comes =
+    calls_left host worker in_phase number asked row there (happens host now (maker.Handler worker in_phase number) asked is comes)
 
-pub returns-then-not-has_calls_left-clause-works : goal.returns-then-not-has_calls_left-clause-works
-returns-then-not-has_calls_left-clause-works c =
-    let host : Hosted = the_view c.host.inside in
-    subst (λ (h : Hosted). Works h h (make_call (state_of h) (maker.Handler c.args.worker c.args.phase c.args.number) c.args.call.now) c.idle-then-not-has_calls_left.result) c.host.view_is
-    (record {
-      means = no_calls host c.args.worker c.args.phase c.args.number c.args.call.now c.idle-then-not-has_calls_left.result c.in-Some.row.now (sym c.in-Some.ensures) (sym c.if-not-has_calls_left.ensures);
-      fits = c.idle-then-not-has_calls_left.ensures host;
-    })
+pub unreachable-requires : goal.unreachable-requires
+unreachable-requires c =
+    no_worker (the_view c.host.inside) c.args.worker c.args.phase c.args.number c.args.call.now
+    (happens (the_view c.host.inside) c.args.host.now (maker.Handler c.args.worker c.args.phase c.args.number) c.args.call.now c.host.view_is c.requires.next) (sym c.in_default.ensures)
+
+pub unreachable-requires-in_default-row : goal.unreachable-requires-in_default-row
+unreachable-requires-in_default-row c =
+    no_registration (the_view c.host.inside) c.args.worker c.args.phase c.args.number c.args.call.now c.in-Some.row.now (sym c.in-Some.ensures)
+    (happens (the_view c.host.inside) c.args.host.now (maker.Handler c.args.worker c.args.phase c.args.number) c.args.call.now c.host.view_is c.requires.next) (sym c.in_default-row.ensures)
+
+pub skip_work-requires : goal.skip_work-requires
+skip_work-requires c = record {
+  left =
+      left_at (the_view c.host.inside) c.args.host.now c.args.worker c.args.phase c.args.number c.args.call.now c.in-Some.row.now c.host.view_is (sym c.in-Some.ensures) c.requires.next;
+}
+
+pub claim_work-requires : goal.claim_work-requires
+claim_work-requires c = record {
+  left =
+      left_at (the_view c.host.inside) c.args.host.now c.args.worker c.args.phase c.args.number c.args.call.now c.in-Some.row.now c.host.view_is (sym c.in-Some.ensures) c.requires.next;
+}
+
+pub update_work-requires-clause-left : goal.update_work-requires-clause-left
+update_work-requires-clause-left c =
+    left_at (the_view c.host.inside) c.args.host.now c.args.worker c.args.phase c.args.number c.args.call.now c.in-Some.row.now c.host.view_is (sym c.in-Some.ensures) c.requires.next
+
+pub add_all_work-requires-clause-left : goal.add_all_work-requires-clause-left
+add_all_work-requires-clause-left c =
+    left_at (the_view c.host.inside) c.args.host.now c.args.worker c.args.phase c.args.number c.args.call.now c.in-Some.row.now c.host.view_is (sym c.in-Some.ensures) c.requires.next
+
+pub caches_work-requires-clause-left : goal.caches_work-requires-clause-left
+caches_work-requires-clause-left c =
+    left_at (the_view c.host.inside) c.args.host.now c.args.worker c.args.phase c.args.number c.args.call.now c.in-Some.row.now c.host.view_is (sym c.in-Some.ensures) c.requires.next
 
 pub add_all_work-requires-clause-by : goal.add_all_work-requires-clause-by
 add_all_work-requires-clause-by c =
@@ -50,11 +70,11 @@ returns-in-SkipWaiting-clause-works c =
     let host : Hosted = the_view c.host.inside in
     let row = c.in-Some.row.now in
     let there = sym c.in-Some.ensures in
-    let own = own_row host c.args.worker c.args.phase c.args.number c.args.call.now c.skip_work.result row there in
+    let own = own_row host c.args.worker row there in
     let by = maker.Handler c.args.worker c.args.phase c.args.number in
     let sound : Coherent (state_of host) = subst (λ (h : Hosted). Coherent (state_of h)) (sym c.host.view_is) c.requires.coherent in
     subst (λ (h : Hosted). Works h h (make_call (state_of h) by c.args.call.now) c.skip_work.result) c.host.view_is
-    (works_next host c.args.worker c.args.phase c.args.number c.args.call.now c.skip_work.result row there host c.in-Some-row.of.now call.SkipWaiting (sym c.in-Some-row.ensures) c.in-SkipWaiting.is
+    (works_next host c.args.worker c.args.phase c.args.number c.args.call.now row there host c.in-Some-row.of.now call.SkipWaiting c.skip_work.result (sym c.in-Some-row.ensures) c.in-SkipWaiting.is
     (c.skip_work.ensures.means host by c.args.phase c.in-Some-row.of.now.key refl)
     (c.skip_work.ensures.fits host sound own))
 
@@ -63,11 +83,11 @@ returns-in-Claim-clause-works c =
     let host : Hosted = the_view c.host.inside in
     let row = c.in-Some.row.now in
     let there = sym c.in-Some.ensures in
-    let own = own_row host c.args.worker c.args.phase c.args.number c.args.call.now c.claim_work.result row there in
+    let own = own_row host c.args.worker row there in
     let by = maker.Handler c.args.worker c.args.phase c.args.number in
     let sound : Coherent (state_of host) = subst (λ (h : Hosted). Coherent (state_of h)) (sym c.host.view_is) c.requires.coherent in
     subst (λ (h : Hosted). Works h h (make_call (state_of h) by c.args.call.now) c.claim_work.result) c.host.view_is
-    (works_next host c.args.worker c.args.phase c.args.number c.args.call.now c.claim_work.result row there host c.in-Some-row.of.now call.Claim (sym c.in-Some-row.ensures) c.in-Claim.is
+    (works_next host c.args.worker c.args.phase c.args.number c.args.call.now row there host c.in-Some-row.of.now call.Claim c.claim_work.result (sym c.in-Some-row.ensures) c.in-Claim.is
     (c.claim_work.ensures.means host by c.args.phase c.in-Some-row.of.now.key refl)
     (c.claim_work.ensures.fits host sound own))
 
@@ -82,9 +102,9 @@ returns-in-Update-clause-works c =
     (λ (work : Work). Works c.args.host.now new (make_call (state_of c.args.host.now) by c.args.call.now) work)
     (λ work fits means.
     subst (λ (h : Hosted). Works h new (make_call (state_of h) by c.args.call.now) work) c.host.view_is
-    (works_next host c.args.worker c.args.phase c.args.number c.args.call.now work row there new c.in-Some-row.of.now call.Update (sym c.in-Some-row.ensures) c.in-Update.is
+    (works_next host c.args.worker c.args.phase c.args.number c.args.call.now row there new c.in-Some-row.of.now call.Update work (sym c.in-Some-row.ensures) c.in-Update.is
     (means host by refl)
-    (fits host (own_row host c.args.worker c.args.phase c.args.number c.args.call.now work row there))))
+    (fits host (own_row host c.args.worker row there))))
     c.update_work.ensures.fits c.update_work.ensures.means
 
 pub returns-in-AddAll-clause-works : goal.returns-in-AddAll-clause-works
@@ -98,9 +118,9 @@ returns-in-AddAll-clause-works c =
     (λ (work : Work). Works c.args.host.now new (make_call (state_of c.args.host.now) by c.args.call.now) work)
     (λ work fits means.
     subst (λ (h : Hosted). Works h new (make_call (state_of h) by c.args.call.now) work) c.host.view_is
-    (works_next host c.args.worker c.args.phase c.args.number c.args.call.now work row there new c.in-Some-row.of.now (call.AddAll c.in-AddAll.asked) (sym c.in-Some-row.ensures) c.in-AddAll.is
+    (works_next host c.args.worker c.args.phase c.args.number c.args.call.now row there new c.in-Some-row.of.now (call.AddAll c.in-AddAll.asked) work (sym c.in-Some-row.ensures) c.in-AddAll.is
     (means host c.args.phase)
-    (fits host (own_row host c.args.worker c.args.phase c.args.number c.args.call.now work row there))))
+    (fits host (own_row host c.args.worker row there))))
     c.add_all_work.ensures.fits c.add_all_work.ensures.means
 
 pub returns-in_default-call : goal.returns-in_default-call
@@ -115,9 +135,9 @@ returns-in_default-call c =
     (λ (work : Work). Works c.args.host.now new (make_call (state_of c.args.host.now) by c.args.call.now) work)
     (λ work fits means.
     subst (λ (h : Hosted). Works h new (make_call (state_of h) by c.args.call.now) work) c.host.view_is
-    (works_next host c.args.worker c.args.phase c.args.number c.args.call.now work row there new c.in-Some-row.of.now c.args.call.now (sym c.in-Some-row.ensures) refl
+    (works_next host c.args.worker c.args.phase c.args.number c.args.call.now row there new c.in-Some-row.of.now c.args.call.now work (sym c.in-Some-row.ensures) refl
     (means host by c.args.phase)
-    (fits host (own_row host c.args.worker c.args.phase c.args.number c.args.call.now work row there))))
+    (fits host (own_row host c.args.worker row there))))
     c.caches_work.ensures.fits c.caches_work.ensures.means in
     let kept = same_refl host in
     record {

@@ -1,18 +1,40 @@
-use Rattle.std.proofs.Common.{◌≡◌, ◌∙◌, true, Option, is_none, sym, subst}
-use Rattle.std.specs.Option.{IfSome}
+use Rattle.std.proofs.Common.{◌≡◌, ℕ, Bool, true, false, List, Option, Some, None, IsSome, is_none, option_and_then, refl, sym, subst, if◌then◌else◌}
+use Rattle.std.specs.Option.{IfSome, option_map_or}
 use Rattle.sw_cachestorage.specs.Added.{IsAdded}
+use Rattle.sw_data.specs.declared.recordings.FetchLine.{FetchLine}
 use Rattle.sw_work.specs.contracts.tables.HostTables.{the_view}
 use Rattle.sw_ledgers.specs.Tasks.{has_task}
-use Rattle.sw_rules.specs.Caching.{added}
+use Rattle.sw_rules.specs.Caching.{added, task_ended}
+use Rattle.sw_rules.specs.Rows.{task_row}
+use Rattle.sw_rules.specs.State.{State, AddAll}
 use Rattle.sw_rules.specs.Told.{Outcome}
 use Rattle.sw_work.specs.Hosted.{Hosted, state_of}
 use Rattle.sw_prepare.proofs.hosts.work_of_added.Goals as goal
+
+-- an addAll whose fetches may end has not settled
+unsettled : (state : State) (task : ℕ) (lines : List (Option FetchLine)) → IsSome (added state task lines) → has_task (λ row. is_none row.settled) task state.tasks ≡ true
+unsettled state task lines ends = by (task_row state task) ends
+  where
+    taken : (test : Bool) (outcome : Outcome) → IsSome (if test then Some outcome else None) → test ≡ true
+    taken true outcome is = refl
+    taken false outcome is = absurd cc
+
+    by : (found : Option AddAll) → IsSome (option_and_then (λ row. if is_none row.settled then Some (task_ended state lines row) else None) found)
+        → option_map_or (λ row. is_none row.settled) found false ≡ true
+    by None is = absurd cc
+    by (Some row) is = taken (is_none row.settled) (task_ended state lines row) is
+
+pub added-requires : goal.added-requires
+added-requires c = record {
+  unsettled =
+      unsettled (state_of (the_view c.host.inside)) c.args.task c.args.lines.now
+      (subst (λ (h : Hosted). IsSome (added (state_of h) c.args.task c.args.lines.now)) (sym c.host.view_is) c.requires);
+}
 
 pub returns-clause-works : goal.returns-clause-works
 returns-clause-works c =
     let inside : Hosted = the_view c.host.inside in
     let ended = c.in_ok-step.ensures.step (state_of inside) in
-    let is : c.is_unsettled.result ≡ true = cc c.if-not-is_unsettled.false in
     record {
       means =
           subst (λ (h : Hosted). IfSome (added (state_of h) c.args.task c.args.lines.now) (λ outcome. IsAdded outcome (state_of h) c.args.task c.in_ok-step.step)) c.host.view_is
@@ -20,6 +42,7 @@ returns-clause-works c =
       fits = record {
         act = c.in_ok-step.ensures.fits;
         unsettled =
-            subst (λ (h : Hosted). has_task (λ row. is_none row.settled) c.args.task h.tasks.rows ≡ true) (sym c.host.view_is) (sym c.is_unsettled.ensures ∙ is);
+            unsettled (state_of inside) c.args.task c.args.lines.now
+            (subst (λ (h : Hosted). IsSome (added (state_of h) c.args.task c.args.lines.now)) (sym c.host.view_is) c.requires);
       };
     }

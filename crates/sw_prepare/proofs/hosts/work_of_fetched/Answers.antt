@@ -29,7 +29,7 @@ returns-clause-works c =
     let rows : Rows = record { registration = None; scope = None; worker = c.in_ok-outcome.worker } in
     let given = c.in_ok-outcome.outcome in
     let came : Work = work.Fetched c.args.job given rows in
-    let sound = subst (λ (h : Hosted). Coherent (state_of h)) (sym c.host.view_is) c.requires in
+    let sound = subst (λ (h : Hosted). Coherent (state_of h)) (sym c.host.view_is) c.requires.coherent in
     record {
       means =
           subst (λ (h : Hosted). IfSome (fetched (state_of h) c.args.job line) (Means came h)) c.host.view_is

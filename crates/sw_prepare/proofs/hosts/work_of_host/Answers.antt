@@ -1,7 +1,6 @@
-use Rattle.std.proofs.Common.{◌∙◌, List, Option, ap, subst, sym}
+use Rattle.std.proofs.Common.{◌∙◌, List, Option, is_some, ap, subst, sym}
 use Rattle.std.specs.Prelude.{IfOk, IfSome}
-use Rattle.sw_work.proofs.Others.{activated_comes, added_comes, evaluated_comes, fetched_comes, forgets_comes, host_rests, installed_comes, run_comes, tries_comes}
-use Rattle.sw_prepare.proofs.Same.{same_refl}
+use Rattle.sw_work.proofs.Others.{activated_comes, added_comes, evaluated_comes, fetched_comes, forgets_comes, installed_comes, run_comes, tries_comes}
 use Rattle.sw_data.specs.declared.recordings.FetchLine.{FetchLine}
 use Rattle.sw_rules.specs.Caching.{added}
 use Rattle.sw_rules.specs.Installing.{fetched}
@@ -10,14 +9,26 @@ use Rattle.sw_rules.specs.Told.{Outcome}
 use Rattle.sw_work.specs.Hosted.{state_of}
 use Rattle.sw_work.specs.Plans.{Means, Works}
 use Rattle.sw_work.proofs.Calling.{both_ok}
-use Rattle.sw_work.proofs.Working.{comes_so, none_if}
+use Rattle.sw_work.proofs.Working.{comes_so}
 use Rattle.sw_prepare.proofs.hosts.work_of_host.Goals as goal
+
+pub work_of_run-requires : goal.work_of_run-requires
+work_of_run-requires c =
+    ap is_some (sym (run_comes (state_of c.args.host.now) c.args.event.now c.in-Run.who c.in-Run.job c.requires.who c.in-Run.is)) ∙ c.requires.enabled
 
 pub returns-in-Run-clause-works : goal.returns-in-Run-clause-works
 returns-in-Run-clause-works c =
     subst (λ (o : Option Outcome). IfOk c.work_of_run.result (Works c.args.host.now c.work_of_run.new.host o))
     (sym (run_comes (state_of c.args.host.now) c.args.event.now c.in-Run.who c.in-Run.job c.requires.who c.in-Run.is))
     c.work_of_run.ensures.works
+
+pub work_of_fetched-requires-clause-ends : goal.work_of_fetched-requires-clause-ends
+work_of_fetched-requires-clause-ends c =
+    let state = state_of c.args.host.now in
+    ap is_some
+    (ap (λ (line : Option FetchLine). fetched state c.in-Fetched.job line) c.as_ref.ensures.value
+    ∙ sym (fetched_comes state c.args.event.now c.in-Fetched.who c.in-Fetched.job c.requires.who c.in-Fetched.line c.in-Fetched.is))
+    ∙ c.requires.enabled
 
 pub returns-in-Fetched-clause-works : goal.returns-in-Fetched-clause-works
 returns-in-Fetched-clause-works c =
@@ -52,6 +63,14 @@ returns-in-Activated-clause-works c = record {
   fits = tt;
 }
 
+pub work_of_added-requires : goal.work_of_added-requires
+work_of_added-requires c =
+    let state = state_of c.args.host.now in
+    ap is_some
+    (ap (λ (lines : List (Option FetchLine)). added state c.in-Added.task lines) c.as_slice.ensures
+    ∙ sym (added_comes state c.args.event.now c.in-Added.who c.in-Added.task c.requires.who c.in-Added.lines c.in-Added.is))
+    ∙ c.requires.enabled
+
 pub returns-in-Added-clause-works : goal.returns-in-Added-clause-works
 returns-in-Added-clause-works c =
     subst (λ (o : Option Outcome). IfOk c.work_of_added.result (Works c.args.host.now c.work_of_added.new.host o))
@@ -69,24 +88,3 @@ returns-in-Forget-clause-works c =
       fits = fits;
     })
     c.work_of_forget.ensures.fits c.work_of_forget.ensures.means
-
-pub returns-in_default : goal.returns-in_default
-returns-in_default c = record {
-  same = same_refl c.args.host.now;
-  works = record {
-    means =
-        none_if _ _
-        (host_rests (state_of c.args.host.now) c.args.event.now c.requires.who
-        (record {
-          run = c.in_default.not-Run;
-          fetched = c.in_default.not-Fetched;
-          evaluated = c.in_default.not-Evaluated;
-          installed = c.in_default.not-Installed;
-          tries = c.in_default.not-TryActivate;
-          activated = c.in_default.not-Activated;
-          added = c.in_default.not-Added;
-          forgets = c.in_default.not-Forget;
-        }));
-    fits = tt;
-  };
-}
