@@ -97,11 +97,12 @@ pub(crate) fn carry_row(rows: &mut Named<Pairs>, plan: CachePlan) -> (u64, u64)
 }
 
 // Caches as they are kept, as a list of its own.
-pub(crate) fn kept_of(alloc: Global, rows: &[Row<Pairs>]) -> Result<Vec<KeptCache>, NoMemory>
-    ensures { IfOk result (λ kept. kept.items ≡ map kept_row (named_rows rows.now)) }
+pub(crate) fn kept_of(alloc: Global, rows: &Named<Pairs>) -> Result<Vec<KeptCache>, NoMemory>
+    ensures { IfOk result (λ kept. kept.items ≡ map kept_row rows.now.rows) }
 {
     let mut kept = Vec::new(alloc);
-    for row in rows {
+    for place in 0..rows.len() {
+        let row = rows.row(place);
         kept.push(KeptCache {
             key: row.key.copy(alloc)?,
             name: row.name.copy(alloc)?,

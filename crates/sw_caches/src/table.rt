@@ -175,14 +175,14 @@ impl Caches {
     pub fn to_kept(&self, alloc: Global) -> Result<Vec<KeptCache>, NoMemory>
         ensures { IfOk result (λ kept. kept.items ≡ self.now.rows) }
     {
-        kept_of(alloc, self.rows.rows())
+        kept_of(alloc, &self.rows)
     }
 
     /// The caches as they are kept, none of their pairs copied.
     pub fn into_kept(self, alloc: Global) -> Result<Vec<KeptCache>, NoMemory>
         ensures { IfOk result (λ kept. kept.items ≡ self.rows) }
     {
-        into_kept(alloc, self.rows.into_rows())
+        into_kept(alloc, self.rows.into_rows(alloc)?)
     }
 
     /// Whether a key has a cache of this name; it takes no memory.

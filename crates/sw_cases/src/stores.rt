@@ -197,11 +197,11 @@ fn set(alloc: Global, named: &mut Named<u32>, parts: &[Value]) -> Answer {
 // The values of all rows, with commas between them.
 fn values(alloc: Global, named: &Named<u32>) -> Answer {
     let mut all = String::new(alloc);
-    for row in named.rows() {
+    for place in 0..named.len() {
         if !all.is_empty() {
             all.push_str(",")?;
         }
-        let value = row.value;
+        let value = named.row(place).value;
         all.push_str(format!(in alloc; "{value}")?.as_str())?;
     }
     Ok(all)

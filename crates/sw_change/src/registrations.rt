@@ -46,7 +46,7 @@ impl Registrations {
         ensures { IfOk result (λ rows. rows.items ≡ self) }
     {
         let mut rows = Vec::new(alloc);
-        for row in self.rows.into_rows() {
+        for row in self.rows.into_rows(alloc)? {
             rows.push(row.value.into_row(row.key, row.name))?;
         }
         Ok(rows)
@@ -57,7 +57,8 @@ impl Registrations {
         ensures { IfOk result (λ rows. rows.items ≡ self.now) }
     {
         let mut rows = Vec::new(alloc);
-        for row in self.rows.rows() {
+        for place in 0..self.rows.len() {
+            let row = self.rows.row(place);
             rows.push(row.value.to_row(alloc, &row.key, &row.name)?)?;
         }
         Ok(rows)

@@ -1,12 +1,13 @@
 -- The first that passes, by its place, and what taking it out leaves.
-use Rattle.std.proofs.Common.{◌≡◌, ℕ, ◌+◌, ◌<◌, ◌≤◌, Bool, true, false, List, [], ◌∷◌, map, length, get_or, filter, Option, Some, None, refl, inl, inr, sym, ◌∙◌, ap, subst, arith, ltb, ltb-true, lt-ltb, true≢false, All, suc, zero}
+use Rattle.std.proofs.Common.{◌≡◌, ℕ, ◌+◌, ◌<◌, ◌≤◌, Bool, true, false, List, [], ◌∷◌, map, length, get_or, filter, Option, Some, None, refl, inl, inr, sym, ◌∙◌, ap, subst, arith, ltb, ltb-true, lt-ltb, true≢false, All, drop, suc, zero}
 use Rattle.std.specs.Prelude.{cond, find, is_some, nat_lt, not, option_map, position, remove}
-use Rattle.std.specs.List.{AllPairs, enumerate_from, list_any, position_or_len, slice_get}
+use Rattle.std.specs.List.{AllPairs, enumerate_from, list_any, position_or_len}
 use Rattle.std.specs.List.Sorted.{IsPartitionPoint, IsPartitionedBy}
 use Rattle.std.specs.Option.{option_map_or}
 use Rattle.std.proofs.lemmas.Bool.{cases_order, cases_Bool, cases_lt}
 use Rattle.std.proofs.lemmas.Bool.Decides.{nat_tests}
 use Rattle.std.proofs.lemmas.List.Sorted.{IsPartitionedBy-ltb}
+use Rattle.std.proofs.lemmas.List.Sums.{fails_before_first}
 use Rattle.std.proofs.lemmas.List.Edits.{get_or-remove_below, get_or-remove_above, length-remove}
 use Rattle.sw_index.specs.Numbered.{NoneOfNumber, StandsAt, first_by}
 
@@ -22,17 +23,6 @@ find_here f m (x ∷ xs) base (suc place) d lt here before =
 pub find_none : {X Y : Type 0} (f : X → Y) (m : Y → Bool) (xs : List X) (base : ℕ) → All (λ x. m (f x) ≡ false) xs → find (λ item. m item.1) (enumerate_from base (map f xs)) ≡ None
 find_none f m [] base h = refl
 find_none f m (x ∷ xs) base h = rw (h 0 x (omega arith)) (find_none f m xs (base + 1) (λ k d l. h (suc k) d (omega arith)))
-
--- what stands at a place of a mapped list
-pub get_mapped : {X Y : Type 0} (f : X → Y) (xs : List X) (i : ℕ) (x : X) → i < length xs → x ≡ get_or xs i x → Some (f x) ≡ slice_get (map f xs) i
-get_mapped f [] i x l e = absurd (omega arith)
-get_mapped f (y ∷ xs) zero x l e = ap (λ z. Some (f z)) e
-get_mapped f (y ∷ xs) (suc i) x l e = get_mapped f xs i x (omega arith) e
-
-pub get_past : {X Y : Type 0} (f : X → Y) (xs : List X) (i : ℕ) → length xs ≤ i → None ≡ slice_get (map f xs) i
-get_past f [] i l = refl
-get_past f (y ∷ xs) zero l = absurd (omega arith)
-get_past f (y ∷ xs) (suc i) l = get_past f xs i (omega arith)
 
 some_none : {A : Type 0} (x : A) → Some x ≡ None → ⊥
 some_none x e = cc
@@ -199,3 +189,42 @@ module _ {Y : Type 0} (test : Y → Bool) where
       reads : (found : Option (ℕ × Y)) → found ≡ first_by test items → None ≡ option_map (λ (f : ℕ × Y). f.0) found → None ≡ first_by test items
       reads None is e = is
       reads (Some f) is e = absurd (some_none _ (sym e))
+
+  -- where none is the first that passes, none passes
+  pub position_fails : (items : List Y) → None ≡ position test items → All (λ item. test item ≡ false) items
+  position_fails items none k d l = elim (cases_lt (position_or_len test items) (length items)) [
+    | inl low ↦ absurd (some_none _ (sym (shown items (position_or_len test items) low refl) ∙ sym none))
+    | inr high ↦ fails_before_first test items k d (omega arith)
+  ]
+
+module _ {X Y : Type 0} (f : X → Y) (test : X → Bool) (m : Y → Bool) where
+  find_same : (base : ℕ) (xs : List X) → All (λ x. test x ≡ m (f x)) xs
+      → option_map (λ found. found.0) (find (λ item. test item.1) (enumerate_from base xs)) ≡ option_map (λ found. found.0) (find (λ item. m item.1) (enumerate_from base (map f xs)))
+  find_same base [] same = refl
+  find_same base (x ∷ xs) same = elim (cases_Bool (test x)) [
+    | inl e ↦ rw (e, sym (same 0 x (omega arith)) ∙ e) refl
+    | inr e ↦ rw (e, sym (same 0 x (omega arith)) ∙ e) (find_same (base + 1) xs (λ k d l. same (suc k) d (omega arith)))
+  ]
+
+  find_past : (base from : ℕ) (xs : List X) → from ≤ length xs → ((k : ℕ) (d : X) → k < from → test (get_or xs k d) ≡ false)
+      → ((k : ℕ) (d : X) → from ≤ k → k < length xs → test (get_or xs k d) ≡ m (f (get_or xs k d)))
+      → option_map (λ found. found.0) (find (λ item. test item.1) (enumerate_from base xs)) ≡ option_map (λ n. base + from + n) (position m (drop from (map f xs)))
+  find_past base zero xs within out same =
+      let z : base ≡ base + 0 = omega arith in
+      find_same base xs (λ k d l. same k d (omega arith) l) ∙ (sym (place_from m base (map f xs)) ∙ ap (λ b. option_map (λ n. b + n) (position m (map f xs))) z)
+  find_past base (suc from) [] within out same = absurd (omega arith)
+  find_past base (suc from) (x ∷ xs) within out same =
+      let z : base + 1 + from ≡ base + suc from = omega arith in
+      rw (out 0 x (omega arith)) (find_past (base + 1) from xs (omega arith) (λ k d l. out (suc k) d (omega arith)) (λ k d le l. same (suc k) d (omega arith) (omega arith))
+      ∙ ap (λ b. option_map (λ n. b + n) (position m (drop from (map f xs)))) z)
+
+  -- a test that fails before a place and then agrees with another one finds the first that this one finds from there on
+  pub position_past : (from : ℕ) (xs : List X) → from ≤ length xs → ((k : ℕ) (d : X) → k < from → test (get_or xs k d) ≡ false)
+      → ((k : ℕ) (d : X) → from ≤ k → k < length xs → test (get_or xs k d) ≡ m (f (get_or xs k d))) → position test xs ≡ option_map (λ n. from + n) (position m (drop from (map f xs)))
+  position_past from xs within out same =
+      let z : 0 + from ≡ from = omega arith in
+      first_place test xs ∙ (find_past 0 from xs within out same ∙ ap (λ b. option_map (λ n. b + n) (position m (drop from (map f xs)))) z)
+
+  -- tests that agree find the same place
+  pub position_same : (xs : List X) → All (λ x. test x ≡ m (f x)) xs → position test xs ≡ position m (map f xs)
+  position_same xs same = first_place test xs ∙ (find_same 0 xs same ∙ sym (first_place m (map f xs)))

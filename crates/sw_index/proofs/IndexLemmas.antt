@@ -1,11 +1,11 @@
 -- What an index finds.
-use Rattle.std.proofs.Common.{◌≡◌, ℕ, ◌+◌, ◌-◌, ◌<◌, ◌≤◌, Bool, true, false, List, [], ◌∷◌, ◌++◌, map, length, get_or, Some, None, refl, inl, inr, sym, ◌∙◌, ap, subst, arith, true≢false, All, set, drop, zero, suc}
+use Rattle.std.proofs.Common.{◌≡◌, ℕ, ◌+◌, ◌-◌, ◌<◌, ◌≤◌, Bool, true, false, List, [], ◌∷◌, ◌++◌, map, length, get_or, Some, None, refl, inl, inr, sym, ◌∙◌, ap, subst, arith, true≢false, All, set, zero, suc}
 use Rattle.std.specs.Prelude.{remove, ◌^◌, ◌||◌}
 use Rattle.std.specs.BTreeSet.{BTreeSet}
 use Rattle.std.proofs.lemmas.Bool.{cases_order, cases_Bool, cases_lt}
-use Rattle.std.proofs.lemmas.List.{get_or_default, get_or_append_left, get_or-append_right, get_or-drop, get_or-set_other, get_or-set_same, length-append, length-drop, length-set, map-append}
+use Rattle.std.proofs.lemmas.List.{get_or_default, get_or_append_left, get_or-append_right, get_or-set_other, get_or-set_same, length-append, length-set, map-append}
 use Rattle.std.proofs.lemmas.List.Quantifiers.{all_pairs_push, all_pairs_remove}
-use Rattle.std.proofs.lemmas.List.Elements.{All-append, All-drop, All-push}
+use Rattle.std.proofs.lemmas.List.Elements.{All-append, All-push}
 use Rattle.std.proofs.lemmas.List.Folds.{list_any-append}
 use Rattle.sw_index.specs.declared.slots.Mark.{Mark}
 use Rattle.sw_index.specs.Slots.{HasLost, IsFree, KeepsBelow, KeepsOthers, KeepsSlots, NoneBetween, OnlyAdds, Slot, has, is_marked, is_under}
@@ -150,14 +150,6 @@ module _ {X Y : Type 0} (number : X → ℕ) (item : X → Y) (digest_of : Bool 
     rising = of.rising;
     bounded = of.bounded;
     indexed = λ kind k d l. keeps (digest_of kind (item (get_or xs k d))) (number (get_or xs k d)) (of.indexed kind k d l);
-  }
-
-  -- the index serves the entries from a place on
-  pub rest_indexed : (n : ℕ) (xs : List X) (slots : BTreeSet Slot) → IsIndexed number item digest_of xs slots → IsIndexed number item digest_of (drop n xs) slots
-  rest_indexed n xs slots of = record {
-    rising = λ i j d lt l. rw (get_or-drop n xs i d, get_or-drop n xs j d) (of.rising (n + i) (n + j) d (omega arith) (omega (arith, length-drop n xs)));
-    bounded = All-drop (λ entry. (0 < number entry) × (number entry < 2 ^ 64)) n xs of.bounded;
-    indexed = λ kind. All-drop (λ entry. has slots (digest_of kind (item entry)) (number entry) ≡ true) n xs (of.indexed kind);
   }
 
   -- the index serves entries of which one is replaced by another with its number and digests

@@ -1,5 +1,5 @@
 -- Values under keys and names, as a list of rows beside the index that finds them.
-use Rattle.std.specs.Prelude.{◌≡◌, ℕ, ◌+◌, ◌<◌, ◌≤◌, ◌^◌, ◌&&◌, Bool, true, false, List, map, length, set, slice_get, bytes_eq, Option, Some, None}
+use Rattle.std.specs.Prelude.{◌≡◌, ℕ, ◌+◌, ◌<◌, ◌≤◌, ◌^◌, ◌&&◌, Bool, true, false, List, map, length, nat_lt, set, slice_get, bytes_eq, Option, Some, None}
 use Rattle.std.specs.Option.{option_map_or}
 use Rattle.std.specs.BTreeSet.{BTreeSet}
 use Rattle.sw_index.specs.declared.row.Row.{Row}
@@ -48,9 +48,6 @@ module _ {V : Type 0} where
   is_asked key None row = is_of key row
   is_asked key (Some name) row = is_at key name row
 
-  abbrev pub number : Row V → ℕ
-  number row = row.number
-
   -- a row as contracts see it: its key and name, and its value
   abbrev pub named_row : Row V → Label × V
   named_row row = ((row.key, row.name), row.value)
@@ -58,19 +55,38 @@ module _ {V : Type 0} where
   abbrev pub named_rows : List (Row V) → List (Label × V)
   named_rows rows = map named_row rows
 
+  -- the number of an entry, which has a row behind it
+  abbrev pub number : ℕ × Row V → ℕ
+  number entry = entry.0
+
+  -- the row of an entry as contracts see it
+  abbrev pub entry_row : ℕ × Row V → Label × V
+  entry_row entry = named_row entry.1
+
+  abbrev pub entry_rows : List (ℕ × Row V) → List (Label × V)
+  entry_rows entries = map entry_row entries
+
+  -- the row of an entry is asked for, and its number is above this one
+  abbrev pub is_asked_above : ℕ → List ℕ → Option (List ℕ) → ℕ × Row V → Bool
+  is_asked_above low key name entry = nat_lt low entry.0 && is_asked key name (entry_row entry)
+
+  -- the entry of this number is at this place, and its row is asked for
+  abbrev pub IsHit : List ℕ → Option (List ℕ) → List (ℕ × Row V) → ℕ → ℕ → Type 0
+  IsHit key name entries n place = (row : Row V) × (slice_get entries place ≡ Some (n, row)) × (is_asked key name (named_row row) ≡ true)
+
   abbrev pub row_digest : Bool → Label × V → ℕ
   row_digest kind row = digest_by kind row.0
 
-  -- the index finds each of these rows
-  abbrev pub AreIndexed : List (Row V) → BTreeSet Slot → Type 0
-  AreIndexed rows slots = IsIndexed number named_row row_digest rows slots
+  -- the index finds the row of each of these entries
+  abbrev pub AreIndexed : List (ℕ × Row V) → BTreeSet Slot → Type 0
+  AreIndexed entries slots = IsIndexed number entry_row row_digest entries slots
 
-  -- the index has no mark but those of the rows, and those made ahead
-  abbrev pub AreTight : List (Row V) → BTreeSet Slot → ℕ → List Mark → Type 0
-  AreTight rows slots next ahead = IsTight number named_row row_digest rows slots next ahead
+  -- the index has no mark but those of the entries, and those made ahead
+  abbrev pub AreTight : List (ℕ × Row V) → BTreeSet Slot → ℕ → List Mark → Type 0
+  AreTight entries slots next ahead = IsTight number entry_row row_digest entries slots next ahead
 
-  abbrev pub DropMarks : List (Row V) → BTreeSet Slot → List (Row V) → BTreeSet Slot → Type 0
-  DropMarks old before new after = DropsMarks number named_row row_digest old before new after
+  abbrev pub DropMarks : List (ℕ × Row V) → BTreeSet Slot → List (ℕ × Row V) → BTreeSet Slot → Type 0
+  DropMarks old before new after = DropsMarks number entry_row row_digest old before new after
 
   -- the values of rows, in order
   abbrev pub values : List (Label × V) → List V

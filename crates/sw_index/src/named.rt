@@ -11,6 +11,7 @@ use std::alloc::Global;
 use std::collections::BTreeSet;
 use std::marker::Model;
 use sw_data::{NoMemory, Text};
+use sw_list::Numbered;
 
 // The most rows that there may be.
 const ROWS_LIMIT: usize = 4_294_967_295;
@@ -34,32 +35,32 @@ impl Model for NewRow {
 /// and a name, in the time that they take themselves.
 #[derive(Drop)]
 pub struct Named<V> {
-    rows: Vec<Row<V>>,
+    // Each under a number, by which the index finds it.
+    rows: Numbered<Row<V>>,
     slots: Slots,
-    next: u64,
     // The mark of a row that was made, until it or another one is there.
     ahead: Vec<Mark>,
 }
 
 impl<V> Model for Named<V> {
-    ghost use Rattle.std.specs.Prelude.{◌<◌, ◌-◌, ◌^◌, length, vec_len, vec_capacity};
+    ghost use Rattle.std.specs.Prelude.{◌<◌, ◌^◌, length};
     ghost use Rattle.sw_index.specs.Numbered.{AllBelow};
-    ghost use Rattle.sw_index.specs.Named.{AreIndexed, AreTight, Listing, named_rows, number};
+    ghost use Rattle.sw_index.specs.Named.{AreIndexed, AreTight, Listing, entry_rows, number};
 
     ghost Value = { Listing V };
 
     ghost view = { λ named. record {
-      rows = named_rows named.rows.items;
+      rows = entry_rows named.rows.rows;
       slots = named.slots;
-      next = named.next;
-      spare = vec_capacity named.rows - vec_len named.rows;
+      next = named.rows.next;
+      spare = named.rows.spare;
     } };
 
-    ghost invariant = { λ named. AreIndexed named.rows.items named.slots
-        × AllBelow number named.next named.rows.items
-        × (0 < named.next)
-        × (length named.rows.items < 2 ^ 32)
-        × AreTight named.rows.items named.slots named.next named.ahead.items };
+    ghost invariant = { λ named. AreIndexed named.rows.rows named.slots
+        × AllBelow number named.rows.next named.rows.rows
+        × (0 < named.rows.next)
+        × (length named.rows.rows < 2 ^ 32)
+        × AreTight named.rows.rows named.slots named.rows.next named.ahead.items };
 }
 
 impl<V> Named<V> {
@@ -70,9 +71,8 @@ impl<V> Named<V> {
         ensures { result.rows ≡ [] }
     {
         Named {
-            rows: Vec::new(alloc),
+            rows: Numbered::new(alloc, 1),
             slots: BTreeSet::new(alloc),
-            next: 1,
             ahead: Vec::new(alloc),
         }
     }
@@ -85,20 +85,6 @@ impl<V> Named<V> {
         self.rows.len()
     }
 
-    /// The rows in order; it takes no memory.
-    pub fn rows(&self) -> &[Row<V>]
-        ensures { named_rows result.now ≡ self.now.rows }
-    {
-        self.rows.as_slice()
-    }
-
-    /// The rows as a list of their own, none of them copied; it takes no memory.
-    pub fn into_rows(self) -> Vec<Row<V>>
-        ensures { named_rows result.items ≡ self.rows }
-    {
-        self.rows
-    }
-
     /// The place for a row of this key and name, and the room for it.
     pub fn make_row(&mut self, key: Text, name: Text) -> Result<NewRow, NoMemory>
         ensures same { self.new.rows ≡ self.old.rows }
@@ -106,14 +92,14 @@ impl<V> Named<V> {
         ensures name { IfOk result (λ new. new.name ≡ name) }
         ensures fits { IfOk result (λ new. Fits new self.new) }
     {
-        if self.rows.len() >= ROWS_LIMIT || self.next == u64::MAX {
+        if self.rows.len() >= ROWS_LIMIT || self.rows.next() == u64::MAX {
             return Err(NoMemory);
         }
-        self.rows.reserve(1)?;
+        self.rows.make_room()?;
         self.ahead.reserve(1)?;
         take_marks(&mut self.slots, &self.ahead);
         self.ahead.clear();
-        let mark = mark_of(&key, &name, self.next);
+        let mark = mark_of(&key, &name, self.rows.next());
         put_mark(&mut self.slots, mark)?;
         self.ahead.push_reserved(mark);
         Ok(NewRow { key, name })
@@ -125,13 +111,7 @@ impl<V> Named<V> {
         ensures { self.new.rows ≡ self.old.rows ++ ((new.key, new.name), value) ∷ [] }
     {
         let NewRow { key, name } = new;
-        self.rows.push_reserved(Row {
-            key,
-            name,
-            value,
-            number: self.next,
-        });
-        self.next += 1;
+        self.rows.add(Row { key, name, value });
         self.ahead.clear();
     }
 
@@ -139,7 +119,7 @@ impl<V> Named<V> {
     pub fn place(&self, key: &Text, name: &Text) -> Option<usize>
         ensures { result ≡ position (is_at key.now name.now) self.now.rows }
     {
-        first_asked(&self.rows, &self.slots, key, Some(name))
+        first_asked(&self.rows, &self.slots, key, Some(name), 0)
     }
 
     /// The place of the first row of a key at `from` or behind it; it takes no memory.
@@ -149,14 +129,8 @@ impl<V> Named<V> {
         ensures low { IfSome result (λ place. place < length self.now.rows) }
         ensures few { length self.now.rows < 2 ^ 32 }
     {
-        if from >= self.rows.len() {
-            return None;
-        }
-        let rest = self.rows.split_at(from).1;
-        match first_asked(rest, &self.slots, key, None) {
-            Some(place) => Some(from + place),
-            None => None,
-        }
+        let number = self.rows.number(from)?;
+        first_asked(&self.rows, &self.slots, key, None, number - 1)
     }
 
     /// The row at a place; it takes no memory.
@@ -164,7 +138,7 @@ impl<V> Named<V> {
         requires { place < length self.now.rows }
         ensures { slice_get self.now.rows place ≡ Some (named_row result.now) }
     {
-        &self.rows[place]
+        self.rows.at(place).unwrap()
     }
 
     /// The value at a place, which can be written; it takes no memory.
@@ -173,11 +147,19 @@ impl<V> Named<V> {
         ensures* writes_back { sem 𝓛 (lends_value V.row self.entry place result) }
         ensures value { slice_get (values self.old.rows) place ≡ Some result.now }
     {
-        self.rows[place].value_mut()
+        let row = self.rows.at_mut(place);
+        &mut row.value
     }
 }
 
 impl<V: Drop> Named<V> {
+    /// The rows as a list of their own, none of them copied.
+    pub fn into_rows(self, alloc: Global) -> Result<Vec<Row<V>>, NoMemory>
+        ensures { IfOk result (λ rows. named_rows rows.items ≡ self.rows) }
+    {
+        self.rows.into_values(alloc)
+    }
+
     /// Removes the rows of a key and a name; it takes no memory.
     pub fn remove_named(&mut self, key: &Text, name: &Text)
         ensures { self.new.rows ≡ filter (λ row. not (is_at key.now name.now row)) self.old.rows }

@@ -1,14 +1,13 @@
 //! Rows, and how an index finds them.
 
-ghost use Rattle.std.specs.Prelude.{◌≡◌, ◌<◌, ◌≤◌, true, MatchOption, not, filter, position, option_copied, slice_index_or, vec_len};
-ghost use Rattle.std.specs.List.{All, AllPairs};
-ghost use Rattle.std.specs.Borrow.{sem};
-ghost use Rattle.sw_index.specs.Numbered.{KeepsAbove, NoneOfNumber, StandsAt};
-ghost use Rattle.sw_index.specs.Named.{AreIndexed, DropMarks, asked_digest, is_asked, label_mark, named_row, named_rows, number};
-ghost use Rattle.sw_index.specs.Lends.{lends_row};
+ghost use Rattle.std.specs.Prelude.{◌≡◌, ◌<◌, ◌≤◌, MatchOption, not, filter, length, position, option_copied};
+ghost use Rattle.std.specs.List.{AllPairs};
+ghost use Rattle.sw_index.specs.Numbered.{KeepsAbove, NoneOfNumber};
+ghost use Rattle.sw_index.specs.Named.{AreIndexed, DropMarks, IsHit, asked_digest, entry_row, entry_rows, is_asked, is_asked_above, label_mark, named_row, number};
 
 use crate::slots::{Mark, Slots, digest, digest_from, mixed, next_number, take_mark};
 use sw_data::Text;
+use sw_list::Numbered;
 
 /// A value under a key and a name.
 #[derive(Drop)]
@@ -16,17 +15,6 @@ pub struct Row<V> {
     pub key: Text,
     pub name: Text,
     pub value: V,
-    pub(crate) number: u64,
-}
-
-impl<V> Row<V> {
-    // The value, which can be written.
-    pub(crate) fn value_mut(&mut self) -> &mut V
-        ensures* writes_back { sem 𝓛 (lends_row V.row self.entry result) }
-        ensures value { result.now ≡ self.old.value }
-    {
-        &mut self.value
-    }
 }
 
 // What the rows of a key are found by, or those of a key and a name. No text has the byte between
@@ -52,20 +40,6 @@ pub(crate) fn mark_of(key: &Text, name: &Text, number: u64) -> Mark
     }
 }
 
-// The place of the row of a number.
-fn place_of<V>(rows: &[Row<V>], number: u64) -> Option<usize>
-    requires { AllPairs (λ left right. left.number < right.number) rows.now }
-    ensures { MatchOption result (All (λ row. ¬ (row.number ≡ number)) rows.now)
-        (StandsAt (λ row. row.number) rows.now number) }
-{
-    let place = rows.partition_point(|row| row.number < number);
-    if place < rows.len() && rows[place].number == number {
-        Some(place)
-    } else {
-        None
-    }
-}
-
 // The row is of a key, and where a name is given, of this name.
 fn is_asked<V>(row: &Row<V>, key: &Text, name: Option<&Text>) -> bool
     ensures { result ≡ is_asked key.now (option_copied name.entry) (named_row row.now) }
@@ -76,62 +50,40 @@ fn is_asked<V>(row: &Row<V>, key: &Text, name: Option<&Text>) -> bool
     }
 }
 
-// The row of a number with its place, if it is asked for.
-fn hit<'a, V>(
-    rows: &'a [Row<V>],
-    at: u64,
-    key: &Text,
-    name: Option<&Text>,
-) -> Option<(usize, &'a Row<V>)>
-    requires { AllPairs (λ left right. left.number < right.number) rows.now }
+// The place of the row of a number, if it is asked for.
+fn hit<V>(rows: &Numbered<Row<V>>, at: u64, key: &Text, name: Option<&Text>) -> Option<usize>
+    requires { AllPairs (λ left right. left.0 < right.0) rows.now.rows }
     ensures { MatchOption result
-        (NoneOfNumber number named_row (is_asked key.now (option_copied name.entry)) rows.now at)
-        (λ found. StandsAt number rows.now at found.0
-        × ((d : _) → slice_index_or rows.now found.0 d ≡ found.1.now)
-        × (is_asked key.now (option_copied name.entry) (named_row found.1.now) ≡ true)) }
+        (NoneOfNumber number entry_row (is_asked key.now (option_copied name.entry)) rows.now.rows at)
+        (IsHit key.now (option_copied name.entry) rows.now.rows at) }
 {
-    match place_of(rows, at) {
-        Some(place) => {
-            let row = &rows[place];
-            if is_asked(row, key, name) {
-                Some((place, row))
-            } else {
-                None
-            }
-        }
-        None => None,
-    }
-}
-
-// A number below that of each row.
-fn before<V>(rows: &[Row<V>]) -> u64
-    requires rising { AllPairs (λ left right. left.number < right.number) rows.now }
-    requires positive { All (λ row. 0 < row.number) rows.now }
-    ensures { All (λ row. result < row.number) rows.now }
-{
-    if rows.is_empty() {
-        0
+    let place = rows.place(at)?;
+    let row = rows.at(place)?;
+    if is_asked(row, key, name) {
+        Some(place)
     } else {
-        rows[0].number - 1
+        None
     }
 }
 
-// The place of the first row of a key, or of a key and a name; it takes no memory.
+// The place of the first row of a key, or of a key and a name, whose number is above another one; it
+// takes no memory.
 pub(crate) fn first_asked<V>(
-    rows: &[Row<V>],
+    rows: &Numbered<Row<V>>,
     slots: &Slots,
     key: &Text,
     name: Option<&Text>,
+    low: u64,
 ) -> Option<usize>
-    requires { AreIndexed rows.now slots.now }
+    requires { AreIndexed rows.now.rows slots.now }
     ensures { result
-        ≡ position (is_asked key.now (option_copied name.entry)) (named_rows rows.now) }
+        ≡ position (is_asked_above low key.now (option_copied name.entry)) rows.now.rows }
 {
     let digest = asked_digest(key, name);
-    let mut after = before(rows);
+    let mut after = low;
     while let Some(number) = next_number(slots, digest, after) {
         match hit(rows, number, key, name) {
-            Some((place, _)) => return Some(place),
+            Some(place) => return Some(place),
             None => after = number,
         }
     }
@@ -140,22 +92,24 @@ pub(crate) fn first_asked<V>(
 
 // Takes out the rows of a key, or of a key and a name; it takes no memory.
 pub(crate) fn drop_asked<V: Drop>(
-    rows: &mut Vec<Row<V>>,
+    rows: &mut Numbered<Row<V>>,
     slots: &mut Slots,
     key: &Text,
     name: Option<&Text>,
 )
-    requires { AreIndexed rows.old.items slots.old }
-    ensures indexed { AreIndexed rows.new.items slots.new }
-    ensures rows { named_rows rows.new.items
+    requires { AreIndexed rows.old.rows slots.old }
+    ensures indexed { AreIndexed rows.new.rows slots.new }
+    ensures rows { entry_rows rows.new.rows
         ≡ filter (λ row. not (is_asked key.now (option_copied name.entry) row))
-        (named_rows rows.old.items) }
-    ensures above { KeepsAbove number rows.old.items slots.old rows.new.items slots.new }
-    ensures marks { DropMarks rows.old.items slots.old rows.new.items slots.new }
-    ensures bound { vec_len rows.new ≤ vec_len rows.old }
+        (entry_rows rows.old.rows) }
+    ensures above { KeepsAbove number rows.old.rows slots.old rows.new.rows slots.new }
+    ensures marks { DropMarks rows.old.rows slots.old rows.new.rows slots.new }
+    ensures next { rows.new.next ≡ rows.old.next }
+    ensures bound { length rows.new.rows ≤ length rows.old.rows }
 {
-    while let Some(place) = first_asked(rows, slots, key, name) {
+    while let Some(place) = first_asked(rows, slots, key, name, 0) {
+        let number = rows.number(place).unwrap();
         let row = rows.remove(place);
-        take_mark(slots, mark_of(&row.key, &row.name, row.number));
+        take_mark(slots, mark_of(&row.key, &row.name, number));
     }
 }
