@@ -29,7 +29,7 @@ use crate::watching::watch;
 use std::alloc::Global;
 use std::sync::Wait;
 use std::thread::Threads;
-use sw_data::NoMemory;
+use sw_data::{Bytes, NoMemory};
 use sw_disk::Disk;
 use sw_io::{Sink, Source, write_all};
 use sw_net::Gate;
@@ -232,7 +232,7 @@ fn read<R: Threads + Wait + Sync, S: Source, D: Disk + Send, G: Gate + Sync>(
         → IsAtEnd (S.left source.new)) }
 {
     match bytes_of(alloc, source, RECORDING_LIMIT, Status::TooLarge.refusal()) {
-        Ok(bytes) => replay(rt, alloc, bytes.as_bytes(), workers, disk, gate),
+        Ok(bytes) => replay(rt, alloc, bytes, workers, disk, gate),
         Err(unread) => (unread, disk),
     }
 }
@@ -259,7 +259,7 @@ fn read_watch<R: Threads + Wait + Sync, S: Source, D: Disk + Send, G: Gate + Syn
         → IsAtEnd (S.left source.new)) }
 {
     match bytes_of(alloc, source, RECORDING_LIMIT, Status::TooLarge.refusal()) {
-        Ok(bytes) => watch(rt, alloc, bytes.as_bytes(), workers, disk, gate),
+        Ok(bytes) => watch(rt, alloc, bytes, workers, disk, gate),
         Err(unread) => (unread, disk),
     }
 }
@@ -314,11 +314,11 @@ fn read_audit<S: Source, D: Disk>(
     }
 }
 
-// The report of bytes that were read, and the disk.
+// The report of bytes that were read, and the disk. The bytes go before the run.
 fn replay<R: Threads + Wait + Sync, D: Disk + Send, G: Gate + Sync>(
     rt: &R,
     alloc: Global,
-    bytes: &[u8],
+    bytes: Bytes,
     workers: u32,
     disk: D,
     gate: &G,
@@ -326,12 +326,15 @@ fn replay<R: Threads + Wait + Sync, D: Disk + Send, G: Gate + Sync>(
     requires some { 1 ≤ workers }
     requires few { workers ≤ 16 }
     ensures replays { IfOk result.0 (λ report.
-        Replays D.Disk disk result.1 workers bytes.now report.status report.text) }
-    ensures no_memory { OnErr result.0 (LeavesAfterBytes D.Disk disk result.1 workers bytes.now) }
+        Replays D.Disk disk result.1 workers bytes report.status report.text) }
+    ensures no_memory { OnErr result.0 (LeavesAfterBytes D.Disk disk result.1 workers bytes) }
 {
     let number = disk.clock();
-    match take_up(alloc, bytes, workers, disk) {
-        Ok(yard) => reported(alloc, work(rt, alloc, yard, number, gate)),
+    match take_up(alloc, bytes.as_bytes(), workers, disk) {
+        Ok(yard) => {
+            drop(bytes);
+            reported(alloc, work(rt, alloc, yard, number, gate))
+        }
         Err(unrun) => unrun,
     }
 }

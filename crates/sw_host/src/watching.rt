@@ -18,7 +18,7 @@ use std::alloc::{AllocError, Global};
 use std::snapshot::Snapshot;
 use std::sync::Wait;
 use std::thread::Threads;
-use sw_data::{Entry, NoMemory, Recording, Text};
+use sw_data::{Bytes, Entry, NoMemory, Recording, Text};
 use sw_disk::Disk;
 use sw_inputs::{LookLine, WatchedRecording};
 use sw_net::Gate;
@@ -256,11 +256,11 @@ fn watch_on<R: Threads + Wait + Sync, D: Disk + Send, G: Gate + Sync>(
     }
 }
 
-/// The report of the bytes of a recording with look-ups, and the disk.
+/// The report of the bytes of a recording with look-ups, and the disk. The bytes go before the run.
 pub(crate) fn watch<R: Threads + Wait + Sync, D: Disk + Send, G: Gate + Sync>(
     rt: &R,
     alloc: Global,
-    bytes: &[u8],
+    bytes: Bytes,
     workers: u32,
     disk: D,
     gate: &G,
@@ -268,11 +268,14 @@ pub(crate) fn watch<R: Threads + Wait + Sync, D: Disk + Send, G: Gate + Sync>(
     requires some { 1 ≤ workers }
     requires few { workers ≤ 16 }
     ensures watches { IfOk result.0 (λ report.
-        Watches D.Disk disk result.1 workers bytes.now report.status report.text) }
-    ensures no_memory { OnErr result.0 (LeavesAfterLooks D.Disk disk result.1 workers bytes.now) }
+        Watches D.Disk disk result.1 workers bytes report.status report.text) }
+    ensures no_memory { OnErr result.0 (LeavesAfterLooks D.Disk disk result.1 workers bytes) }
 {
-    match read_watched(alloc, bytes) {
-        Ok(watched) => watch_on(rt, alloc, watched, workers, disk, gate),
+    match read_watched(alloc, bytes.as_bytes()) {
+        Ok(watched) => {
+            drop(bytes);
+            watch_on(rt, alloc, watched, workers, disk, gate)
+        }
         Err(error) => (refusal_of(alloc, error), disk),
     }
 }

@@ -49,6 +49,7 @@ pub fn contents_of(alloc: Global, kept: &Kept) -> Result<Bytes, NoMemory>
 {
     let changes = changes_of(alloc, kept)?;
     let payloads = payloads_of(alloc, &changes)?;
+    drop(changes);
     part_of(alloc, &payloads)
 }
 
