@@ -1,6 +1,6 @@
 //! Look-ups beside the lock.
 
-ghost use Rattle.std.specs.Prelude.{◌≡◌, ◌<◌, ◌≤◌, [], IfOk, IsTrue};
+ghost use Rattle.std.specs.Prelude.{◌≡◌, ◌↔◌, ◌<◌, ◌≤◌, [], length, IfOk, IsTrue};
 ghost use mathlib.Core.List.{IsPrefix};
 ghost use Rattle.std.specs.Fork.{AcceptsAt, ChangesAt};
 ghost use Rattle.std.specs.Thread.{IsSend, IsSync};
@@ -18,7 +18,7 @@ use sw_disk::Disk;
 use sw_net::Gate;
 use sw_turns::DriveEnd;
 use sw_view::{Look, Looker, Publisher};
-use sw_watch::{Mapped, Watched};
+use sw_watch::Watched;
 
 /// A look-up: a storage key, and an address.
 #[derive(Drop)]
@@ -92,13 +92,14 @@ fn side_by_side<R: Threads, C: Send, F: Fn(usize, &mut C) + Sync, G: Gate + Sync
     looks
 }
 
-// Whether all that a looker has seen begins the entries of a value, as what is published of them does. The view ends.
-fn covers<R: Wait, T: Mapped>(rt: &R, value: &T, publisher: Publisher, looker: &Looker) -> bool
-    requires begins { IsPrefix publisher.entries (T.log value.now) }
-    requires book { looker.now.book ≡ publisher.book }
-    ensures { IsTrue result → IsPrefix looker.now.entries (T.log value.now) }
+// Whether a looker has seen no more entries than are published; then what it has seen begins them. The view ends.
+fn covers<R: Wait>(rt: &R, publisher: Publisher, looker: &Looker) -> bool
+    requires { looker.now.book ≡ publisher.book }
+    ensures exactly { IsTrue result
+        ↔ (length looker.now.entries ≤ length publisher.entries) }
+    ensures front { length looker.now.entries ≤ length publisher.entries
+        → IsPrefix looker.now.entries publisher.entries }
 {
-    let _ = value;
     let told = publisher.covers(looker);
     publisher.end(rt);
     told
@@ -144,7 +145,7 @@ pub fn work_watched<
             let looks = side_by_side(rt, alloc, gate, asked, &mut looker, &work, &mut crew);
             let (watched, otherwise) = crew.close();
             let (yard, publisher) = watched.into_parts();
-            if covers(rt, &yard, publisher, &looker) {
+            if covers(rt, publisher, &looker) {
                 (end_of(yard, otherwise), looks)
             } else {
                 (end_of(yard, otherwise), Err(NoMemory))

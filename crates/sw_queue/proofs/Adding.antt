@@ -6,7 +6,7 @@ use Rattle.std.specs.Map.{lookup, set_value}
 use Rattle.std.proofs.lemmas.Bool.Decides.{nat_tests}
 use Rattle.slab.specs.Slab.{Slab, get}
 use Rattle.sw_queue.specs.Lines.{by_name, line_in}
-use Rattle.sw_queue.specs.Links.{Adds, AreLinked, ByKey, ByScope, IsLine, Name, Stands, line_of, numbers_from, numbers_of, seen, with_last}
+use Rattle.sw_queue.specs.Links.{Adds, AreLinked, ByKey, ByScope, IsLine, Name, IsNodeOf, line_of, numbers_from, numbers_of, seen, with_last}
 use Rattle.sw_queue.specs.declared.line.Line.{Line}
 use Rattle.sw_queue.specs.declared.line.Node.{Node}
 use Rattle.sw_queue.proofs.Linking.{last_there, leads_more, met_last}
@@ -30,7 +30,7 @@ module _ (nodes others : Slab Node) (lines : ByKey) (are : AreLinked nodes lines
       let other : (place == nodes.vacant_key) ≡ false = grind (arith, nat_tests, apart) in
       ap (λ (b : Bool). if b then (key, scope) else are.owner place) other
 
-  new_stands : Stands others owns (key, scope) nodes.vacant_key (record { job = number; next = None })
+  new_stands : IsNodeOf others owns (key, scope) nodes.vacant_key (record { job = number; next = None })
   new_stands = record { there = adds.added; own = owns_new }
 
   -- a place that was taken isn't the new one
@@ -48,7 +48,7 @@ module _ (nodes others : Slab Node) (lines : ByKey) (are : AreLinked nodes lines
       by (suc links) is filled = (last_there nodes are.owner (key, scope) line.last links line.first is).1.own
 
   -- the nodes of other lines stay
-  others_stay : (name : Name) → name ≢ (key, scope) → (place : ℕ) (node : Node) → Stands nodes are.owner name place node → Stands others owns name place node
+  others_stay : (name : Name) → name ≢ (key, scope) → (place : ℕ) (node : Node) → IsNodeOf nodes are.owner name place node → IsNodeOf others owns name place node
   others_stay name apart place node stand =
       let old = old_place place node stand.there in
       record {

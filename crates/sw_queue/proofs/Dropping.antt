@@ -9,7 +9,7 @@ use Rattle.std.proofs.lemmas.Bool.Decides.{nat_tests}
 use Rattle.std.proofs.lemmas.Map.Steps.{set_value_same}
 use Rattle.slab.specs.Slab.{Slab, get, slab_len}
 use Rattle.sw_queue.specs.Lines.{by_name, line_in, named}
-use Rattle.sw_queue.specs.Links.{AreLinked, ByKey, ByScope, Drops, IsLine, Name, Stands, count_all, line_of, no_nodes, numbers_from, numbers_of, seen, without_first}
+use Rattle.sw_queue.specs.Links.{AreLinked, ByKey, ByScope, Drops, IsLine, Name, IsNodeOf, count_all, line_of, no_nodes, numbers_from, numbers_of, seen, without_first}
 use Rattle.sw_queue.specs.declared.line.Line.{Line}
 use Rattle.sw_queue.specs.declared.line.Node.{Node}
 use Rattle.sw_queue.proofs.Linking.{leads_on, met_last, met_next}
@@ -27,7 +27,7 @@ gone nodes line node filled found =
 
 -- the first node of a line
 first_stands : (nodes : Slab Node) (owner : ℕ → Name) (name : Name) (last count first : ℕ) → IsLine nodes owner name last count first → 0 < count
-    → (node : Node) × Stands nodes owner name first node
+    → (node : Node) × IsNodeOf nodes owner name first node
 first_stands nodes owner name last zero first is filled = absurd (omega (arith, filled))
 first_stands nodes owner name last (suc zero) first is filled = (is.0, is.1)
 first_stands nodes owner name last (suc (suc links)) first is filled = (is.0, is.2)
@@ -59,7 +59,7 @@ module _ (nodes others : Slab Node) (lines : ByKey) (are : AreLinked nodes lines
   own = subst (λ (l : Line). IsLine nodes are.owner (key, scope) l.last l.count l.first) (own_line lines key scope scopes line of_key of_scope) (are.linked key scope)
 
   -- a place of another line stays as it was
-  stays_there : (name : Name) → name ≢ (key, scope) → (place : ℕ) (node : Node) → Stands nodes are.owner name place node → get others place ≡ get nodes place
+  stays_there : (name : Name) → name ≢ (key, scope) → (place : ℕ) (node : Node) → IsNodeOf nodes are.owner name place node → get others place ≡ get nodes place
   stays_there name apart place node stand =
       elim (cases_eq line.count 0) [
         | inl nothing ↦ ap (λ (n : Slab Node). get n place) (drops.empty nothing)
@@ -70,8 +70,8 @@ module _ (nodes others : Slab Node) (lines : ByKey) (are : AreLinked nodes lines
       ]
 
   -- the nodes of other lines stay
-  others_stay : (name : Name) → name ≢ (key, scope) → (place : ℕ) (node : Node) → Stands nodes are.owner name place node
-      → Stands others are.owner name place node
+  others_stay : (name : Name) → name ≢ (key, scope) → (place : ℕ) (node : Node) → IsNodeOf nodes are.owner name place node
+      → IsNodeOf others are.owner name place node
   others_stay name apart place node stand = record { there = stays_there name apart place node stand ∙ stand.there; own = stand.own }
 
   abbrev after : ByKey

@@ -7,7 +7,7 @@ use Rattle.std.proofs.lemmas.Bool.Decides.{nat_tests}
 use Rattle.std.proofs.lemmas.List.Sums.{sum_by-set}
 use Rattle.slab.specs.Slab.{Slab, Updates, get, slab_len, with_value}
 use Rattle.slab.proofs.SlabLemmas.{ContainsKey-within, Updates-with_value}
-use Rattle.sw_queue.specs.Links.{Adds, Leads, Name, Stands, followed, numbers_from, with_link}
+use Rattle.sw_queue.specs.Links.{Adds, Leads, Name, IsNodeOf, followed, numbers_from, with_link}
 use Rattle.sw_queue.specs.declared.line.Line.{Line}
 use Rattle.sw_queue.specs.declared.line.Node.{Node}
 
@@ -96,8 +96,8 @@ no_next one two a same first second = absurd cc
 
 module _ (nodes : Slab Node) (owner : ℕ → Name) (name : Name) (last : ℕ) where
   -- the last node links none
-  pub last_there : (links place : ℕ) → Leads nodes owner name last links place → (node : Node) × Stands nodes owner name last node × (node.next ≡ None)
-  last_there zero place h = (h.0, subst (λ p. Stands nodes owner name p h.0) h.3 h.1, h.2)
+  pub last_there : (links place : ℕ) → Leads nodes owner name last links place → (node : Node) × IsNodeOf nodes owner name last node × (node.next ≡ None)
+  last_there zero place h = (h.0, subst (λ p. IsNodeOf nodes owner name p h.0) h.3 h.1, h.2)
   last_there (suc links) place h = last_there links h.1 h.4
 
   -- from a place there is one number of links to the last
@@ -121,8 +121,8 @@ module _ (nodes : Slab Node) (owner : ℕ → Name) (name : Name) (last : ℕ) w
   module _ (others : Slab Node) (owns : ℕ → Name) where
     -- links stay where their places do
     pub leads_stay : (most : ℕ)
-        → ((links place : ℕ) (node : Node) → links ≤ most → Leads nodes owner name last links place → Stands nodes owner name place node
-        → Stands others owns name place node)
+        → ((links place : ℕ) (node : Node) → links ≤ most → Leads nodes owner name last links place → IsNodeOf nodes owner name place node
+        → IsNodeOf others owns name place node)
         → (links place : ℕ) → links ≤ most → Leads nodes owner name last links place
         → Leads others owns name last links place × (numbers_from others (suc links) place ≡ numbers_from nodes (suc links) place)
     leads_stay most stays zero place below h =
@@ -137,15 +137,15 @@ module _ (nodes : Slab Node) (owner : ℕ → Name) (name : Name) (last : ℕ) w
         )
 
     -- one more number is met behind the last
-    pub leads_more : (place number : ℕ) → Stands others owns name place (record { job = number; next = None })
-        → ((node : Node) → Stands nodes owner name last node → Stands others owns name last (followed place node))
-        → ((other : ℕ) (node : Node) → other ≢ last → Stands nodes owner name other node → Stands others owns name other node)
+    pub leads_more : (place number : ℕ) → IsNodeOf others owns name place (record { job = number; next = None })
+        → ((node : Node) → IsNodeOf nodes owner name last node → IsNodeOf others owns name last (followed place node))
+        → ((other : ℕ) (node : Node) → other ≢ last → IsNodeOf nodes owner name other node → IsNodeOf others owns name other node)
         → (links first : ℕ) → Leads nodes owner name last links first
         → Leads others owns name place (suc links) first
         × (numbers_from others (suc (suc links)) first ≡ numbers_from nodes (suc links) first ++ number ∷ [])
     leads_more place number new behind stays zero first h =
         let node = followed place h.0 in
-        let stand = subst (λ p. Stands others owns name p node) (sym h.3) (behind h.0 (subst (λ p. Stands nodes owner name p h.0) h.3 h.1)) in (
+        let stand = subst (λ p. IsNodeOf others owns name p node) (sym h.3) (behind h.0 (subst (λ p. IsNodeOf nodes owner name p h.0) h.3 h.1)) in (
           (node, place, stand, refl, (record { job = number; next = None }, new, refl, refl)),
           met_next others 1 first place node stand.there refl
               ∙ (ap (λ numbers. h.0.job ∷ numbers) (met_last others place (record { job = number; next = None }) new.there)

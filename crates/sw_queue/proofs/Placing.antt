@@ -10,7 +10,7 @@ use Rattle.std.proofs.lemmas.Map.{lookup-set_value}
 use Rattle.std.proofs.lemmas.Map.Entries.{sum_by-set_value}
 use Rattle.slab.specs.Slab.{HasRoomFor, Slab, get, slab_len}
 use Rattle.sw_queue.specs.Lines.{InLine, Scoped, line_in, named, no_line}
-use Rattle.sw_queue.specs.Links.{AreLinked, ByKey, ByScope, IsLine, Name, Stands, count_all, count_by_scope, last_number, line_of, no_nodes, numbers_from, numbers_of, seen, seen_line}
+use Rattle.sw_queue.specs.Links.{AreLinked, ByKey, ByScope, IsLine, Name, IsNodeOf, count_all, count_by_scope, last_number, line_of, no_nodes, numbers_from, numbers_of, seen, seen_line}
 use Rattle.sw_queue.specs.declared.line.Line.{Line}
 use Rattle.sw_queue.specs.declared.line.Node.{Node}
 use Rattle.sw_queue.proofs.Linking.{last_met, leads_stay}
@@ -134,7 +134,7 @@ module _ (lines : ByKey) (key scope : List ℕ) (scopes : ByScope) (line : Line)
 -- ---- the nodes of a line that stays
 
 module _ (nodes others : Slab Node) (owner owns : ℕ → Name) (name : Name) where
-  pub line_stays : ((place : ℕ) (node : Node) → Stands nodes owner name place node → Stands others owns name place node)
+  pub line_stays : ((place : ℕ) (node : Node) → IsNodeOf nodes owner name place node → IsNodeOf others owns name place node)
       → (last count first : ℕ) → IsLine nodes owner name last count first
       → IsLine others owns name last count first × (numbers_from others count first ≡ numbers_from nodes count first)
   line_stays stays last zero first is = (tt, refl)

@@ -97,15 +97,15 @@ abbrev pub Name : Type 0
 Name = List ℕ × List ℕ
 
 -- own: this node stands at a place that belongs to the line of this name
-pub record Stands (nodes : Slab Node) (owner : ℕ → Name) (name : Name) (place : ℕ) (node : Node) : Type 0 where
+pub record IsNodeOf (nodes : Slab Node) (owner : ℕ → Name) (name : Name) (place : ℕ) (node : Node) : Type 0 where
   pub there : get nodes place ≡ Some node
   pub own : owner place ≡ name
 
 -- own: so many links lead from a place to the last node of a line, over places that belong to it, and the last node links none
 abbrev pub Leads : Slab Node → (ℕ → Name) → Name → ℕ → ℕ → ℕ → Type 0
-Leads nodes owner name last zero place = (node : Node) × Stands nodes owner name place node × (node.next ≡ None) × (place ≡ last)
+Leads nodes owner name last zero place = (node : Node) × IsNodeOf nodes owner name place node × (node.next ≡ None) × (place ≡ last)
 Leads nodes owner name last (suc links) place =
-    (node : Node) × (next : ℕ) × Stands nodes owner name place node × (node.next ≡ Some next) × Leads nodes owner name last links next
+    (node : Node) × (next : ℕ) × IsNodeOf nodes owner name place node × (node.next ≡ Some next) × Leads nodes owner name last links next
 
 -- own: a line counts the nodes from its first to its last, which belong to it
 abbrev pub IsLine : Slab Node → (ℕ → Name) → Name → ℕ → ℕ → ℕ → Type 0

@@ -32,7 +32,8 @@ impl Model for Scopes {
 impl Scopes {
     // An empty line of a scope.
     pub(crate) fn with_line(alloc: Global, scope: &[u8]) -> Result<Scopes, NoMemory>
-        ensures lines { IfOk result (λ scopes. (asked : List ℕ) → named scopes asked no_nodes ≡ no_nodes) }
+        ensures lines { IfOk result (λ scopes. (asked : List ℕ)
+            → named scopes asked no_nodes ≡ no_nodes) }
         ensures count { IfOk result (λ scopes. count_by_scope scopes ≡ 0) }
         ensures there { IfOk result (λ scopes. IsSome (lookup (bytes_eq scope.now) scopes)) }
     {
@@ -46,7 +47,8 @@ impl Scopes {
     // Makes an empty line of a scope, where it has none.
     #[tactic(auto, using(crate::proofs::Making::begun_line, crate::proofs::Making::begun_count, crate::proofs::Making::begun_there))]
     pub(crate) fn make_line(&mut self, alloc: Global, scope: &[u8]) -> Result<(), NoMemory>
-        ensures lines { (asked : List ℕ) → named self.new asked no_nodes ≡ named self.old asked no_nodes }
+        ensures lines { (asked : List ℕ)
+            → named self.new asked no_nodes ≡ named self.old asked no_nodes }
         ensures count { count_by_scope self.new ≡ count_by_scope self.old }
         ensures there { OnOk result (IsSome (lookup (bytes_eq scope.now) self.new)) }
     {

@@ -7,4 +7,4 @@ mod watched;
 
 pub use mapped::Mapped;
 pub use moving::moves_since;
-pub use watched::{Watched, publish_rest};
+pub use watched::Watched;

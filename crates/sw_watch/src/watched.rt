@@ -28,9 +28,9 @@ impl<T: Mapped, R: Wait + Drop> Model for Watched<T, R> {
         IsWatched (T.kept watched.value) (T.log watched.value) watched.publisher };
 }
 
-/// Publishes the entries of a value that are not published yet. It may wait for readers. After want of memory what is
-/// published stays.
-pub fn publish_rest<T: Mapped, R: Wait>(
+// Publishes the entries of a value that are not published yet. It may wait for readers. After want of memory what is
+// published stays.
+fn publish_rest<T: Mapped, R: Wait>(
     rt: &R,
     value: &T,
     publisher: &mut Publisher,

@@ -11,6 +11,7 @@ use Rattle.sw_pool.proofs.LookLemmas.{seen_is_right}
 use Rattle.sw_pool.proofs.crew.Crew.TheSendSync as crew
 use Rattle.sw_pool.proofs.looking.work_watched.Goals as goal
 use Rattle.sw_pool.specs.Yards.{IsWorked, Origin}
+use Rattle.sw_view.proofs.Fronts.{prefix_trans}
 use Rattle.sw_view.specs.Views.{Published}
 
 pub side_by_side-looks-requires-send-C : goal.side_by_side-looks-requires-send-C
@@ -37,7 +38,7 @@ pub returns-then-covers-clause-answers : goal.returns-then-covers-clause-answers
 returns-then-covers-clause-answers g c =
     seen_is_right (λ looks. looks.items) _ c.args.yard.origin.base _ c.end_of.result.progress.history.items c.args.asked.now c.side_by_side-looks.result
     (ap (λ (seen : Published). seen.base) c.requires.looker ∙ c.requires.base)
-    (subst (λ (entries : List Entry). IsPrefix c.side_by_side-looks.new.looker.entries entries) (sym (λ i. (c.end_of.ensures.progress i).history.items)) (c.covers.ensures c.if-covers.true))
+    (subst (λ (entries : List Entry). IsPrefix c.side_by_side-looks.new.looker.entries entries) (sym (λ i. (c.end_of.ensures.progress i).history.items)) (prefix_trans _ _ _ (c.covers.ensures.front (c.covers.ensures.exactly.0 c.if-covers.true)) c.into_parts-yard.ensures.begins))
     c.side_by_side-looks.ensures.answers
 
 pub returns-in-Ok-clause-worked : goal.returns-in-Ok-clause-worked
