@@ -1,7 +1,8 @@
 -- An addAll whose fetches have ended settles with what was done to its cache.
-use Rattle.std.proofs.Common.{◌≡◌, ℕ, List, Option, Some, None, refl, true, subst, arith, if◌then◌else◌}
+use Rattle.std.proofs.Common.{◌≡◌, ◌∙◌, ℕ, List, Option, Some, None, refl, true, subst, arith, if◌then◌else◌}
 use Rattle.std.specs.Prelude.{false, Result, Ok, Err, find, is_none, option_and_then}
 use Rattle.std.specs.Option.{option_map_or}
+use Rattle.std.proofs.lemmas.List.{append-nil}
 use Rattle.sw_cachestorage.specs.Acts.{IsOutcome, IsStep}
 use Rattle.sw_cachestorage.specs.Added.{IsAdded, IsEnded, is_fault, settled_by, stored, value_of}
 use Rattle.sw_cachestorage.specs.declared.act.CacheStep.{CacheStep}
@@ -13,7 +14,7 @@ use Rattle.sw_data.specs.declared.recordings.FetchLine.{FetchLine}
 use Rattle.sw_data.specs.declared.storage.KeptCache.{KeptCache}
 use Rattle.sw_ledgers.specs.Tasks.{has_task}
 use Rattle.sw_rules.specs.Batch.{BatchFault, batch}
-use Rattle.sw_rules.specs.Caching.{batch_fault, carry_out, pairs_of, puts_of, responses_fault, run_batch, settle_task, store_task, task_ended, task_refused, with_cache_pairs}
+use Rattle.sw_rules.specs.Caching.{batch_changes, batch_fault, carry_out, pairs_of, puts_of, responses_fault, run_batch, settle_task, store_task, task_ended, task_refused, with_cache_pairs}
 use Rattle.sw_rules.specs.Matching.{Pair}
 use Rattle.sw_rules.specs.Rows.{is_task}
 use Rattle.sw_rules.specs.State.{State, AddAll}
@@ -36,6 +37,7 @@ module _ (caches : List KeptCache) (tasks : List AddAll) (lines : List (Option F
     answer = is.answer;
     notices = refl;
     state_is = (λ i. (settle_task (is.state_is i) row.number (value_of (is.answer i)) (is_fault (is.answer i))).state);
+    changes = is.changes;
   }
 
   abbrev ops : List Op
@@ -58,6 +60,7 @@ module _ (caches : List KeptCache) (tasks : List AddAll) (lines : List (Option F
         answer = is.answer;
         notices = refl;
         state_is = (λ i. (settle_task (is.state_is i) row.number (value_of (is.answer i)) (is_fault (is.answer i))).state);
+        changes = append-nil (batch_changes row.key row.name ops) ∙ is.changes;
       }
       by (Err why) is = refuses (batch_fault why) is
 

@@ -83,10 +83,10 @@ module _ (key name : List ℕ) (ops : List Op) (rows : List KeptCache) (others :
   IsTold found step = IsOutcome (on_pairs found) others rows step
 
   abbrev pub Tells : Option (List Pair) → Fault → Type 0
-  Tells found why = IsTold found (record { answer = answer.Fault why; act = act.Nothing })
+  Tells found why = IsTold found (record { answer = answer.Fault why; act = act.Nothing; changes = [] })
 
   tells : (found : Fault) (pairs : List Pair) → unparsed_fault pairs ops ≡ found → Tells (Some pairs) found
-  tells found pairs is = record { answer = ap answer.Fault is; notices = refl; state_is = refl }
+  tells found pairs is = record { answer = ap answer.Fault is; notices = refl; state_is = refl; changes = refl }
 
   -- the operations throw nothing but the quota: the address is told, behind them
   pub unparsed : (result : Result CachePlan BatchFault) → IfOk result (λ plan. IsBatch key name ops rows (carried_rows plan rows)) → IfErr result (IsRefused key name ops rows)

@@ -23,12 +23,13 @@ FitsAct (act.Make new) caches = FitsNew new caches
 FitsAct (act.Drop key name) caches = Unit {0}
 FitsAct (act.Carry plan) caches = FitsTable plan caches.indexes
 
--- an outcome in a state with these caches is this answer and act, and tells nothing
+-- an outcome in a state with these caches is this answer and act, has these durable changes, and tells nothing else
 pub record IsOutcome (outcome : Outcome) (others : State) (rows : List KeptCache) (step : CacheStep) : Type 0 where
   pub answer : outcome.answer ≡ step.answer
   pub notices : outcome.told.notices ≡ []
   pub state_is : outcome.told.state ≡ record others { caches = acted step.act rows }
+  pub changes : outcome.told.changes ≡ step.changes
 
--- an action comes to this answer and act in every state with these caches
+-- an action comes to this answer, act and changes in every state with these caches
 abbrev pub IsStep : List KeptCache → (State → Outcome) → CacheStep → Type 0
 IsStep rows action step = (others : State) → IsOutcome (action (record others { caches = rows })) others rows step

@@ -72,6 +72,7 @@ abbrev pub settled_by : CacheStep → AddedStep
 settled_by step = record {
   answer = step.answer;
   act = step.act;
+  changes = step.changes;
   value = value_of step.answer;
   faulted = is_fault step.answer;
 }
@@ -81,11 +82,12 @@ abbrev pub told_by_added : AddedStep → ℕ → State → Told
 told_by_added step task state =
     settle_task (record state { caches = acted step.act state.caches }) task step.value step.faulted
 
--- own: an outcome is what this step comes to, and tells nothing
+-- own: an outcome is what this step comes to, has its durable changes, and tells nothing else
 pub record IsAdded (outcome : Outcome) (state : State) (task : ℕ) (step : AddedStep) : Type 0 where
   pub answer : outcome.answer ≡ step.answer
   pub notices : outcome.told.notices ≡ []
   pub state_is : outcome.told.state ≡ (told_by_added step task state).state
+  pub changes : outcome.told.changes ≡ step.changes
 
 -- own: the end of an addAll's fetches is enabled in a state with these caches and addAlls, and comes to this step
 abbrev pub IsEnded : List KeptCache → List AddAll → ℕ → List (Option FetchLine) → AddedStep → State → Type 0

@@ -1,10 +1,11 @@
 //! What an action does to the caches.
 
-ghost use Rattle.std.specs.Prelude.{◌≡◌};
+ghost use Rattle.std.specs.Prelude.{◌≡◌, []};
 ghost use Rattle.sw_data.specs.declared.answers.Fault.TheVariants as fault;
 
+use std::alloc::Global;
 use sw_caches::{CachePlan, NewCache};
-use sw_data::{Answer, Cause, Fault, Text};
+use sw_data::{Answer, Cause, Change, Fault, Items, Text};
 
 /// What is done to the caches, with its room.
 #[derive(Drop)]
@@ -18,39 +19,45 @@ pub enum CacheAct {
     Carry(CachePlan),
 }
 
-/// An action on caches, worked out: its answer, and what it does. It tells nothing else.
+/// An action on caches, worked out: its answer, what it does, and its durable changes. It tells nothing else.
 #[derive(Drop)]
 pub struct CacheStep {
     pub answer: Answer,
     pub act: CacheAct,
+    pub changes: Items<Change>,
 }
 
 /// An answer that leaves the caches as they are.
-pub fn answered(answer: Answer) -> CacheStep
-    ensures { result ≡ record { answer = answer; act = CacheAct.Nothing } }
+pub fn answered(alloc: Global, answer: Answer) -> CacheStep
+    ensures { result ≡ record { answer = answer; act = CacheAct.Nothing; changes = [] } }
 {
     CacheStep {
         answer,
         act: CacheAct::Nothing,
+        changes: Items::new(alloc),
     }
 }
 
 /// A fault, which leaves the caches as they are.
-pub fn refused(why: Fault) -> CacheStep
-    ensures { result ≡ record { answer = Answer.Fault why; act = CacheAct.Nothing } }
+pub fn refused(alloc: Global, why: Fault) -> CacheStep
+    ensures { result ≡ record { answer = Answer.Fault why; act = CacheAct.Nothing; changes = [] } }
 {
-    answered(Answer::Fault(why))
+    answered(alloc, Answer::Fault(why))
 }
 
 /// An address that doesn't parse.
-pub fn unparsed() -> CacheStep
+pub fn unparsed(alloc: Global) -> CacheStep
     ensures { result ≡ record {
       answer = Answer.Fault (fault.TypeError Cause.Unparsed None);
       act = CacheAct.Nothing;
+      changes = [];
     } }
 {
-    refused(Fault::TypeError {
-        cause: Cause::Unparsed,
-        index: None,
-    })
+    refused(
+        alloc,
+        Fault::TypeError {
+            cause: Cause::Unparsed,
+            index: None,
+        },
+    )
 }

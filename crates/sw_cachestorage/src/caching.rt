@@ -5,6 +5,7 @@ ghost use Rattle.sw_rules.specs.Caching as rules;
 ghost use Rattle.sw_cachestorage.specs.Acts.{FitsAct, IsStep};
 
 use crate::act::{CacheAct, CacheStep, answered};
+use crate::changes::{dropped, made};
 use std::alloc::Global;
 use sw_caches::Caches;
 use sw_data::{Answer, Items, NoMemory, Text};
@@ -23,21 +24,23 @@ pub fn open_cache(
         (IsStep caches.old.rows (λ state. rules.open_cache state name.now key.now)) }
 {
     if caches.has(key, name) {
-        return Ok(answered(Answer::Found));
+        return Ok(answered(alloc, Answer::Found));
     }
+    let changes = made(alloc, key, name)?;
     let new = caches.make_row(alloc, key, name)?;
     Ok(CacheStep {
         answer: Answer::Made,
         act: CacheAct::Make(new),
+        changes,
     })
 }
 
 /// Whether a cache is there ("has()").
-pub fn has_cache(caches: &Caches, key: &Text, name: &Text) -> CacheStep
+pub fn has_cache(alloc: Global, caches: &Caches, key: &Text, name: &Text) -> CacheStep
     ensures fits { FitsAct result.act caches.now }
     ensures step { IsStep caches.now.rows (λ state. rules.has_cache state name.now key.now) result }
 {
-    answered(Answer::Truth(caches.has(key, name)))
+    answered(alloc, Answer::Truth(caches.has(key, name)))
 }
 
 /// A cache is removed ("delete()").
@@ -53,14 +56,16 @@ pub fn delete_cache(
         (IsStep caches.now.rows (λ state. rules.delete_cache state name.now key.now)) }
 {
     if !caches.has(key, name) {
-        return Ok(answered(Answer::Truth(false)));
+        return Ok(answered(alloc, Answer::Truth(false)));
     }
+    let changes = dropped(alloc, key, name)?;
     Ok(CacheStep {
         answer: Answer::Truth(true),
         act: CacheAct::Drop {
             key: key.copy(alloc)?,
             name: name.copy(alloc)?,
         },
+        changes,
     })
 }
 
@@ -71,5 +76,5 @@ pub fn cache_names(alloc: Global, caches: &Caches, key: &Text) -> Result<CacheSt
         (IsStep caches.now.rows (λ state. rules.cache_names state key.now)) }
 {
     let names = caches.names(alloc, key)?;
-    Ok(answered(Answer::Names(Items::from_vec(names))))
+    Ok(answered(alloc, Answer::Names(Items::from_vec(names))))
 }

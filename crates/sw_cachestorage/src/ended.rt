@@ -20,18 +20,20 @@ use crate::writes::batch;
 use std::alloc::Global;
 use sw_caches::Caches;
 use sw_data::{
-    Answer, Cause, Fault, FetchLine, Fetched, NoMemory, Op, Request, Response, Settlement, Who,
+    Answer, Cause, Change, Fault, FetchLine, Fetched, Items, NoMemory, Op, Request, Response,
+    Settlement, Who,
 };
 use sw_ledgers::{TaskRow, Tasks};
 use sw_match::varies_on_all;
 use sw_worker::Workers;
 
-/// What the fetches of an addAll came to, worked out: its answer, what is done to the caches, what it settles with, and
-/// whether that is a fault.
+/// What the fetches of an addAll came to, worked out: its answer, what is done to the caches, the durable changes, what it
+/// settles with, and whether that is a fault.
 #[derive(Drop)]
 pub struct AddedStep {
     pub answer: Answer,
     pub act: CacheAct,
+    pub changes: Items<Change>,
     pub value: Settlement,
     pub faulted: bool,
 }
@@ -146,7 +148,7 @@ fn stored(
         (IsStep caches.old.rows (λ state. stored state lines.now (row_of row.now))) }
 {
     match responses_fault(row.requests.as_slice(), lines)? {
-        Some(why) => Ok(refused(why)),
+        Some(why) => Ok(refused(alloc, why)),
         None => {
             let ops = puts_of(alloc, row.requests.as_slice(), lines)?;
             batch(alloc, caches, &row.key, &row.name, ops, None, false)
@@ -158,7 +160,11 @@ fn stored(
 fn settled(step: CacheStep) -> AddedStep
     ensures { result ≡ settled_by step }
 {
-    let CacheStep { answer, act } = step;
+    let CacheStep {
+        answer,
+        act,
+        changes,
+    } = step;
     let (value, faulted) = match answer {
         Answer::Fault(why) => (Settlement::Fault(why), true),
         _ => (Settlement::Done, false),
@@ -166,6 +172,7 @@ fn settled(step: CacheStep) -> AddedStep
     AddedStep {
         answer,
         act,
+        changes,
         value,
         faulted,
     }

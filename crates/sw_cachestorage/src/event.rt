@@ -56,7 +56,7 @@ fn act_at(
 {
     match event {
         Event::CacheOpen { name, .. } => open_cache(alloc, caches, key, name),
-        Event::CacheHas { name, .. } => Ok(has_cache(caches, key, name)),
+        Event::CacheHas { name, .. } => Ok(has_cache(alloc, caches, key, name)),
         Event::CacheDelete { name, .. } => delete_cache(alloc, caches, key, name),
         Event::CacheKeys { .. } => cache_names(alloc, caches, key),
         Event::Match { place, find, .. } => match_request(alloc, caches, &place.at, key, find),
@@ -89,7 +89,7 @@ pub fn prepare_on_caches(
     };
     match place_key(alloc, place)? {
         Ok(key) => act_at(alloc, caches, &key, event),
-        Err(why) => Ok(refused(why)),
+        Err(why) => Ok(refused(alloc, why)),
     }
 }
 

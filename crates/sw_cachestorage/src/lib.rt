@@ -7,6 +7,7 @@
 mod act;
 mod adding;
 mod caching;
+mod changes;
 mod ended;
 mod event;
 mod forgetting;
@@ -21,4 +22,4 @@ pub use ended::{AddedStep, added, settle_added};
 pub use event::{finish_on_caches, is_on_caches, prepare_on_caches};
 pub use forgetting::{forget, forget_one, is_busy, mapped_many};
 pub use place::place_key;
-pub use writes::{batch_ops, delete_request, parsed_ops, put_response};
+pub use writes::{batch_ops, delete_request, put_response};

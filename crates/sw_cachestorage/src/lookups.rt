@@ -48,10 +48,10 @@ pub fn match_request(
         Ok(url) => {
             let query = asked.request.with_url(alloc, url)?;
             let found = caches.find(key, asked.name.as_ref(), &query, asked.options);
-            Ok(answered(hit_answer(alloc, found)?))
+            Ok(answered(alloc, hit_answer(alloc, found)?))
         }
         Err(UrlFault::NoMemory) => Err(NoMemory),
-        Err(_) => Ok(unparsed()),
+        Err(_) => Ok(unparsed(alloc)),
     }
 }
 
@@ -70,8 +70,8 @@ fn places(
         (answer.Places (asked_places pairs (option_copied query.entry) options))))) }
 {
     match caches.keys(alloc, key, name, query, options) {
-        Ok(places) => Ok(answered(Answer::Places(Items::from_vec(places)))),
-        Err(CacheFault::CacheGone) => Ok(refused(Fault::CacheGone)),
+        Ok(places) => Ok(answered(alloc, Answer::Places(Items::from_vec(places)))),
+        Err(CacheFault::CacheGone) => Ok(refused(alloc, Fault::CacheGone)),
         Err(CacheFault::NoMemory) => Err(NoMemory),
     }
 }
@@ -89,7 +89,7 @@ pub fn query_cache(
         (λ state. rules.query_cache state base.now asked.now key.now)) }
 {
     if !caches.has(key, &asked.name) {
-        return Ok(refused(Fault::CacheGone));
+        return Ok(refused(alloc, Fault::CacheGone));
     }
     let Some(request) = &asked.request else {
         return places(alloc, caches, key, &asked.name, None, asked.options);
@@ -100,6 +100,6 @@ pub fn query_cache(
             places(alloc, caches, key, &asked.name, Some(&query), asked.options)
         }
         Err(UrlFault::NoMemory) => Err(NoMemory),
-        Err(_) => Ok(unparsed()),
+        Err(_) => Ok(unparsed(alloc)),
     }
 }

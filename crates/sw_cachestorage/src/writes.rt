@@ -11,6 +11,7 @@ ghost use Rattle.sw_cachestorage.specs.declared.act.CacheAct.TheVariants as Cach
 ghost use Rattle.sw_caches.specs.declared.fault.BatchFault.TheVariants as BatchFault;
 
 use crate::act::{CacheAct, CacheStep, refused, unparsed};
+use crate::changes::batch_changes;
 use std::alloc::Global;
 use sw_caches::{BatchFault, CachePlan, Caches};
 use sw_data::{
@@ -34,15 +35,16 @@ fn fault_of(why: BatchFault, alone: bool) -> Fault
 }
 
 // What a refused batch comes to.
-fn refusal(why: BatchFault, alone: bool) -> Result<CacheStep, NoMemory>
+fn refusal(alloc: Global, why: BatchFault, alone: bool) -> Result<CacheStep, NoMemory>
     ensures { IfOk result (λ step. (why ≢ BatchFault.NoMemory) × (step ≡ record {
       answer = answer.Fault (thrown_fault alone why);
       act = CacheAct.Nothing;
+      changes = [];
     })) }
 {
     match why {
         BatchFault::NoMemory => Err(NoMemory),
-        _ => Ok(refused(fault_of(why, alone))),
+        _ => Ok(refused(alloc, fault_of(why, alone))),
     }
 }
 
@@ -56,7 +58,7 @@ fn done(truth: Option<bool>) -> Answer
     }
 }
 
-// A batch, worked out: its answer, or the fault that it throws.
+// A batch, worked out: its answer and its change, or the fault that it throws.
 pub(crate) fn batch(
     alloc: Global,
     caches: &mut Caches,
@@ -72,12 +74,14 @@ pub(crate) fn batch(
         with_cache_pairs state key.now name.now
         (run_batch state key.now name.now ops.items (done_answer truth) (fault_by alone)))) }
 {
+    let changes = batch_changes(alloc, key, name, ops.as_slice())?;
     match caches.plan(alloc, key, name, ops) {
         Ok(plan) => Ok(CacheStep {
             answer: done(truth),
             act: CacheAct::Carry(plan),
+            changes,
         }),
-        Err(why) => refusal(why, alone),
+        Err(why) => refusal(alloc, why, alone),
     }
 }
 
@@ -104,7 +108,7 @@ pub fn put_response(
         (λ state. rules.put_response state base.now put.now key.now)) }
 {
     if !caches.has(key, &put.name) {
-        return Ok(refused(Fault::CacheGone));
+        return Ok(refused(alloc, Fault::CacheGone));
     }
     match resolve(alloc, &put.request.url, base) {
         Ok(url) => {
@@ -114,7 +118,7 @@ pub fn put_response(
             batch(alloc, caches, key, &put.name, ops, None, true)
         }
         Err(UrlFault::NoMemory) => Err(NoMemory),
-        Err(_) => Ok(unparsed()),
+        Err(_) => Ok(unparsed(alloc)),
     }
 }
 
@@ -132,7 +136,7 @@ pub fn delete_request(
         (λ state. rules.delete_request state base.now asked.now key.now)) }
 {
     if !caches.has(key, &asked.name) {
-        return Ok(refused(Fault::CacheGone));
+        return Ok(refused(alloc, Fault::CacheGone));
     }
     match resolve(alloc, &asked.request.url, base) {
         Ok(url) => {
@@ -143,7 +147,7 @@ pub fn delete_request(
             batch(alloc, caches, key, &asked.name, ops, removed, true)
         }
         Err(UrlFault::NoMemory) => Err(NoMemory),
-        Err(_) => Ok(unparsed()),
+        Err(_) => Ok(unparsed(alloc)),
     }
 }
 
@@ -171,8 +175,8 @@ fn parsed_op(alloc: Global, base: &Text, op: &Op) -> Result<Option<Op>, NoMemory
     }
 }
 
-/// The operations before the first whose address doesn't parse, and whether all parse.
-pub fn parsed_ops(alloc: Global, base: &Text, ops: &[Op]) -> Result<(Vec<Op>, bool), NoMemory>
+// The operations before the first whose address doesn't parse, and whether all parse.
+fn parsed_ops(alloc: Global, base: &Text, ops: &[Op]) -> Result<(Vec<Op>, bool), NoMemory>
     ensures { IfOk result (λ parsed.
         (parsed.0.items, parsed.1) ≡ rules.parsed_ops base.now ops.now) }
 {
@@ -215,11 +219,14 @@ fn unparsed_batch(
     };
     let planned = caches.plan(alloc, key, name, before);
     match thrown(planned) {
-        Some(why) => refusal(why, false),
-        None => Ok(refused(Fault::TypeError {
-            cause: Cause::Unparsed,
-            index: Some(at),
-        })),
+        Some(why) => refusal(alloc, why, false),
+        None => Ok(refused(
+            alloc,
+            Fault::TypeError {
+                cause: Cause::Unparsed,
+                index: Some(at),
+            },
+        )),
     }
 }
 
@@ -237,7 +244,7 @@ pub fn batch_ops(
         (λ state. rules.batch_ops state base.now asked.now key.now)) }
 {
     if !caches.has(key, &asked.name) {
-        return Ok(refused(Fault::CacheGone));
+        return Ok(refused(alloc, Fault::CacheGone));
     }
     let (ops, all) = parsed_ops(alloc, base, asked.operations.as_slice())?;
     if all {

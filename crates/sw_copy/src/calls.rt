@@ -34,7 +34,7 @@ fn copy_batch(alloc: Global, batch: &CacheBatch) -> Result<CacheBatch, NoMemory>
 {
     Ok(CacheBatch {
         name: batch.name.copy(alloc)?,
-        operations: copy_ops(alloc, &batch.operations)?,
+        operations: copy_ops(alloc, batch.operations.as_slice())?,
     })
 }
 

@@ -35,12 +35,12 @@ pub(crate) fn copy_requests(
     Ok(copy)
 }
 
-// A list of operations of its own that equals this one.
-pub(crate) fn copy_ops(alloc: Global, ops: &Items<Op>) -> Result<Items<Op>, NoMemory>
+/// A list of operations of its own that equals this one.
+pub fn copy_ops(alloc: Global, ops: &[Op]) -> Result<Items<Op>, NoMemory>
     ensures { IfOk result (λ copy. copy ≡ ops.now) }
 {
     let mut copy = Items::new(alloc);
-    for op in ops.as_slice() {
+    for op in ops {
         copy.push(copy_op(alloc, op)?)?;
     }
     Ok(copy)

@@ -6,5 +6,5 @@ mod exchange;
 mod sameness;
 
 pub use calls::{copy_call, copy_calls, copy_fetched, copy_handlers, copy_line};
-pub use exchange::copy_op;
+pub use exchange::{copy_op, copy_ops};
 pub use sameness::same_call;

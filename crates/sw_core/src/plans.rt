@@ -1,6 +1,8 @@
 //! Events, worked out and done.
 
+ghost use Rattle.std.specs.Cow.{cow_slice_items};
 ghost use Rattle.std.specs.Prelude.{◌≡◌, true, IfOk, IfSome};
+ghost use Rattle.sw_data.specs.declared.events.Event as events;
 ghost use Rattle.sw_laws.specs.Coherent.{Coherent};
 ghost use Rattle.sw_rules.specs.Step.{changes_of, enabled, step};
 ghost use Rattle.sw_rules.specs.Told.{Outcome};
@@ -10,6 +12,7 @@ ghost use Rattle.sw_work.specs.Plans.{Means};
 
 use crate::core_tables::Core;
 use std::alloc::Global;
+use std::borrow::CowSlice;
 use sw_data::{Change, Event, NoMemory};
 use sw_finish::finish;
 use sw_prepare::{changes, prepare};
@@ -28,22 +31,21 @@ impl Core {
         prepare(&mut self.host, alloc, event)
     }
 
-    /// The durable changes of an event that was worked out, before it is done. It needs memory for them alone.
-    pub fn changes(
+    /// The durable changes of an event that was worked out, before it is done. Those that the plan holds are lent; the
+    /// others need memory for themselves alone.
+    pub fn changes<'a>(
         &self,
         alloc: Global,
-        event: &Event,
-        plan: &Plan,
-    ) -> Result<Vec<Change>, NoMemory>
+        plan: &'a Plan,
+    ) -> Result<CowSlice<'a, Change, Global>, NoMemory>
         requires coherent { Coherent (state_of self.now) }
-        requires enabled { enabled (state_of self.now) event.now ≡ true }
         requires fits { Fits plan.now self.now }
-        requires means { IfSome (step (state_of self.now) event.now)
-            (Means plan.now.work self.now) }
-        ensures { IfOk result (λ changes. changes.items
-            ≡ changes_of (state_of self.now) event.now) }
+        ensures { (event : events.Event) → enabled (state_of self.now) event ≡ true
+            → IfSome (step (state_of self.now) event) (Means plan.now.work self.now)
+            → IfOk result (λ changes. cow_slice_items changes
+            ≡ changes_of (state_of self.now) event) }
     {
-        changes(&self.host, alloc, event, plan)
+        changes(&self.host, alloc, plan)
     }
 
     /// Carries out a plan that was made for an event that is enabled. It takes no memory.

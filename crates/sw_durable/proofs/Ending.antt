@@ -18,7 +18,7 @@ use Rattle.sw_data.specs.declared.workers.Slot.TheVariants as slot
 use Rattle.sw_data.specs.declared.workers.WorkerState.{WorkerState}
 use Rattle.sw_data.specs.declared.workers.WorkerState.TheVariants as worker_state
 use Rattle.sw_durable.specs.OfJobs.{end_changes, failure_changes, gone_changes, has_failed, install_changes, waiting_changes, worker_changes, worker_of_job}
-use Rattle.sw_cachechanges.specs.Telling.{Tells}
+use Rattle.sw_durable.specs.Telling.{Tells}
 use Rattle.sw_install.proofs.Enabled.{both, if_some}
 use Rattle.sw_install.specs.Underway.{GoesItsWay, IsMade, IsUnderWay}
 use Rattle.sw_reg.specs.Table as registrations

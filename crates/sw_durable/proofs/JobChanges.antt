@@ -24,7 +24,7 @@ use Rattle.sw_data.specs.declared.storage.Change.TheVariants as change
 use Rattle.sw_data.specs.declared.workers.Slot.TheVariants as slot
 use Rattle.sw_data.specs.Addresses.{same_origin}
 use Rattle.sw_durable.specs.OfJobs.{evaluation_changes, fetch_changes, gone_changes, mode_changes, new_mode, unregister_changes, unregistered, worker_of_job}
-use Rattle.sw_cachechanges.specs.Telling.{Tells}
+use Rattle.sw_durable.specs.Telling.{Tells}
 use Rattle.sw_install.proofs.Enabled.{if_some, some_if}
 use Rattle.sw_install.proofs.FetchEnds.{rejected, script_changed, unchanged}
 use Rattle.sw_install.specs.Fetches.{ComesTo, IsOutcome, fetch_outcome}

@@ -5,3 +5,4 @@ pub mod JobChanges
 pub mod KeptRows
 pub mod Registers
 pub mod Taking
+pub mod TellsIt

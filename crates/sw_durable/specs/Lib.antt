@@ -2,3 +2,4 @@ pub mod Kept
 pub mod Laws
 pub mod OfJobs
 pub mod Taking
+pub mod Telling

@@ -23,8 +23,8 @@ ghost use Rattle.sw_worker.specs.Table as workers_of;
 ghost use Rattle.sw_worker.specs.Table.{has_worker, is_running};
 
 use crate::kept::{active_change, kept_row};
+use crate::lists::one;
 use std::alloc::Global;
-use sw_cachechanges::one;
 use sw_client::Clients;
 use sw_data::{Change, NoMemory, Phase, RegistrationRow, Slot, WorkerState};
 use sw_reg::Registrations;

@@ -9,7 +9,7 @@ ghost use Rattle.sw_data.specs.declared.rows.JobKind.TheVariants as job_kind;
 ghost use Rattle.sw_data.specs.declared.rows.WorkerRow.{WorkerRow};
 ghost use Rattle.sw_data.specs.declared.storage.Change.TheVariants as change;
 ghost use Rattle.sw_durable.specs.OfJobs.{end_changes, failure_changes, has_failed, is_first_install, is_unchanged, mode_changes, new_mode, registration_of_job, throws, unregistered, waiting_changes, worker_changes, worker_of_job};
-ghost use Rattle.sw_cachechanges.specs.Telling.{Tells};
+ghost use Rattle.sw_durable.specs.Telling.{Tells};
 ghost use Rattle.sw_install.specs.Fetches.{ComesTo};
 ghost use Rattle.sw_install.specs.Underway.{IsUnderWay};
 ghost use Rattle.sw_reg.specs.Table as registrations_of;
@@ -24,8 +24,8 @@ ghost use Rattle.sw_worker.specs.Table as workers_of;
 ghost use Rattle.sw_worker.specs.Table.{worker_at};
 
 use crate::kept::{gone_change, mode_change, told};
+use crate::lists::nothing;
 use std::alloc::Global;
-use sw_cachechanges::nothing;
 use sw_data::{Change, Fault, KeptWorker, Mode, NoMemory, RegistrationRow, WorkerRow};
 use sw_install::FetchOutcome;
 use sw_queue::Queues;

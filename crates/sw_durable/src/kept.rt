@@ -13,8 +13,8 @@ ghost use Rattle.sw_tables.specs.Lent.{Rest, lent, shown_registration};
 ghost use Rattle.sw_tables.specs.Linked.{HasSlots};
 ghost use Rattle.sw_worker.specs.Table as workers;
 
+use crate::lists::{nothing, one};
 use std::alloc::Global;
-use sw_cachechanges::{nothing, one};
 use sw_data::{Change, Mode, NoMemory, RegistrationRow, Text};
 use sw_reg::Registrations;
 use sw_rules::same_mode;

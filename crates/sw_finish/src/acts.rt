@@ -1,11 +1,12 @@
 //! What actions and calls do, done: it takes no memory.
 
-ghost use Rattle.std.specs.Prelude.{◌≡◌, ◌≤◌, ◌<◌, true, None, Some};
+ghost use Rattle.std.specs.Prelude.{◌≡◌, ◌≤◌, ◌<◌, true, List, None, Some};
 ghost use Rattle.sw_cachestorage.specs.Acts.{FitsAct};
 ghost use Rattle.sw_cachestorage.specs.Added.{IsAdded};
 ghost use Rattle.sw_cachestorage.specs.Adding.{FitsNew};
 ghost use Rattle.sw_cachestorage.specs.Forgetting.{AreQuiet};
 ghost use Rattle.sw_client.specs.Table as clients_table;
+ghost use Rattle.sw_data.specs.declared.storage.Change.{Change};
 ghost use Rattle.sw_pages.specs.Acts.{told_by};
 ghost use Rattle.sw_queue.specs.Tables.{FitsJob};
 ghost use Rattle.sw_rules.specs.Caching.{forget_key};
@@ -18,7 +19,7 @@ ghost use Rattle.sw_rules.specs.Rows.{maker_worker};
 ghost use Rattle.sw_rules.specs.Told.{Outcome, Told};
 ghost use Rattle.sw_tables.specs.Linked.{IsNoted, registration_of};
 ghost use Rattle.sw_work.specs.Hosted.{state_of};
-ghost use Rattle.sw_work.specs.Plans.{FitsAdded, FitsAsked, FitsPageAct, FitsStart, FitsTheAct, FitsThen, Goes, act_room, has_calls_left, outcome_of, page_room, started_outcome, told_by_act, told_by_start, told_then, with_caches_acted, with_promise};
+ghost use Rattle.sw_work.specs.Plans.{FitsAdded, FitsAsked, FitsPageAct, FitsStart, FitsTheAct, FitsThen, Goes, act_room, has_calls_left, outcome_of, page_room, started_outcome, told_by_act, told_by_caches, told_by_start, told_then, with_promise};
 ghost use Rattle.sw_worker.specs.Fits.{FitsEvent};
 
 use sw_activate::unload;
@@ -188,7 +189,8 @@ fn set_preload(host: &mut HostTables, row: NewPreload)
 // What is done to the caches.
 fn act_on_caches(host: &mut HostTables, act: CacheAct)
     requires { FitsAct act host.old.caches }
-    ensures state { state_of host.new ≡ with_caches_acted act (state_of host.old) }
+    ensures state { (changes : List Change)
+        → state_of host.new ≡ (told_by_caches act changes (state_of host.old)).state }
     ensures promises { host.new.promises ≡ host.old.promises }
 {
     finish_on_caches(&mut host.caches, act);
@@ -224,7 +226,7 @@ fn do_act(host: &mut HostTables, act: Act, notices: &mut Notices)
     match act {
         Act::Page(act) => do_page(host, act, notices),
         Act::Preload(row) => set_preload(host, row),
-        Act::Caches(act) => act_on_caches(host, act),
+        Act::Caches { act, .. } => act_on_caches(host, act),
         Act::Forget(key) => do_forget(host, key, notices),
     }
 }
@@ -350,6 +352,7 @@ pub(crate) fn do_added(host: &mut HostTables, task: u32, step: AddedStep) -> Opt
         act,
         value,
         faulted,
+        ..
     } = step;
     finish_on_caches(&mut host.caches, act);
     settle_added(task, value, faulted, &mut host.tasks, &mut host.workers);

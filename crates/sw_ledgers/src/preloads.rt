@@ -48,6 +48,29 @@ impl Model for NewPreload {
     ghost view = { λ new. row_of (new.registration, new.preload) };
 }
 
+impl NewPreload {
+    /// The registration that gets it. It takes no memory.
+    pub fn registration(&self) -> u32
+        ensures { result ≡ self.now.registration }
+    {
+        self.registration
+    }
+
+    /// Its flag. It takes no memory.
+    pub fn is_on(&self) -> bool
+        ensures { result ≡ self.now.on }
+    {
+        self.preload.on
+    }
+
+    /// Its header value. It takes no memory.
+    pub fn value(&self) -> &Text
+        ensures { result.now ≡ self.now.value }
+    {
+        &self.preload.value
+    }
+}
+
 impl Preloads {
     /// Each registration has the first flag and value. It takes no memory.
     pub fn new(alloc: Global) -> Preloads

@@ -4,28 +4,19 @@ use Rattle.sw_cachestorage.specs.Adding.{begun, started_by}
 use Rattle.sw_cachestorage.specs.declared.adding.AddAllStep.{AddAllStep}
 use Rattle.sw_cachestorage.specs.declared.adding.NewAddAll.{NewAddAll}
 use Rattle.sw_data.specs.declared.events.Who.TheVariants as maker
-use Rattle.sw_data.specs.declared.storage.Change.{Change}
 use Rattle.sw_pages.specs.Acts as pages
 use Rattle.sw_rules.specs.Caching.{add_task}
 use Rattle.sw_rules.specs.Jobs.{promise}
 use Rattle.sw_rules.specs.State.{State}
 use Rattle.sw_rules.specs.Told.{Told, Outcome, followed}
-use Rattle.sw_work.specs.Plans.{IsAsked, IsStarted, TellSame, outcome_of, told_then}
-use Rattle.sw_work.specs.declared.plan.Act.{Act}
-use Rattle.sw_work.specs.declared.plan.Act.TheVariants as act
+use Rattle.sw_work.specs.Plans.{IsAsked, IsStarted, outcome_of, told_then}
 use Rattle.sw_work.specs.declared.plan.Asked.{Asked}
 use Rattle.sw_work.specs.declared.plan.Then.{Then}
-
-tell_same : (done : Act) (all : List Change) → TellSame done all all
-tell_same (act.Page done) all = refl
-tell_same (act.Preload row) all = refl
-tell_same (act.Caches done) all = tt
-tell_same (act.Forget key) all = refl
 
 pub is_asked : (outcome : Outcome) (asked : Asked) (state : State) → outcome ≡ outcome_of asked state → IsAsked outcome asked state
 is_asked outcome asked state is =
     subst (λ (o : Outcome). IsAsked o asked state) (sym is)
-    (record { same = record { answer = refl; state = refl; notices = refl }; changes = tell_same asked.act (outcome_of asked state).told.changes })
+    (record { same = record { answer = refl; state = refl; notices = refl }; changes = refl })
 
 module _ (lane at : ℕ) (step : AddAllStep) (next : Then) (state : State)
     (follows : (told : Told) → pages.promised (maker.Lane lane at) (Some step.awaited) told ≡ told_then next told) where

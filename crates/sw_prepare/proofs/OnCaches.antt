@@ -18,7 +18,7 @@ use Rattle.sw_work.specs.declared.plan.Then.TheVariants as then
 
 -- own: an action on caches that was worked out
 abbrev pub asked_of : CacheStep → Asked
-asked_of worked = record { answer = worked.answer; act = act.Caches worked.act; then = then.Nothing }
+asked_of worked = record { answer = worked.answer; act = act.Caches worked.act worked.changes; then = then.Nothing }
 
 pub agrees : (state : State) (found : Option CacheAction) (worked : CacheStep)
     → IfSome found (λ action. IsStep state.caches (λ s. with_key s action.place (action.act s)) worked)
@@ -26,7 +26,7 @@ pub agrees : (state : State) (found : Option CacheAction) (worked : CacheStep)
 agrees state None worked comes = tt
 agrees state (Some action) worked comes =
     let is = comes state in
-    record { same = record { answer = is.answer; state = is.state_is; notices = is.notices }; changes = tt }
+    record { same = record { answer = is.answer; state = is.state_is; notices = is.notices }; changes = is.changes }
 
 -- what an action does, where it is one
 abbrev done_by : State → Option CacheAction → Option Outcome

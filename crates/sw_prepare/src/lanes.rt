@@ -124,7 +124,10 @@ fn on_caches(host: &mut HostTables, alloc: Global, event: &Event) -> Result<Aske
     let step = prepare_on_caches(alloc, &mut host.caches, event)?;
     Ok(Asked {
         answer: step.answer,
-        act: Act::Caches(step.act),
+        act: Act::Caches {
+            act: step.act,
+            changes: step.changes,
+        },
         then: Then::Nothing,
     })
 }

@@ -1,52 +1,39 @@
 //! The durable changes of an event that was worked out, told before it is done.
 
-ghost use Rattle.std.specs.Prelude.{◌≡◌, ℕ, Bool, Option, find, true, false, IfOk, IfSome, Some, option_map};
+ghost use Rattle.std.specs.Cow.{cow_slice_items};
+ghost use Rattle.std.specs.Prelude.{◌≡◌, ℕ, Bool, Option, find, true, false, IfOk, IfSome, Some, None, option_map};
+ghost use Rattle.std.specs.Option.{option_copied};
 ghost use Rattle.sw_work.specs.Planned.{Fits};
-ghost use Rattle.sw_data.specs.declared.events.Who.{Who};
-ghost use Rattle.sw_data.specs.declared.events.Who.TheVariants as maker;
+ghost use Rattle.sw_data.specs.declared.events.Event.{Event};
 ghost use Rattle.sw_data.specs.declared.recordings.FetchLine.{FetchLine};
 ghost use Rattle.sw_data.specs.declared.rows.WorkerRow.{WorkerRow};
-ghost use Rattle.sw_data.specs.declared.workers.Phase.{Phase};
-ghost use Rattle.sw_cachestorage.specs.Actions.{acts_on_caches};
-ghost use Rattle.sw_cachechanges.specs.Telling.{Tells, TellsBy};
+ghost use Rattle.sw_durable.specs.Telling.{Tells};
 ghost use Rattle.sw_install.specs.Fetches.{ComesTo};
 ghost use Rattle.sw_laws.specs.Coherent.{Coherent};
 ghost use Rattle.sw_pages.specs.Acts as pages;
-ghost use Rattle.sw_pages.specs.Fits.{FitsPage};
+ghost use Rattle.sw_prepare.specs.Held.{held, held_by};
 ghost use Rattle.sw_rules.specs.Activating as activating;
-ghost use Rattle.sw_rules.specs.Calls as calls;
 ghost use Rattle.sw_rules.specs.Clients as rules;
 ghost use Rattle.sw_rules.specs.Installing as installing;
 ghost use Rattle.sw_rules.specs.Jobs.{is_unregister};
-ghost use Rattle.sw_rules.specs.Preloading as preloading;
+ghost use Rattle.sw_rules.specs.Preloading.{set_preload};
 ghost use Rattle.sw_rules.specs.Registering as registering;
 ghost use Rattle.sw_rules.specs.Rows.{is_active, is_job};
 ghost use Rattle.sw_rules.specs.Step.{changes_of, enabled, step};
 ghost use Rattle.sw_rules.specs.Told.{Outcome};
 ghost use Rattle.sw_tables.specs.Linked.{registration_of};
 ghost use Rattle.sw_work.specs.Hosted.{state_of};
-ghost use Rattle.sw_work.specs.Plans.{FitsAsked, FitsWork, IsAsked, IsUnregister, Means};
+ghost use Rattle.sw_work.specs.Plans.{FitsAsked, FitsPageAct, FitsWork, IsAsked, IsUnregister, Means};
 ghost use Rattle.sw_worker.specs.Table.{worker_at};
 
-use crate::pages::{preload_switch, preload_value};
 use std::alloc::Global;
-use sw_cachechanges::{added_changes, cache_changes, call_changes, forgotten};
-use sw_cachestorage::is_on_caches;
-use sw_data::{Answer, Call, Change, ClientScope, Event, Fault, NoMemory, Text, Who};
-use sw_durable::register_has_no_changes;
+use std::borrow::CowSlice;
+use sw_data::{Change, Fault, NoMemory};
+use sw_durable::{forgotten, register_has_no_changes};
 use sw_install::FetchOutcome;
-use sw_pages::{PageAct, Worked};
+use sw_ledgers::NewPreload;
+use sw_pages::PageAct;
 use sw_work::{Act, Asked, HostTables, Plan, Work};
-
-// Whether a call acts on caches, and has no fetches.
-fn acts_on_caches(call: &Call) -> bool
-    ensures { result ≡ acts_on_caches call.now }
-{
-    !matches!(
-        call,
-        Call::SkipWaiting | Call::Claim | Call::Update | Call::AddAll(_)
-    )
-}
 
 // ---- acts of pages
 
@@ -130,33 +117,10 @@ fn end_changes(
     )
 }
 
-// The durable changes where a registration gets a navigation preload.
-fn preload_changes(
-    host: &HostTables,
-    alloc: Global,
-    registration: u32,
-    on: bool,
-    value: &Text,
-) -> Result<Vec<Change>, NoMemory>
-    ensures { IfOk result (λ changes. changes.items
-        ≡ (preloading.set_preload (state_of host.now) registration on value.now).changes) }
-{
-    sw_durable::preload_changes(
-        alloc,
-        registration,
-        on,
-        value,
-        &host.map,
-        &host.registrations,
-        &host.preloads,
-    )
-}
-
 // The durable changes of an act of a page.
 #[tactic(auto, unfolding(sw_rules::specs::Clients::add_client, sw_rules::specs::Clients::add_event, sw_rules::specs::Jobs::schedule))]
 fn page_changes(host: &HostTables, alloc: Global, act: &PageAct) -> Result<Vec<Change>, NoMemory>
-    requires { FitsPage act.now host.now.workers host.now.registrations host.now.clients
-        host.now.queues }
+    requires { FitsPageAct act.now host.now }
     ensures { IfOk result (λ changes. changes.items
         ≡ (pages.told_by act.now (state_of host.now)).changes) }
 {
@@ -177,174 +141,43 @@ fn page_changes(host: &HostTables, alloc: Global, act: &PageAct) -> Result<Vec<C
             event,
             registration,
         } => end_changes(host, alloc, *event, *registration),
-        PageAct::Preload {
-            registration,
-            on,
-            value,
-        } => preload_changes(host, alloc, *registration, *on, value),
+        PageAct::Preload { .. } => unreachable!(),
     }
 }
 
-// ---- navigation preloads
+// ---- actions and calls
 
-// The durable changes of an action of a page that was worked out, whoever makes it.
-fn worked_changes(host: &HostTables, alloc: Global, worked: Worked) -> Result<Vec<Change>, NoMemory>
-    requires { FitsPage worked.act host.now.workers host.now.registrations host.now.clients
-        host.now.queues }
-    ensures { (who : Who) → IfOk result (λ changes. changes.items
-        ≡ (pages.outcome_of who worked (state_of host.now)).told.changes) }
-{
-    page_changes(host, alloc, &worked.act)
-}
-
-// The durable changes where a client switches a navigation preload on or off, which is worked out again.
-fn switch_changes(
+// The durable changes where a registration gets its navigation preload.
+fn preload_changes(
     host: &HostTables,
     alloc: Global,
-    of: &ClientScope,
-    on: bool,
+    row: &NewPreload,
 ) -> Result<Vec<Change>, NoMemory>
     ensures { IfOk result (λ changes. changes.items
-        ≡ (preloading.preload_switch (state_of host.now) of.now on).told.changes) }
+        ≡ (set_preload (state_of host.now) row.now.registration row.now.on row.now.value).changes) }
 {
-    let worked = preload_switch(host, alloc, of, on)?;
-    worked_changes(host, alloc, worked)
+    sw_durable::preload_changes(
+        alloc,
+        row.registration(),
+        row.is_on(),
+        row.value(),
+        &host.map,
+        &host.registrations,
+        &host.preloads,
+    )
 }
 
-// The durable changes where a client sets the value of a navigation preload, which is worked out again.
-fn value_changes(
-    host: &HostTables,
-    alloc: Global,
-    of: &ClientScope,
-    value: &Text,
-) -> Result<Vec<Change>, NoMemory>
-    ensures { IfOk result (λ changes. changes.items
-        ≡ (preloading.preload_value (state_of host.now) of.now value.now).told.changes) }
-{
-    let worked = preload_value(host, alloc, of, value)?;
-    worked_changes(host, alloc, worked)
-}
-
-// The durable changes of an event that sets a navigation preload.
-fn changes_of_preload(
-    host: &HostTables,
-    alloc: Global,
-    event: &Event,
-) -> Result<Vec<Change>, NoMemory>
-    ensures { (outcome : Outcome) → step (state_of host.now) event.now ≡ Some outcome
-        → IfOk result (λ changes. changes.items ≡ outcome.told.changes) }
-{
-    match event {
-        Event::PreloadEnable { of, .. } => switch_changes(host, alloc, of, true),
-        Event::PreloadDisable { of, .. } => switch_changes(host, alloc, of, false),
-        Event::PreloadValue { of, value, .. } => value_changes(host, alloc, of, value),
-        // The plan was made for another event.
-        _ => Err(NoMemory),
-    }
-}
-
-// ---- actions on caches
-
-// The durable changes of a call on caches of the handler of a worker, by its answer.
-fn changes_of_call(
-    host: &HostTables,
-    alloc: Global,
-    worker: u32,
-    call: &Call,
-    answer: &Answer,
-) -> Result<Vec<Change>, NoMemory>
-    ensures { (in_phase : Phase) (number : ℕ) → IfOk result (λ changes. IfSome
-        (calls.make_call (state_of host.now) (maker.Handler worker in_phase number) call.now)
-        (λ outcome. TellsBy answer.now outcome changes.items)) }
-{
-    let Some(row) = host.workers.row(worker) else {
-        return Err(NoMemory);
-    };
-    let Some(of) = host.registrations.row(row.registration) else {
-        return Err(NoMemory);
-    };
-    if !acts_on_caches(call) {
-        // The plan was made for another event.
-        return Err(NoMemory);
-    }
-    call_changes(alloc, call, &row.script, &of.key, answer)
-}
-
-// The durable changes of a call on caches, by its answer: a handler makes it.
-fn changes_by(
-    host: &HostTables,
-    alloc: Global,
-    who: Who,
-    call: &Call,
-    answer: &Answer,
-) -> Result<Vec<Change>, NoMemory>
-    ensures { IfOk result (λ changes. IfSome
-        (calls.make_call (state_of host.now) who call.now)
-        (λ outcome. TellsBy answer.now outcome changes.items)) }
-{
-    match who {
-        Who::Handler { worker, .. } => changes_of_call(host, alloc, worker, call, answer),
-        _ => Err(NoMemory),
-    }
-}
-
-// The durable changes of an event on caches, by its answer.
-fn changes_on_caches(
-    host: &HostTables,
-    alloc: Global,
-    event: &Event,
-    answer: &Answer,
-) -> Result<Vec<Change>, NoMemory>
-    ensures { (outcome : Outcome) → step (state_of host.now) event.now ≡ Some outcome
-        → answer.now ≡ outcome.answer
-        → IfOk result (λ changes. changes.items ≡ outcome.told.changes) }
-{
-    if is_on_caches(event) {
-        return cache_changes(alloc, event, answer);
-    }
-    match event {
-        Event::Call { who, call } => changes_by(host, alloc, *who, call, answer),
-        // The plan was made for another event.
-        _ => Err(NoMemory),
-    }
-}
-
-// The durable changes of the end of the fetches of an addAll, by its answer.
-fn changes_of_added(
-    host: &HostTables,
-    alloc: Global,
-    event: &Event,
-    answer: &Answer,
-) -> Result<Vec<Change>, NoMemory>
-    ensures { (outcome : Outcome) → step (state_of host.now) event.now ≡ Some outcome
-        → answer.now ≡ outcome.answer
-        → IfOk result (λ changes. changes.items ≡ outcome.told.changes) }
-{
-    match event {
-        Event::Added { task, lines, .. } => {
-            added_changes(alloc, *task, lines.as_slice(), answer, &host.tasks)
-        }
-        // The plan was made for another event.
-        _ => Err(NoMemory),
-    }
-}
-
-// The durable changes of an action or of a call that was worked out.
-fn asked_changes(
-    host: &HostTables,
-    alloc: Global,
-    event: &Event,
-    asked: &Asked,
-) -> Result<Vec<Change>, NoMemory>
-    requires { FitsAsked asked.now host.now }
-    ensures { (outcome : Outcome) → step (state_of host.now) event.now ≡ Some outcome
-        → IsAsked outcome asked.now (state_of host.now)
+// The durable changes of an action or of a call that was worked out, which doesn't hold them.
+fn asked_changes(host: &HostTables, alloc: Global, asked: &Asked) -> Result<Vec<Change>, NoMemory>
+    requires fits { FitsAsked asked.now host.now }
+    requires not_held { held_by asked.now.act ≡ None }
+    ensures { (outcome : Outcome) → IsAsked outcome asked.now (state_of host.now)
         → IfOk result (λ changes. changes.items ≡ outcome.told.changes) }
 {
     match &asked.act {
         Act::Page(act) => page_changes(host, alloc, act),
-        Act::Preload(_) => changes_of_preload(host, alloc, event),
-        Act::Caches(_) => changes_on_caches(host, alloc, event, &asked.answer),
+        Act::Preload(row) => preload_changes(host, alloc, row),
+        Act::Caches { .. } => unreachable!(),
         Act::Forget(key) => forgotten(alloc, key),
     }
 }
@@ -475,27 +308,43 @@ fn activated_changes(host: &HostTables, alloc: Global, worker: u32) -> Result<Ve
 
 // ---- a plan
 
-// The durable changes of a work.
-fn work_changes(
-    host: &HostTables,
-    alloc: Global,
-    event: &Event,
-    work: &Work,
-) -> Result<Vec<Change>, NoMemory>
+// The durable changes that an act holds.
+fn held_by(act: &Act) -> Option<&[Change]>
+    ensures { option_copied result ≡ held_by act.now }
+{
+    match act {
+        Act::Caches { changes, .. } => Some(changes.as_slice()),
+        _ => None,
+    }
+}
+
+// The durable changes that a work holds.
+fn held(work: &Work) -> Option<&[Change]>
+    ensures { option_copied result ≡ held work.now }
+{
+    match work {
+        Work::Asked(asked) => held_by(&asked.act),
+        Work::Added { step, .. } => Some(step.changes.as_slice()),
+        _ => None,
+    }
+}
+
+// The durable changes of a work, which doesn't hold them.
+fn work_changes(host: &HostTables, alloc: Global, work: &Work) -> Result<Vec<Change>, NoMemory>
     requires coherent { Coherent (state_of host.now) }
     requires fits { FitsWork work.now host.now }
-    ensures { (outcome : Outcome) → step (state_of host.now) event.now ≡ Some outcome
-        → Means work.now host.now outcome
+    requires not_held { held work.now ≡ None }
+    ensures { (outcome : Outcome) → Means work.now host.now outcome
         → IfOk result (λ changes. changes.items ≡ outcome.told.changes) }
 {
     match work {
-        Work::Asked(asked) => asked_changes(host, alloc, event, asked),
+        Work::Asked(asked) => asked_changes(host, alloc, asked),
         Work::Start { .. } => Ok(Vec::new(alloc)),
         Work::Register { job, .. } => no_changes(host, alloc, *job),
         Work::Update { job, .. } => no_changes(host, alloc, *job),
         Work::Unregister { job, refusal } => unregister_changes(host, alloc, *job, *refusal),
         Work::Fetched { job, outcome, .. } => fetched_changes(host, alloc, *job, outcome),
-        Work::Added { step, .. } => changes_of_added(host, alloc, event, &step.answer),
+        Work::Added { .. } => unreachable!(),
         Work::Evaluated(job) => evaluated_changes(host, alloc, *job),
         Work::Installed(job) => installed_changes(host, alloc, *job),
         Work::TryActivate(registration) => try_activate_changes(host, alloc, *registration),
@@ -503,20 +352,22 @@ fn work_changes(
     }
 }
 
-/// The durable changes of an event that was worked out, before it is done. It needs memory for them alone.
-pub fn changes(
+/// The durable changes of an event that was worked out, before it is done. Those that the plan holds are lent; the others
+/// need memory for themselves alone.
+pub fn changes<'a>(
     host: &HostTables,
     alloc: Global,
-    event: &Event,
-    plan: &Plan,
-) -> Result<Vec<Change>, NoMemory>
+    plan: &'a Plan,
+) -> Result<CowSlice<'a, Change, Global>, NoMemory>
     requires coherent { Coherent (state_of host.now) }
-    requires enabled { enabled (state_of host.now) event.now ≡ true }
     requires fits { Fits plan.now host.now }
-    requires means { IfSome (step (state_of host.now) event.now)
-        (Means plan.now.work host.now) }
-    ensures { IfOk result (λ changes. changes.items
-        ≡ changes_of (state_of host.now) event.now) }
+    ensures { (event : Event) → enabled (state_of host.now) event ≡ true
+        → IfSome (step (state_of host.now) event) (Means plan.now.work host.now)
+        → IfOk result (λ changes. cow_slice_items changes
+        ≡ changes_of (state_of host.now) event) }
 {
-    work_changes(host, alloc, event, &plan.work)
+    match held(&plan.work) {
+        Some(changes) => Ok(CowSlice::Borrowed(changes)),
+        None => Ok(CowSlice::Owned(work_changes(host, alloc, &plan.work)?)),
+    }
 }

@@ -106,18 +106,29 @@ fn carry_out(core: &mut Core, event: Event, plan: Plan, pass: u32) -> Entry
     }
 }
 
-// The spellings of the changes of an event that was worked out, with the room for its entry and for them.
+// The spellings of the changes of an event that was worked out.
+fn spelled(core: &Core, alloc: Global, plan: &Plan) -> Result<Bytes, NoMemory>
+    requires { (event : events.Event) × IsWorkedOut event plan.now core.now }
+    ensures { (event : events.Event) → IsWorkedOut event plan.now core.now
+        → IfOk result (λ more. spelled_all (changes_of (state_of core.now) event) ≡ Some more) }
+{
+    match core.changes(alloc, plan) {
+        Ok(changes) => write(alloc, changes.as_slice()),
+        Err(NoMemory) => Err(NoMemory),
+    }
+}
+
+// The same, with the room for the entry and for them.
 fn spell(
     core: &Core,
     alloc: Global,
-    event: &Event,
     plan: &Plan,
     group: &mut Group,
     twin: &mut Twin,
 ) -> Result<Bytes, NoMemory>
-    requires { IsWorkedOut event.now plan.now core.now }
-    ensures spelled { IfOk result (λ more.
-        spelled_all (changes_of (state_of core.now) event.now) ≡ Some more) }
+    requires { (event : events.Event) × IsWorkedOut event plan.now core.now }
+    ensures spelled { (event : events.Event) → IsWorkedOut event plan.now core.now
+        → IfOk result (λ more. spelled_all (changes_of (state_of core.now) event) ≡ Some more) }
     ensures entries { group.new.entries ≡ group.old.entries }
     ensures payload { group.new.payload ≡ group.old.payload }
     ensures entry_room { OnOk result (0 < group.new.entry_room) }
@@ -130,8 +141,7 @@ fn spell(
         needed_length twin.new.journal.format (length (group.old.payload ++ more)) < 2 ^ 64) }
     ensures kept { twin.old.journal.spare ≤ twin.new.journal.spare }
 {
-    let changes = core.changes(alloc, event, plan)?;
-    let more = write(alloc, changes.as_slice())?;
+    let more = spelled(core, alloc, plan)?;
     let bytes = more.as_bytes().len();
     group.make_room(bytes)?;
     let Some(length) = group.payload().len().checked_add(bytes) else {
@@ -215,7 +225,7 @@ fn stage_plan(
         × IsTooLong (changes_of (state_of core.old) event) group.old.payload
         twin.old needed) }
 {
-    match spell(core, alloc, &event, &plan, group, twin) {
+    match spell(core, alloc, &plan, group, twin) {
         Ok(more) => place(core, event, plan, pass, more.as_bytes(), group, twin),
         Err(NoMemory) => Err(undone(event, plan)),
     }

@@ -53,7 +53,7 @@ use Rattle.sw_tables.specs.Lent.{Rest, lent, shown_handler, shown_registration, 
 use Rattle.sw_work.specs.Called.{FitsCall, HasRow, noted_call}
 use Rattle.sw_work.specs.Hosted.{Hosted, rest_of, state_of}
 use Rattle.sw_work.specs.Keeping.{KeepsHandler, handling}
-use Rattle.sw_work.specs.Plans.{Agree, FitsWork, IsAsked, IsStarted, Means, Works, has_calls_left, told_then, with_caches_acted}
+use Rattle.sw_work.specs.Plans.{Agree, FitsWork, IsAsked, IsStarted, Means, Works, has_calls_left, told_by_caches, told_then}
 use Rattle.sw_work.specs.declared.plan.Act.TheVariants as act
 use Rattle.sw_work.specs.declared.plan.Then.{Then}
 use Rattle.sw_work.specs.declared.plan.Then.TheVariants as then
@@ -83,10 +83,14 @@ noted_agree outcome reply told worker is left notices = record {
 
 -- a call on caches
 pub cache_noted : (state : State) (step : CacheStep) (outcome : Outcome) (worker : ℕ) (next : Then) → next ≡ then.Called worker (is_fault step.answer) → IsOutcome outcome state state.caches step
-    → IsAsked (noted outcome worker) (record { answer = step.answer; act = act.Caches step.act; then = next }) state
+    → IsAsked (noted outcome worker) (record { answer = step.answer; act = act.Caches step.act step.changes; then = next }) state
+unfolding followed note_call
 cache_noted state step outcome worker next follows is =
-    subst (λ (n : Then). IsAsked (noted outcome worker) (record { answer = step.answer; act = act.Caches step.act; then = n }) state) (sym follows)
-    (record { same = noted_agree outcome step.answer (quiet (with_caches_acted step.act state)) worker is.answer is.state_is is.notices; changes = tt })
+    subst (λ (n : Then). IsAsked (noted outcome worker) (record { answer = step.answer; act = act.Caches step.act step.changes; then = n }) state) (sym follows)
+    (record {
+      same = noted_agree outcome step.answer (told_by_caches step.act step.changes state) worker is.answer is.state_is is.notices;
+      changes = ap (λ (all : List Change). all ++ []) is.changes;
+    })
 
 -- the promise of a handler's call has no effect
 no_promise : (by : Who) (state : State) (awaited : state_of_rules.Awaited) → is_handler by ≡ true → promise state by awaited ≡ quiet state
@@ -113,7 +117,7 @@ no_durable (who.Lane lane at) state awaited = refl
 no_durable (who.Handler worker in_phase number) state awaited = refl
 
 -- no promise is durable
-pub promised_changes : (by : Who) (awaited : Option Awaited) (told : Told) → (pages.promised by awaited told).changes ≡ told.changes
+promised_changes : (by : Who) (awaited : Option Awaited) (told : Told) → (pages.promised by awaited told).changes ≡ told.changes
 unfolding followed
 promised_changes by None told = refl
 promised_changes by (Some awaited) told =

@@ -54,15 +54,19 @@ use Rattle.sw_worker.specs.Table.{worker_at}
 
 -- ---- what an action or a call does
 
--- own: an act on caches, which tells nothing
-abbrev pub with_caches_acted : CacheAct → State → State
-with_caches_acted act state = record state { caches = acted act state.caches }
+-- own: an act on caches, which has these durable changes and tells nothing else
+abbrev pub told_by_caches : CacheAct → List Change → State → Told
+told_by_caches act changes state = record {
+  state = record state { caches = acted act state.caches };
+  notices = [];
+  changes = changes;
+}
 
 -- own: what an act tells, and the state that it leaves
 abbrev pub told_by_act : Act → State → Told
 told_by_act (act.Page act) state = told_by act state
 told_by_act (act.Preload row) state = set_preload state row.registration row.on row.value
-told_by_act (act.Caches act) state = quiet (with_caches_acted act state)
+told_by_act (act.Caches act changes) state = told_by_caches act changes state
 told_by_act (act.Forget key) state = forget_key state key
 
 -- own: a promise in the place of an earlier one of its lane and position
@@ -97,15 +101,10 @@ pub record Agree (one other : Outcome) : Type 0 where
   pub state : one.told.state ≡ other.told.state
   pub notices : one.told.notices ≡ other.told.notices
 
--- own: what is told of durable changes; an act on caches tells its own by the event that it is of
-abbrev pub TellSame : Act → List Change → List Change → Type 0
-TellSame (act.Caches done) one other = Unit {0}
-TellSame _ one other = one ≡ other
-
 -- own: an outcome in a state is that of an action or a call that was worked out
 pub record IsAsked (outcome : Outcome) (asked : Asked) (state : State) : Type 0 where
   pub same : Agree outcome (outcome_of asked state)
-  pub changes : TellSame asked.act outcome.told.changes (outcome_of asked state).told.changes
+  pub changes : outcome.told.changes ≡ (outcome_of asked state).told.changes
 
 -- own: an outcome in a state is that of an addAll that goes on to its fetches, which has no durable changes
 pub record IsStarted (outcome : Outcome) (reply : Answer) (new : NewAddAll) (then : Then) (state : State) : Type 0 where
@@ -168,7 +167,7 @@ FitsPageAct act host = FitsPage act host.workers host.registrations host.clients
 abbrev pub FitsTheAct : Act → Hosted → Type 0
 FitsTheAct (act.Page act) host = FitsPageAct act host
 FitsTheAct (act.Preload row) host = 0 < host.preloads.spare
-FitsTheAct (act.Caches act) host = FitsAct act host.caches
+FitsTheAct (act.Caches act changes) host = FitsAct act host.caches
 FitsTheAct (act.Forget key) host = AreQuiet key host.workers host.registrations
 
 -- own: the worker whose handler made a call

@@ -62,11 +62,15 @@ fn cache_work(worker: u32, step: CacheStep) -> Work
         → IsOutcome outcome (state_of host) host.caches.rows step
         → Means result host (calls.noted outcome worker) }
 {
-    let CacheStep { answer, act } = step;
+    let CacheStep {
+        answer,
+        act,
+        changes,
+    } = step;
     let then = called(worker, &answer);
     Work::Asked(Asked {
         answer,
-        act: Act::Caches(act),
+        act: Act::Caches { act, changes },
         then,
     })
 }

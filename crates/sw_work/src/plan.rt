@@ -1,7 +1,7 @@
 //! What an event comes to before it is done, with its room.
 
 use sw_cachestorage::{AddedStep, CacheAct, NewAddAll};
-use sw_data::{Answer, Fault, Items, Notice, Text};
+use sw_data::{Answer, Change, Fault, Items, Notice, Text};
 use sw_install::{FetchOutcome, Rows};
 use sw_ledgers::{NewDraw, NewPreload, NewPromise};
 use sw_pages::PageAct;
@@ -13,7 +13,11 @@ pub enum Act {
     Page(PageAct),
     /// The registration gets its navigation preload.
     Preload(NewPreload),
-    Caches(CacheAct),
+    /// What is done to the caches, and its durable changes.
+    Caches {
+        act: CacheAct,
+        changes: Items<Change>,
+    },
     /// The key is forgotten.
     Forget(Text),
 }

@@ -1,7 +1,7 @@
 use Rattle.std.proofs.Common.{Bool, [], ◌∙◌, sym, subst, ap, if◌then◌else◌}
 use Rattle.std.specs.Prelude.{◌≡◌, IfOk}
 use Rattle.sw_durable.proofs.JobChanges.{evaluation_told}
-use Rattle.sw_cachechanges.proofs.TellsIt.{tells_so, told_ok}
+use Rattle.sw_durable.proofs.TellsIt.{tells_so, told_ok}
 use Rattle.sw_durable.specs.OfJobs.{mode_changes, new_mode}
 use Rattle.sw_rules.specs.Installing.{evaluated}
 use Rattle.sw_rules.specs.State.{State}

@@ -2,7 +2,7 @@ use Rattle.std.proofs.Common.{Option, ℕ, [], ◌∙◌, sym, subst, ap}
 use Rattle.std.specs.Prelude.{◌≡◌, IfOk}
 use Rattle.std.specs.Option.{option_map_or}
 use Rattle.sw_durable.proofs.Ending.{install_told}
-use Rattle.sw_cachechanges.proofs.TellsIt.{tells_so, told_ok}
+use Rattle.sw_durable.proofs.TellsIt.{tells_so, told_ok}
 use Rattle.sw_durable.specs.OfJobs.{worker_changes, worker_of_job}
 use Rattle.sw_rules.specs.Installing.{installed}
 use Rattle.sw_rules.specs.State.{State}

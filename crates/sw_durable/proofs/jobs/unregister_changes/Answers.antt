@@ -1,7 +1,7 @@
 use Rattle.std.proofs.Common.{Option, ℕ, ◌∙◌, sym, subst, ap}
 use Rattle.std.specs.Prelude.{◌≡◌, IfOk}
 use Rattle.sw_durable.proofs.JobChanges.{run_told}
-use Rattle.sw_cachechanges.proofs.TellsIt.{tells_so, told_ok}
+use Rattle.sw_durable.proofs.TellsIt.{tells_so, told_ok}
 use Rattle.sw_durable.specs.OfJobs.{unregister_changes}
 use Rattle.sw_rules.specs.Registering.{run}
 use Rattle.sw_rules.specs.State.{State}

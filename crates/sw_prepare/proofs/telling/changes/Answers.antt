@@ -1,12 +1,15 @@
-use Rattle.std.proofs.Common.{◌≡◌}
+use Rattle.std.proofs.Common.{◌≡◌, ◌∙◌, Some, sym, ap}
+use Rattle.std.specs.Option.{option_copied}
 use Rattle.std.specs.Prelude.{IfOk}
-use Rattle.sw_prepare.proofs.Changing.{told}
+use Rattle.sw_prepare.proofs.Changing.{held_tells, told}
 use Rattle.sw_rules.specs.Step.{step}
 use Rattle.sw_work.specs.Hosted.{state_of}
 use Rattle.sw_work.specs.Plans.{Means}
 use Rattle.sw_prepare.proofs.telling.changes.Goals as goal
 
-pub returns : goal.returns
-returns c =
-    told (step (state_of c.args.host.now) c.args.event.now) (Means c.args.plan.now.work c.args.host.now)
-    (λ all. IfOk c.work_changes.result (λ changes. changes.items ≡ all)) c.requires.enabled c.requires.means c.work_changes.ensures
+pub returns-in-Some : goal.returns-in-Some
+returns-in-Some c event enabled means =
+    let host = c.args.host.now in
+    let work = c.args.plan.now.work in
+    told (step (state_of host) event) (Means work host) (λ all. c.in-Some.changes.now ≡ all) enabled means
+    (λ outcome meant. held_tells work host outcome c.in-Some.changes.now (sym c.held.ensures ∙ ap option_copied c.in-Some.is) meant)

@@ -1,15 +1,14 @@
 use Rattle.std.proofs.Common.{◌≡◌, subst, sym}
 use Rattle.std.specs.Prelude.{IfOk}
 use Rattle.sw_pages.specs.Acts.{told_by}
-use Rattle.sw_pages.specs.Fits.{FitsPage}
 use Rattle.sw_pages.specs.declared.worked.PageAct.{PageAct}
 use Rattle.sw_work.specs.Hosted.{state_of}
+use Rattle.sw_work.specs.Plans.{FitsPageAct}
 use Rattle.sw_prepare.proofs.telling.page_changes.Goals as goal
 
 pub claim_changes-requires : goal.claim_changes-requires
 claim_changes-requires c =
-    let host = c.args.host.now in
-    record { claimant = subst (λ (a : PageAct). FitsPage a host.workers host.registrations host.clients host.queues) c.in-Claim.is c.requires }
+    record { claimant = subst (λ (a : PageAct). FitsPageAct a c.args.host.now) c.in-Claim.is c.requires }
 
 pub returns-in-Close : goal.returns-in-Close
 returns-in-Close c =
@@ -26,7 +25,3 @@ returns-in-Claim c =
 pub returns-in-End : goal.returns-in-End
 returns-in-End c =
     subst (λ (a : PageAct). IfOk c.end_changes.result (λ changes. changes.items ≡ (told_by a (state_of c.args.host.now)).changes)) (sym c.in-End.is) c.end_changes.ensures
-
-pub returns-in-Preload : goal.returns-in-Preload
-returns-in-Preload c =
-    subst (λ (a : PageAct). IfOk c.preload_changes.result (λ changes. changes.items ≡ (told_by a (state_of c.args.host.now)).changes)) (sym c.in-Preload.is) c.preload_changes.ensures

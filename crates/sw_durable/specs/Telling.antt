@@ -1,13 +1,8 @@
 -- What it is to tell the durable changes of an outcome (own).
 use Rattle.std.specs.Prelude.{◌≡◌, List, Option, IfSome}
-use Rattle.sw_data.specs.declared.answers.Answer.{Answer}
 use Rattle.sw_data.specs.declared.storage.Change.{Change}
 use Rattle.sw_rules.specs.Told.{Outcome}
 
 -- own: these are the durable changes of an outcome, where there is one
 abbrev pub Tells : Option Outcome → List Change → Type 0
 Tells found changes = IfSome found (λ outcome. changes ≡ outcome.told.changes)
-
--- own: these are the durable changes of an outcome, where it has this answer
-abbrev pub TellsBy : Answer → Outcome → List Change → Type 0
-TellsBy reply outcome changes = reply ≡ outcome.answer → changes ≡ outcome.told.changes

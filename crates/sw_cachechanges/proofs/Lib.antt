@@ -1,3 +1,0 @@
-pub mod CacheChanges
-pub mod Puts
-pub mod TellsIt

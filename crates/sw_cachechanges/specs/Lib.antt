@@ -1,2 +1,0 @@
-pub mod OfCaches
-pub mod Telling
