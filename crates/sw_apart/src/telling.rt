@@ -13,7 +13,7 @@
 
 use crate::walking::Place;
 use std::alloc::{AllocError, Global};
-use sw_check::{Kind, Mark};
+use sw_audit::{Kind, Mark};
 use sw_data::{NoMemory, Text};
 
 // The word of an event of the host, and the letter of what it is about.

@@ -1,8 +1,7 @@
 //! A transcript is walked along a host, line by line.
 
 use std::alloc::Global;
-use sw_audit::Host;
-use sw_check::{Ending, Machine, Mark, read_mark};
+use sw_audit::{Ending, Host, Machine, Mark, read_mark};
 use sw_data::cut::before;
 use sw_data::{Entry, NoMemory, Text};
 use sw_print::print_entry;

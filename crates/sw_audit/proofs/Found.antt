@@ -5,13 +5,13 @@ use Rattle.std.specs.Option.{option_map_or}
 use Rattle.std.proofs.lemmas.Option.{option_and_then_some}
 use Rattle.sw_audit.specs.Running.{event_of_row, running_event}
 use Rattle.sw_audit.specs.Taking.{IsFound, allowed}
-use Rattle.sw_check.specs.declared.marks.Kind.{Kind}
-use Rattle.sw_check.specs.declared.marks.Mark.{Mark}
-use Rattle.sw_check.specs.declared.marks.Mark.TheVariants as mark
-use Rattle.sw_check.specs.Named.{call_event, called_event, host_event, named}
-use Rattle.sw_check.specs.Taken.{IsTaken}
-use Rattle.sw_check.proofs.Determined.{is_called}
-use Rattle.sw_check.proofs.Others.{call_taken, host_taken}
+use Rattle.sw_audit.specs.declared.marks.Kind.{Kind}
+use Rattle.sw_audit.specs.declared.marks.Mark.{Mark}
+use Rattle.sw_audit.specs.declared.marks.Mark.TheVariants as mark
+use Rattle.sw_audit.specs.Named.{call_event, called_event, host_event, named}
+use Rattle.sw_audit.specs.Taken.{IsTaken}
+use Rattle.sw_audit.proofs.Determined.{is_called}
+use Rattle.sw_audit.proofs.Others.{call_taken, host_taken}
 use Rattle.sw_data.specs.declared.events.Event.{Event}
 use Rattle.sw_data.specs.declared.events.Event.TheVariants as event
 use Rattle.sw_data.specs.declared.events.Who.TheVariants as who
@@ -23,7 +23,7 @@ use Rattle.sw_data.specs.declared.rows.WorkerRow.{WorkerRow}
 use Rattle.sw_data.specs.declared.workers.Phase.{Phase}
 use Rattle.sw_lane.specs.Left.{Left}
 use Rattle.sw_lane.specs.Recorded.{AreLanesOf}
-use Rattle.sw_naming.proofs.Naming.{some_same}
+use Rattle.sw_audit.proofs.OneHistory.{some_same}
 use Rattle.sw_rules.specs.Calls.{make_call}
 use Rattle.sw_rules.specs.Installing.{calls_of}
 use Rattle.sw_rules.specs.Rows.{is_unsettled_of, worker_row}

@@ -1,2 +1,14 @@
+pub mod Bounds
+pub mod Cuts
+pub mod Determined
 pub mod Found
+pub mod Going
+pub mod HostEvents
+pub mod LaneEvents
+pub mod MarkLemmas
+pub mod OneHistory
+pub mod OnlyEnds
+pub mod Others
+pub mod Reading
+pub mod SameCalls
 pub mod Stood

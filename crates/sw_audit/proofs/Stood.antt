@@ -2,9 +2,9 @@
 use Rattle.std.proofs.Common.{◌≡◌, ◌∙◌, true, List, [], ◌∷◌, ◌++◌, Option, Some, Result, Ok, Err, IfOk, IfSome, refl, sym, ap, subst}
 use Rattle.sw_audit.specs.Following.{IsEntered, IsLed, Stands}
 use Rattle.sw_audit.specs.Taking.{IsFound}
-use Rattle.sw_check.specs.declared.marks.Mark.{Mark}
-use Rattle.sw_check.specs.Named.{IsNamed}
-use Rattle.sw_check.specs.Taken.{IsTaken}
+use Rattle.sw_audit.specs.declared.marks.Mark.{Mark}
+use Rattle.sw_audit.specs.Named.{IsNamed}
+use Rattle.sw_audit.specs.Taken.{IsTaken}
 use Rattle.sw_data.specs.declared.answers.Answer.TheVariants as answer
 use Rattle.sw_data.specs.declared.events.Event.{Event}
 use Rattle.sw_data.specs.declared.histories.Entry.{Entry}

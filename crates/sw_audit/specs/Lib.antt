@@ -1,3 +1,9 @@
+pub mod Accepted
+pub mod Continuing
 pub mod Following
+pub mod Marks
+pub mod Named
+pub mod Naming
 pub mod Running
+pub mod Taken
 pub mod Taking

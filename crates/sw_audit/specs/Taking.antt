@@ -1,8 +1,8 @@
 -- The event that a mark names, where it may happen.
 use Rattle.std.specs.Prelude.{◌≡◌, List, Option, Some, None, IfSome, option_and_then, if◌then◌else◌}
-use Rattle.sw_check.specs.Continuing.{IsBarred}
-use Rattle.sw_check.specs.Taken.{IsTaken}
-use Rattle.sw_check.specs.declared.marks.Mark.{Mark}
+use Rattle.sw_audit.specs.Continuing.{IsBarred}
+use Rattle.sw_audit.specs.Taken.{IsTaken}
+use Rattle.sw_audit.specs.declared.marks.Mark.{Mark}
 use Rattle.sw_data.specs.declared.events.Event.{Event}
 use Rattle.sw_data.specs.declared.histories.Entry.{Entry}
 use Rattle.sw_data.specs.declared.recordings.FetchLine.{FetchLine}

@@ -2,7 +2,7 @@
 
 ghost use Rattle.std.specs.Prelude.{◌∷◌, [], IfOk};
 ghost use Rattle.sw_audit.specs.Following.{Stands};
-ghost use Rattle.sw_check.specs.Accepted.{Says};
+ghost use Rattle.sw_audit.specs.Accepted.{Says};
 ghost use Rattle.sw_data.specs.declared.histories.Entry.{Entry};
 ghost use Rattle.sw_data.specs.declared.recordings.Recording.{Recording};
 ghost use Rattle.sw_data.specs.declared.storage.Kept.{Kept};
@@ -10,10 +10,11 @@ ghost use Rattle.sw_rules.specs.History.{IsOpening};
 ghost use Rattle.sw_rules.specs.Restart.{restart};
 ghost use Rattle.sw_rules.specs.Storage.{IsMade};
 
+use crate::checking::check;
 use crate::hosts::Host;
+use crate::verdicts::Verdict;
 use std::alloc::Global;
 use sw_change::Content;
-use sw_check::{Verdict, check};
 use sw_data::{NoMemory, Recording};
 
 // What is said of a transcript by a host, which is let go. A larger function that let it go itself would cost the check

@@ -1,8 +1,8 @@
 //! The marks of the events that may happen next.
 
 use crate::calls::running_event;
+use crate::marks::{Kind, Mark};
 use std::alloc::Global;
-use sw_check::{Kind, Mark};
 use sw_core::{Core, CoreBoard};
 use sw_data::{Event, NoMemory, Task};
 use sw_lane::{Board, Lanes};

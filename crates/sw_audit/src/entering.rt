@@ -2,7 +2,7 @@
 
 ghost use Rattle.std.specs.Prelude.{◌≡◌, true, IfOk, OnErr};
 ghost use Rattle.sw_audit.specs.Following.{IsEntered};
-ghost use Rattle.sw_check.specs.Continuing.{Opens};
+ghost use Rattle.sw_audit.specs.Continuing.{Opens};
 ghost use Rattle.sw_data.specs.Events.{who_of};
 ghost use Rattle.sw_laws.specs.Coherent.{Coherent};
 ghost use Rattle.sw_rules.specs.Step.{enabled};

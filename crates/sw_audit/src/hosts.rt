@@ -9,12 +9,14 @@ ghost use Rattle.sw_rules.specs.Restart.{restart};
 ghost use Rattle.sw_rules.specs.Storage.{IsMade};
 
 use crate::enabled::marks;
+use crate::ends::ending;
 use crate::entering::{enter, opening};
+use crate::machines::{Ending, Machine};
+use crate::marks::Mark;
 use crate::taking::taken;
 use std::alloc::Global;
 use std::marker::Model;
 use sw_change::Content;
-use sw_check::{Ending, Machine, Mark, ending};
 use sw_core::{Core, CoreBoard};
 use sw_data::{Entry, NoMemory, Recording};
 use sw_lane::Lanes;

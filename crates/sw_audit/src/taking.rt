@@ -2,17 +2,17 @@
 
 ghost use Rattle.std.specs.Prelude.{◌≡◌, List, None, IfOk, OnErr};
 ghost use Rattle.sw_audit.specs.Taking.{IsFound, allowed};
-ghost use Rattle.sw_check.specs.Named.{host_event};
-ghost use Rattle.sw_check.specs.declared.marks.Mark.TheVariants as mark;
+ghost use Rattle.sw_audit.specs.Named.{host_event};
+ghost use Rattle.sw_audit.specs.declared.marks.Mark.TheVariants as mark;
 ghost use Rattle.sw_data.specs.declared.recordings.Recording.{Recording};
 ghost use Rattle.sw_lane.specs.Left.{Left};
 ghost use Rattle.sw_work.specs.Hosted.{state_of};
 
 use crate::calls::running_event;
+use crate::laning::lane_event;
+use crate::marks::{Kind, Mark};
 use std::alloc::Global;
-use sw_check::{Kind, Mark, lane_event};
-use sw_comes::{added, fetched};
-use sw_core::{Core, CoreBoard};
+use sw_core::{Core, CoreBoard, added, fetched};
 use sw_data::{Event, NoMemory, Who};
 use sw_lane::Lanes;
 use sw_net::Net;

@@ -1,2 +1,9 @@
+pub mod Adding
 pub mod Applying
+pub mod Durable
+pub mod FetchLemmas
+pub mod LastRows
 pub mod Numbered
+pub mod Numbers
+pub mod ReadyLemmas
+pub mod Restarting

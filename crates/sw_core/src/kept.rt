@@ -1,7 +1,7 @@
 //! What a host keeps, and the host that a restart makes of it.
 
 ghost use Rattle.std.specs.Prelude.{◌≡◌, [], IfOk};
-ghost use Rattle.sw_restart.specs.Restored.{quiet_rest};
+ghost use Rattle.sw_core.specs.Restored.{quiet_rest};
 ghost use Rattle.sw_rules.specs.Durable.{durable};
 ghost use Rattle.sw_rules.specs.Restart.{restart};
 ghost use Rattle.sw_rules.specs.Storage.{IsMade};
@@ -11,12 +11,14 @@ ghost use Rattle.sw_tables.specs.Linked.{Linked};
 ghost use Rattle.sw_work.specs.Hosted.{state_of};
 
 use crate::core_tables::Core;
+use crate::keeping::kept;
+use crate::restart::restored;
+use crate::tables::Restored;
 use std::alloc::Global;
 use sw_change::Content;
 use sw_data::{Kept, NoMemory};
 use sw_ledgers::{Draws, Promises, Tasks};
 use sw_queue::Queues;
-use sw_restart::{Restored, kept, restored};
 use sw_work::HostTables;
 
 // The host of the tables of a restart, which has nothing else. It takes no memory.

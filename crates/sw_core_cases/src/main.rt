@@ -14,9 +14,8 @@ use playing::Play;
 use std::alloc::Global;
 use std::process::ExitCode;
 use sw_data::{NoMemory, Text};
-use sw_inputs::RosterRecording;
 use sw_io::{ReadAllError, Sink, Source, StdSink, StdSource, read_all, write_all};
-use sw_readers::read_roster;
+use sw_readers::{RosterRecording, read_roster};
 use sw_record::RecordingError;
 use telling::told;
 

@@ -3,12 +3,11 @@
 
 use std::alloc::Global;
 use std::collections::VecDeque;
-use sw_comes::task_event;
-use sw_core::Core;
+use sw_core::{Core, task_event};
 use sw_data::{Action, Event, Items, NoMemory, Task, Who};
-use sw_inputs::{RosterLine, RosterRecording};
 use sw_lane::event_of_action;
 use sw_net::Net;
+use sw_readers::{RosterLine, RosterRecording};
 use sw_roster::Roster;
 
 /// A roster that is played.

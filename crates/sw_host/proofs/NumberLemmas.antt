@@ -1,7 +1,7 @@
 -- Of all commands `roster` alone ends for want of a number for an entry.
 use Rattle.std.proofs.Common.{◌≡◌, inl, inr, ℕ, List, Option, Some, None, Result, Ok, Err, refl, subst}
-use Rattle.sw_check.specs.declared.verdicts.Verdict.{Verdict}
-use Rattle.sw_check.specs.declared.verdicts.Verdict.TheVariants as verdict
+use Rattle.sw_audit.specs.declared.verdicts.Verdict.{Verdict}
+use Rattle.sw_audit.specs.declared.verdicts.Verdict.TheVariants as verdict
 use Rattle.sw_data.specs.declared.recordings.Recording.{Recording}
 use Rattle.sw_data.specs.declared.storage.Kept.{Kept}
 use Rattle.sw_disk.specs.declared.disk.Disk.{Ghosts}
@@ -16,8 +16,8 @@ use Rattle.sw_host.specs.Reading.{IsUnread, ReadsThen, RefusedAs}
 use Rattle.sw_host.specs.Runs.{status_of}
 use Rattle.sw_host.specs.Stands.{Audits, AuditsDivided, AuditsParts, AuditsRead, Checks, IsAudited, IsChecked, IsShown, IsVerdict, ReadsKept, Replays, ReportedAs, Stands, WatchedAs, Watches}
 use Rattle.sw_host.specs.Texts.{large_source_text, refusal_text}
-use Rattle.sw_inputs.specs.declared.ImportRecording.{ImportRecording}
-use Rattle.sw_inputs.specs.declared.WatchedRecording.{WatchedRecording}
+use Rattle.sw_readers.specs.declared.inputs.ImportRecording.{ImportRecording}
+use Rattle.sw_readers.specs.declared.inputs.WatchedRecording.{WatchedRecording}
 use Rattle.sw_readers.specs.Division.{division}
 use Rattle.sw_readers.specs.Imports.{imports_of}
 use Rattle.sw_readers.specs.Watched.{watched_of}

@@ -11,7 +11,7 @@ use Rattle.sw_host.specs.declared.report.Report.{Report}
 use Rattle.sw_host.specs.Runs.{last_of, status_of}
 use Rattle.sw_host.specs.Stands.{IsLeftAfter, LeavesAfterLooks, WatchedAs, Watches, WatchesOn}
 use Rattle.sw_host.specs.Watching.{EndsWatched, asked_of, look_text, looks_text}
-use Rattle.sw_inputs.specs.declared.WatchedRecording.{WatchedRecording}
+use Rattle.sw_readers.specs.declared.inputs.WatchedRecording.{WatchedRecording}
 use Rattle.sw_pool.specs.declared.looking.Asked.{Asked}
 use Rattle.sw_pool.specs.Looks.{AreAnswers}
 use Rattle.sw_pool.specs.Yards.{IsOriginOf, Origin, YardState, origin_of}

@@ -1,8 +1,8 @@
 -- What a run comes to before writing: when each status stands, with which text, and what it has done to the disk.
 use Rattle.std.specs.Prelude.{◌≡◌, ◌⊎◌, ◌+◌, ◌≤◌, ◌<◌, ◌^◌, ◌++◌, ℕ, List, length, map, codes, decimal, IsSome, Option, Some, None, Result, Ok, Err}
-use Rattle.sw_check.specs.Accepted.{Says}
-use Rattle.sw_check.specs.declared.verdicts.Verdict.{Verdict}
-use Rattle.sw_check.specs.declared.verdicts.Verdict.TheVariants as verdict
+use Rattle.sw_audit.specs.Accepted.{Says}
+use Rattle.sw_audit.specs.declared.verdicts.Verdict.{Verdict}
+use Rattle.sw_audit.specs.declared.verdicts.Verdict.TheVariants as verdict
 use Rattle.sw_data.specs.declared.histories.Entry.{Entry}
 use Rattle.sw_data.specs.declared.recordings.Recording.{Recording}
 use Rattle.sw_data.specs.declared.storage.Kept.{Kept}
@@ -23,9 +23,9 @@ use Rattle.sw_host.specs.Watching.{EndsWatched, asked_of}
 use Rattle.sw_host.specs.Texts.{bad_journal_text, help_text, large_source_text, refusal_text, version_text}
 use Rattle.sw_import.specs.Checking as checking
 use Rattle.sw_import.specs.Lines.{checks_text}
-use Rattle.sw_inputs.specs.declared.ImportRecording.{ImportRecording}
-use Rattle.sw_inputs.specs.declared.RosterRecording.{RosterRecording}
-use Rattle.sw_inputs.specs.declared.WatchedRecording.{WatchedRecording}
+use Rattle.sw_readers.specs.declared.inputs.ImportRecording.{ImportRecording}
+use Rattle.sw_readers.specs.declared.inputs.RosterRecording.{RosterRecording}
+use Rattle.sw_readers.specs.declared.inputs.WatchedRecording.{WatchedRecording}
 use Rattle.sw_journal.specs.Format.{format_of}
 use Rattle.sw_journal.specs.Init.{FromSecondCall, first_bytes}
 use Rattle.sw_journal.specs.Quiet.{IsQuiet}

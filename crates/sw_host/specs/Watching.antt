@@ -8,7 +8,7 @@ use Rattle.sw_disk.specs.declared.disk.Disk.{Ghosts}
 use Rattle.sw_host.specs.declared.statuses.Status.{Status}
 use Rattle.sw_host.specs.declared.statuses.Status.TheVariants as status
 use Rattle.sw_host.specs.Runs.{last_of, status_of}
-use Rattle.sw_inputs.specs.declared.LookLine.{LookLine}
+use Rattle.sw_readers.specs.declared.inputs.LookLine.{LookLine}
 use Rattle.sw_pool.specs.declared.looking.Asked.{Asked}
 use Rattle.sw_pool.specs.Looks.{AreAnswers}
 use Rattle.sw_print.specs.Transcript.{numbered, transcript}

@@ -8,8 +8,7 @@ use crate::statuses::Status;
 use std::alloc::Global;
 use sw_data::NoMemory;
 use sw_import::print_checks;
-use sw_inputs::ImportRecording;
-use sw_readers::read_imports;
+use sw_readers::{ImportRecording, read_imports};
 
 // The report of the scripts that a recording names.
 fn checked(alloc: Global, recording: ImportRecording) -> Result<Report, NoMemory>

@@ -8,8 +8,7 @@ use crate::report::{Report, refusal_of};
 use crate::statuses::Status;
 use std::alloc::Global;
 use sw_data::{NoMemory, Text};
-use sw_inputs::RosterRecording;
-use sw_readers::read_roster;
+use sw_readers::{RosterRecording, read_roster};
 use sw_roster::{Beat, RosterEnd, print_roster, run_roster};
 
 // The status of how the lines have ended.

@@ -3,7 +3,7 @@ use Rattle.std.proofs.Common.{◌≡◌, ◌∙◌, ℕ, zero, suc, ◌+◌, ◌
 use Rattle.std.specs.Option.{option_and_then, option_map_or}
 use Rattle.sw_data.specs.Network.{drawn_from}
 use Rattle.sw_data.specs.declared.recordings.FetchLine.{FetchLine}
-use Rattle.sw_inputs.specs.declared.ImportFetch.{ImportFetch}
+use Rattle.sw_readers.specs.declared.inputs.ImportFetch.{ImportFetch}
 use Rattle.sw_net.proofs.Drawing.{drawn_at}
 use Rattle.sw_net.specs.Places.{drawn_place, places_from}
 use Rattle.sw_import.specs.Checking.{imports_of}

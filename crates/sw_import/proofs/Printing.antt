@@ -1,7 +1,7 @@
 -- The lines of checks, one after another.
 use Rattle.std.proofs.Common.{◌≡◌, ◌∙◌, ◌<◌, ◌+◌, ℕ, List, ◌∷◌, ◌++◌, length, drop, get_or, sym, ap, subst, append_assoc}
 use Rattle.std.proofs.lemmas.List.{drop_more}
-use Rattle.sw_inputs.specs.declared.ImportFetch.{ImportFetch}
+use Rattle.sw_readers.specs.declared.inputs.ImportFetch.{ImportFetch}
 use Rattle.sw_import.specs.Checking.{Checks, check}
 use Rattle.sw_import.specs.Lines.{check_line, checks_text}
 use Rattle.sw_import.specs.declared.answers.Checked.{Checked}

@@ -3,7 +3,7 @@ use Rattle.std.specs.Prelude.{ℕ, ◌≡◌, false, List, [], ◌∷◌, ◌++�
 use Rattle.std.specs.Fmt.{digits}
 use Rattle.json.specs.Print.{escape_byte}
 use Rattle.sw_data.proofs.OnLiterals.{data_on_literals}
-use Rattle.sw_inputs.specs.declared.ImportFetch.{ImportFetch}
+use Rattle.sw_readers.specs.declared.inputs.ImportFetch.{ImportFetch}
 use Rattle.sw_import.specs.Checking.{check, import_address, nothing}
 use Rattle.sw_import.specs.Lines.{checks_text}
 

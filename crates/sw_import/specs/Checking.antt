@@ -10,7 +10,7 @@ use Rattle.sw_data.specs.Addresses.{no_fragment, parsed_against}
 use Rattle.sw_data.specs.Media.{is_javascript}
 use Rattle.sw_data.specs.Network.{drawn_from}
 use Rattle.sw_data.specs.declared.recordings.Fetched.{Fetched}
-use Rattle.sw_inputs.specs.declared.ImportFetch.{ImportFetch}
+use Rattle.sw_readers.specs.declared.inputs.ImportFetch.{ImportFetch}
 use Rattle.sw_rules.specs.Installing.{is_ok_status}
 use Rattle.sw_rules.specs.Jobs.{next_draw, with_draw}
 use Rattle.sw_rules.specs.State.{Draws}

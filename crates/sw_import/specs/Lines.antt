@@ -1,7 +1,7 @@
 -- The text of the checks: a line for each.
 use Rattle.std.specs.Prelude.{ℕ, List, [], ◌∷◌, ◌++◌, codes, decimal}
 use Rattle.json.specs.Print.{quoted}
-use Rattle.sw_inputs.specs.declared.ImportFetch.{ImportFetch}
+use Rattle.sw_readers.specs.declared.inputs.ImportFetch.{ImportFetch}
 use Rattle.sw_import.specs.Checking.{Checks, check}
 use Rattle.sw_import.specs.declared.answers.Checked.{Checked}
 use Rattle.sw_import.specs.declared.answers.Checked.TheVariants as checked

@@ -1,7 +1,7 @@
 -- Fetch lines beside what their scripts import (own).
 use Rattle.std.specs.Prelude.{ℕ, List, [], ◌∷◌}
 use Rattle.sw_data.specs.declared.recordings.FetchLine.{FetchLine}
-use Rattle.sw_inputs.specs.declared.ImportFetch.{ImportFetch}
+use Rattle.sw_readers.specs.declared.inputs.ImportFetch.{ImportFetch}
 
 -- the lines with their imports, of two lists of one length
 abbrev pub paired : List FetchLine → List (List (List ℕ)) → List ImportFetch

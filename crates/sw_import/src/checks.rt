@@ -12,8 +12,8 @@ use indexmap::IndexMap;
 use std::alloc::Global;
 use std::marker::Model;
 use sw_data::{Items, NoMemory, Request, Text};
-use sw_inputs::{ImportFetch, ImportRecording};
 use sw_ledgers::{Draws, NewDraws};
+use sw_readers::{ImportFetch, ImportRecording};
 
 /// A recorded network, and what the checks of scripts so far left: the store of each script that has one, and how many
 /// fetches of each address were drawn.

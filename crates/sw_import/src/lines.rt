@@ -10,7 +10,7 @@ use crate::checks::Imports;
 use serde_json::Value;
 use std::alloc::{AllocError, Global};
 use sw_data::{NoMemory, Text};
-use sw_inputs::ImportRecording;
+use sw_readers::ImportRecording;
 
 // A text as a JSON string.
 fn quoted(alloc: Global, text: &Text) -> Result<String, AllocError>

@@ -9,8 +9,8 @@ ghost use Rattle.sw_import.specs.Pairs.{paired};
 use std::alloc::Global;
 use std::marker::Model;
 use sw_data::{FetchLine, Fetched, Items, NoMemory, Text};
-use sw_inputs::ImportFetch;
 use sw_net::Net;
+use sw_readers::ImportFetch;
 
 // The fetch lines, and beside each what its script imports.
 type Apart = (Vec<FetchLine>, Vec<Items<Text>>);
@@ -24,7 +24,7 @@ pub struct Network {
 
 impl Model for Network {
     ghost use Rattle.std.specs.Prelude.{◌≡◌, List, length};
-    ghost use Rattle.sw_inputs.specs.declared.ImportFetch.{ImportFetch};
+    ghost use Rattle.sw_readers.specs.declared.inputs.ImportFetch.{ImportFetch};
     ghost use Rattle.sw_import.specs.Pairs.{paired};
 
     ghost Value = { List ImportFetch };

@@ -28,9 +28,9 @@ use Rattle.sw_view.specs.contracts.looker.Looker.TheInside as LookerInside
 use Rattle.sw_view.specs.contracts.publisher.Publisher as Publisher
 use Rattle.sw_view.specs.contracts.publisher.Publisher.TheInside as PublisherInside
 use Rattle.sw_view.specs.contracts.shown.Shown as Shown
-use Rattle.sw_watch.specs.contracts.watched.Watched as Watched
-use Rattle.sw_watch.specs.contracts.watched.Watched.TheInside as WatchedInside
-use Rattle.sw_watch.specs.declared.mapped.Mapped as mapped
+use Rattle.sw_view.specs.contracts.watched.Watched as Watched
+use Rattle.sw_view.specs.contracts.watched.Watched.TheInside as WatchedInside
+use Rattle.sw_view.specs.declared.mapped.Mapped as mapped
 
 pub captured_sync : (A B C : RattleType) → IsSync A → IsSync B → IsSync C → IsSync (TupleAt [] (A ∷ B ∷ C ∷ []))
 captured_sync A B C a b c = search sendable depth 20

@@ -13,7 +13,7 @@ use sw_data::Text;
 use sw_disk::Disk;
 use sw_lock::{Logged, Pass, Shared};
 use sw_net::Gate;
-use sw_watch::Watched;
+use sw_view::Watched;
 
 // Passes the gate once for each of the fetches.
 fn pass_gate<G: Gate>(gate: &G, fetches: Vec<(Text, u32)>) {

@@ -17,8 +17,7 @@ use sw_data::{NoMemory, Text};
 use sw_disk::Disk;
 use sw_net::Gate;
 use sw_turns::DriveEnd;
-use sw_view::{Look, Looker, Publisher};
-use sw_watch::Watched;
+use sw_view::{Look, Looker, Publisher, Watched};
 
 /// A look-up: a storage key, and an address.
 #[derive(Drop)]

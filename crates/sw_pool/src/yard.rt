@@ -14,8 +14,7 @@ use sw_data::{Entry, Kept, NoMemory, Recording};
 use sw_disk::Disk;
 use sw_lock::Logged;
 use sw_turns::{DriveEnd, Progress};
-use sw_view::Move;
-use sw_watch::{Mapped, moves_since};
+use sw_view::{Mapped, Move, moves_since};
 
 // The end is kept. A larger function that let the old one go itself would have a case for each kind of event.
 fn keep(kept: &mut Option<DriveEnd>, end: DriveEnd)

@@ -7,7 +7,7 @@ use Rattle.sw_work.proofs.Working.{if_some_map}
 use Rattle.sw_data.specs.declared.rows.JobKind.{JobKind}
 use Rattle.sw_data.specs.declared.rows.JobRow.{JobRow}
 use Rattle.sw_data.specs.declared.storage.Change.{Change}
-use Rattle.sw_durable.specs.Telling.{Tells}
+use Rattle.sw_prepare.specs.Telling.{Tells}
 use Rattle.sw_install.specs.Runs.{IsOfKind}
 use Rattle.sw_prepare.specs.Held.{held, held_by}
 use Rattle.sw_rules.specs.Calls.{note_call}

@@ -1,8 +1,16 @@
+pub mod ActivationChanges
 pub mod Asking
 pub mod Begun
 pub mod Busy
 pub mod Changing
+pub mod Claims
+pub mod Ending
 pub mod Given
+pub mod JobChanges
+pub mod KeptRows
 pub mod Meanings
 pub mod OnCaches
+pub mod Registers
 pub mod Same
+pub mod Taking
+pub mod TellsIt

@@ -2,12 +2,20 @@
 //! will have.
 #![tactic(auto)]
 
+mod activating;
 mod asked;
 mod calls;
+mod claiming;
+mod forgetting;
 mod hosts;
+mod jobs;
+mod kept;
 mod lanes;
+mod laws;
+mod lists;
 mod pages;
 mod planning;
+mod preloading;
 mod preparing;
 mod telling;
 

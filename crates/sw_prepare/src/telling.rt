@@ -7,7 +7,7 @@ ghost use Rattle.sw_work.specs.Planned.{Fits};
 ghost use Rattle.sw_data.specs.declared.events.Event.{Event};
 ghost use Rattle.sw_data.specs.declared.recordings.FetchLine.{FetchLine};
 ghost use Rattle.sw_data.specs.declared.rows.WorkerRow.{WorkerRow};
-ghost use Rattle.sw_durable.specs.Telling.{Tells};
+ghost use Rattle.sw_prepare.specs.Telling.{Tells};
 ghost use Rattle.sw_install.specs.Fetches.{ComesTo};
 ghost use Rattle.sw_laws.specs.Coherent.{Coherent};
 ghost use Rattle.sw_pages.specs.Acts as pages;
@@ -26,10 +26,12 @@ ghost use Rattle.sw_work.specs.Hosted.{state_of};
 ghost use Rattle.sw_work.specs.Plans.{FitsAsked, FitsPageAct, FitsWork, IsAsked, IsUnregister, Means};
 ghost use Rattle.sw_worker.specs.Table.{worker_at};
 
+use crate::forgetting::forgotten;
+use crate::laws::register_has_no_changes;
+use crate::{activating, claiming, jobs, preloading};
 use std::alloc::Global;
 use std::borrow::CowSlice;
 use sw_data::{Change, Fault, NoMemory};
-use sw_durable::{forgotten, register_has_no_changes};
 use sw_install::FetchOutcome;
 use sw_ledgers::NewPreload;
 use sw_pages::PageAct;
@@ -42,7 +44,7 @@ fn close_changes(host: &HostTables, alloc: Global, client: u32) -> Result<Vec<Ch
     ensures { IfOk result (λ changes. changes.items
         ≡ (rules.leave (state_of host.now) client).changes) }
 {
-    sw_durable::close_changes(
+    activating::close_changes(
         alloc,
         client,
         &host.map,
@@ -63,7 +65,7 @@ fn skip_waiting_changes(
     ensures { IfOk result (λ changes. changes.items
         ≡ (rules.skip_waiting (state_of host.now) registration worker).changes) }
 {
-    sw_durable::skip_waiting_changes(
+    activating::skip_waiting_changes(
         alloc,
         registration,
         worker,
@@ -86,7 +88,7 @@ fn claim_changes(
     ensures { IfOk result (λ changes. changes.items
         ≡ (pages.told_by (PageAct.Claim registration worker) (state_of host.now)).changes) }
 {
-    sw_durable::claim_changes(
+    claiming::claim_changes(
         alloc,
         worker,
         &host.map,
@@ -106,7 +108,7 @@ fn end_changes(
     ensures { IfOk result (λ changes. changes.items
         ≡ (rules.end_event (state_of host.now) event registration).changes) }
 {
-    sw_durable::end_changes(
+    activating::end_changes(
         alloc,
         event,
         registration,
@@ -156,7 +158,7 @@ fn preload_changes(
     ensures { IfOk result (λ changes. changes.items
         ≡ (set_preload (state_of host.now) row.now.registration row.now.on row.now.value).changes) }
 {
-    sw_durable::preload_changes(
+    preloading::preload_changes(
         alloc,
         row.registration(),
         row.is_on(),
@@ -206,7 +208,7 @@ fn unregister_changes(
     ensures { IfOk result (λ changes.
         Tells (registering.run (state_of host.now) job) changes.items) }
 {
-    sw_durable::unregister_changes(
+    jobs::unregister_changes(
         alloc,
         job,
         refusal,
@@ -228,7 +230,7 @@ fn fetched_changes(
         → IfOk result (λ changes.
         Tells (installing.fetched (state_of host.now) job line) changes.items) }
 {
-    sw_durable::fetched_changes(
+    jobs::fetched_changes(
         alloc,
         job,
         outcome,
@@ -243,7 +245,7 @@ fn evaluated_changes(host: &HostTables, alloc: Global, job: u32) -> Result<Vec<C
     ensures { IfOk result (λ changes.
         Tells (installing.evaluated (state_of host.now) job) changes.items) }
 {
-    sw_durable::evaluated_changes(
+    jobs::evaluated_changes(
         alloc,
         job,
         &host.map,
@@ -260,7 +262,7 @@ fn installed_changes(host: &HostTables, alloc: Global, job: u32) -> Result<Vec<C
     ensures { IfOk result (λ changes.
         Tells (installing.installed (state_of host.now) job) changes.items) }
 {
-    sw_durable::installed_changes(
+    jobs::installed_changes(
         alloc,
         job,
         &host.map,
@@ -279,7 +281,7 @@ fn try_activate_changes(
     ensures { IfOk result (λ changes.
         Tells (activating.tryactivate (state_of host.now) registration) changes.items) }
 {
-    sw_durable::try_activate_changes(
+    activating::try_activate_changes(
         alloc,
         registration,
         &host.map,
@@ -296,7 +298,7 @@ fn activated_changes(host: &HostTables, alloc: Global, worker: u32) -> Result<Ve
     ensures { IfOk result (λ changes.
         Tells (activating.activated (state_of host.now) worker) changes.items) }
 {
-    sw_durable::activated_changes(
+    activating::activated_changes(
         alloc,
         worker,
         &host.map,

@@ -6,7 +6,7 @@ use Rattle.sw_data.specs.declared.workers.Mode.TheVariants as mode
 use Rattle.sw_forms.specs.declared.error.LineCause.TheVariants as cause
 use Rattle.sw_forms.specs.declared.error.Limit.TheVariants as limit
 use Rattle.sw_forms.specs.declared.error.RecordingError.TheVariants as error
-use Rattle.sw_inputs.specs.declared.RosterLine.TheVariants as line
+use Rattle.sw_readers.specs.declared.inputs.RosterLine.TheVariants as line
 use Rattle.sw_record.proofs.OnLiterals.{grammar_on_literals}
 use Rattle.sw_readers.specs.Roster.{asked, focus_line, get_asked, get_line, list_asked, list_line, roster_action, roster_of, with_roster_line, with_value}
 

@@ -14,8 +14,8 @@ use Rattle.sw_forms.specs.Exchanges.{response_parts}
 use Rattle.sw_forms.specs.Fetches.{address_part, error_line}
 use Rattle.sw_forms.specs.Flaws.{both, formed, made, no_form}
 use Rattle.sw_forms.specs.Members.{defaulted, has_only, list_of, short_text_of}
-use Rattle.sw_inputs.specs.declared.ImportFetch.{ImportFetch}
-use Rattle.sw_inputs.specs.declared.ImportRecording.{ImportRecording}
+use Rattle.sw_readers.specs.declared.inputs.ImportFetch.{ImportFetch}
+use Rattle.sw_readers.specs.declared.inputs.ImportRecording.{ImportRecording}
 use Rattle.sw_readers.specs.declared.imports.ImportReading.{ImportReading}
 use Rattle.sw_record.specs.Grammar.{lines_read, read_as}
 

@@ -14,9 +14,9 @@ use Rattle.sw_forms.specs.declared.limits.TheConstants.{ACTIONS_LIMIT}
 use Rattle.sw_forms.specs.Fetches.{fetch_line}
 use Rattle.sw_forms.specs.Flaws.{both, formed, made, needs}
 use Rattle.sw_forms.specs.Members.{has_only, number_of, required, truth_of}
-use Rattle.sw_inputs.specs.declared.RosterLine.{RosterLine}
-use Rattle.sw_inputs.specs.declared.RosterLine.TheVariants as line
-use Rattle.sw_inputs.specs.declared.RosterRecording.{RosterRecording}
+use Rattle.sw_readers.specs.declared.inputs.RosterLine.{RosterLine}
+use Rattle.sw_readers.specs.declared.inputs.RosterLine.TheVariants as line
+use Rattle.sw_readers.specs.declared.inputs.RosterRecording.{RosterRecording}
 use Rattle.sw_readers.specs.declared.roster.RosterReading.{RosterReading}
 use Rattle.sw_record.specs.Grammar.{has_promise, lines_read, read_as}
 use Rattle.sw_record.specs.Lanes.{action_member, lane_member}

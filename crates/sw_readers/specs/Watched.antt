@@ -9,8 +9,8 @@ use Rattle.sw_forms.specs.declared.flaw.Flaw.TheVariants as flaw
 use Rattle.sw_forms.specs.Fetches.{address_part}
 use Rattle.sw_forms.specs.Flaws.{both, formed, made, needs}
 use Rattle.sw_forms.specs.Members.{has_only}
-use Rattle.sw_inputs.specs.declared.LookLine.{LookLine}
-use Rattle.sw_inputs.specs.declared.WatchedRecording.{WatchedRecording}
+use Rattle.sw_readers.specs.declared.inputs.LookLine.{LookLine}
+use Rattle.sw_readers.specs.declared.inputs.WatchedRecording.{WatchedRecording}
 use Rattle.sw_readers.specs.declared.watched.TheConstants.{LOOKS_LIMIT}
 use Rattle.sw_readers.specs.declared.watched.WatchedReading.{WatchedReading}
 use Rattle.sw_record.specs.Grammar as grammar

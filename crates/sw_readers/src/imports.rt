@@ -6,6 +6,7 @@ ghost use Rattle.sw_readers.specs.Imports as grammar;
 ghost use Rattle.sw_readers.specs.Imports.{imports_of};
 ghost use Rattle.sw_record.specs.Grammar.{Reads};
 
+use crate::inputs::{ImportFetch, ImportRecording};
 use serde_json::Value;
 use std::alloc::Global;
 use sw_data::{FetchLine, Fetched, Handlers, Items, NoMemory, Response, Text};
@@ -13,7 +14,6 @@ use sw_forms::{
     CALLS_LIMIT, Flaw, Limit, NO_FORM, Part, RecordingError, address_part, both, error_line,
     has_only, list_of, response_parts,
 };
-use sw_inputs::{ImportFetch, ImportRecording};
 use sw_record::{FromLines, read_lines};
 
 /// The lines so far.

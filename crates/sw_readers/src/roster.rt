@@ -6,6 +6,7 @@ ghost use Rattle.sw_readers.specs.Roster as grammar;
 ghost use Rattle.sw_readers.specs.Roster.{roster_of};
 ghost use Rattle.sw_record.specs.Grammar.{Reads};
 
+use crate::inputs::{RosterLine, RosterRecording};
 use serde_json::Value;
 use std::alloc::Global;
 use sw_data::{Action, FetchLine, Items, NoMemory};
@@ -13,7 +14,6 @@ use sw_forms::{
     ACTIONS_LIMIT, Flaw, Limit, LineCause, NO_FORM, Part, RecordingError, both, fetch_line,
     has_only, needs, number_member, number_of, truth_of,
 };
-use sw_inputs::{RosterLine, RosterRecording};
 use sw_record::{FromLines, action_member, has_promise, lane_member, read_lines};
 
 /// The lines so far, and of each action of the lane whether its promise can be awaited.

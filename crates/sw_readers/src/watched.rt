@@ -6,11 +6,11 @@ ghost use Rattle.sw_readers.specs.Watched as grammar;
 ghost use Rattle.sw_readers.specs.Watched.{watched_of};
 ghost use Rattle.sw_record.specs.Grammar.{Reads};
 
+use crate::inputs::{LookLine, WatchedRecording};
 use serde_json::Value;
 use std::alloc::Global;
 use sw_data::{Items, NoMemory, Text};
 use sw_forms::{Flaw, Limit, NO_FORM, Part, RecordingError, address_part, both, has_only, needs};
-use sw_inputs::{LookLine, WatchedRecording};
 use sw_record::{FromLines, Reading, nothing_read, partition_member, read_lines};
 
 /// The most look-ups.

@@ -13,8 +13,8 @@ use Rattle.sw_data.specs.declared.histories.Task.{Task}
 use Rattle.sw_data.specs.declared.recordings.Action.{Action}
 use Rattle.sw_data.specs.declared.recordings.FetchLine.{FetchLine}
 use Rattle.sw_data.specs.Events.{event_of_action, is_lane, who_of}
-use Rattle.sw_inputs.specs.declared.RosterLine.{RosterLine}
-use Rattle.sw_inputs.specs.declared.RosterLine.TheVariants as line
+use Rattle.sw_readers.specs.declared.inputs.RosterLine.{RosterLine}
+use Rattle.sw_readers.specs.declared.inputs.RosterLine.TheVariants as line
 use Rattle.sw_lane.proofs.ActionEvents.{who_of-event_of_action}
 use Rattle.sw_laws.specs.Coherent.{Coherent}
 use Rattle.sw_laws.proofs.LawProofs.{is_always_coherent}

@@ -10,8 +10,8 @@ use Rattle.sw_data.specs.declared.events.Event.{Event}
 use Rattle.sw_data.specs.declared.events.Event.TheVariants as event
 use Rattle.sw_data.specs.declared.histories.Entry.{Entry}
 use Rattle.sw_data.specs.declared.rows.ClientRow.{ClientRow}
-use Rattle.sw_inputs.specs.declared.RosterLine.{RosterLine}
-use Rattle.sw_inputs.specs.declared.RosterLine.TheVariants as line
+use Rattle.sw_readers.specs.declared.inputs.RosterLine.{RosterLine}
+use Rattle.sw_readers.specs.declared.inputs.RosterLine.TheVariants as line
 use Rattle.sw_roster.proofs.OnlyOpens.{close_closes, only_opens}
 use Rattle.sw_roster.specs.Beats.{AreClosed, IsRecent, after_asked, answered, closes, focus_of, focused, focuses, has_focus, is_closed, listed, opens, places, recent_of, unfocused}
 use Rattle.sw_roster.specs.Members.{by_focus, closed, dropped, has_closed, is_listed, is_same, may_ask, members, numbers_of, opened, turned}

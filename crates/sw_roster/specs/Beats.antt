@@ -7,8 +7,8 @@ use Rattle.sw_data.specs.declared.histories.Entry.{Entry}
 use Rattle.sw_data.specs.declared.recordings.FetchLine.{FetchLine}
 use Rattle.sw_data.specs.declared.rows.ClientRow.{ClientRow}
 use Rattle.sw_data.specs.Events.{event_of_action}
-use Rattle.sw_inputs.specs.declared.RosterLine.{RosterLine}
-use Rattle.sw_inputs.specs.declared.RosterLine.TheVariants as line
+use Rattle.sw_readers.specs.declared.inputs.RosterLine.{RosterLine}
+use Rattle.sw_readers.specs.declared.inputs.RosterLine.TheVariants as line
 use Rattle.sw_rules.specs.History.{Legal, moved}
 use Rattle.sw_rules.specs.Picks.{is_of_lane}
 use Rattle.sw_rules.specs.Restart.{restart}

@@ -4,7 +4,7 @@ use Rattle.sw_data.specs.declared.events.Event.{Event}
 use Rattle.sw_data.specs.declared.histories.Entry.{Entry}
 use Rattle.sw_data.specs.declared.recordings.FetchLine.{FetchLine}
 use Rattle.sw_data.specs.Events.{who_of}
-use Rattle.sw_inputs.specs.declared.RosterLine.{RosterLine}
+use Rattle.sw_readers.specs.declared.inputs.RosterLine.{RosterLine}
 use Rattle.sw_roster.specs.Beats.{AreClosed, HasRoster, HaveCome, IsRecent, after_asked, entries_of, is_action, is_of_line, state_at}
 use Rattle.sw_roster.specs.Members.{dropped, turned}
 use Rattle.sw_roster.specs.declared.beats.Beat.{Beat}

@@ -1,7 +1,7 @@
 -- The text of what has come of the lines of a roster.
 use Rattle.std.specs.Prelude.{ℕ, List, [], ◌++◌, flat_map, codes}
-use Rattle.sw_inputs.specs.declared.RosterLine.{RosterLine}
-use Rattle.sw_inputs.specs.declared.RosterLine.TheVariants as line
+use Rattle.sw_readers.specs.declared.inputs.RosterLine.{RosterLine}
+use Rattle.sw_readers.specs.declared.inputs.RosterLine.TheVariants as line
 use Rattle.sw_print.specs.Transcript.{line_of_entry, listed, numbered}
 use Rattle.sw_roster.specs.declared.beats.Beat.{Beat}
 use Rattle.sw_roster.specs.declared.beats.Beat.TheVariants as beat

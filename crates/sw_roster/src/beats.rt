@@ -1,7 +1,7 @@
 //! What happens on a roster, in order, and how that ends.
 
 use sw_data::{Entry, Items};
-use sw_inputs::RosterLine;
+use sw_readers::RosterLine;
 
 /// What is answered to what is asked of the clients.
 #[derive(Drop)]

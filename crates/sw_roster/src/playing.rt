@@ -3,8 +3,8 @@
 ghost use Rattle.std.specs.Prelude.{◌≡◌, ◌+◌, ◌-◌, ◌<◌, ◌≤◌, ◌^◌, ◌∷◌, ◌++◌, [], List, length, true, Ok, Some, None, IfOk, IsErr, OnOk};
 ghost use Rattle.sw_data.specs.Events.{who_of};
 ghost use Rattle.sw_data.specs.declared.recordings.FetchLine.{FetchLine};
-ghost use Rattle.sw_inputs.specs.declared.RosterLine as lines;
-ghost use Rattle.sw_inputs.specs.declared.RosterLine.TheVariants as line;
+ghost use Rattle.sw_readers.specs.declared.inputs.RosterLine as lines;
+ghost use Rattle.sw_readers.specs.declared.inputs.RosterLine.TheVariants as line;
 ghost use Rattle.sw_lane.specs.Picked.{task_left};
 ghost use Rattle.sw_roster.specs.Beats.{AreClosed, HasRoster, IsRecent, after_asked, answered};
 ghost use Rattle.sw_roster.specs.Playing.{GoesOn, HasBegun, HasHappened, HasSettled, IsPlayed};
@@ -22,12 +22,11 @@ use crate::faults::RosterFault;
 use crate::roster::Roster;
 use std::alloc::Global;
 use std::collections::VecDeque;
-use sw_comes::task_event;
-use sw_core::Core;
+use sw_core::{Core, task_event};
 use sw_data::{Action, Answer, Entry, Event, Items, NoMemory, Task, Who};
-use sw_inputs::{RosterLine, RosterRecording};
 use sw_lane::event_of_action;
 use sw_net::Net;
+use sw_readers::{RosterLine, RosterRecording};
 use sw_work::Reply;
 
 // A roster on which lines are played.

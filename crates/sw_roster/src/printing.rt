@@ -1,7 +1,7 @@
 //! The text of what has come of the lines of a roster.
 
 ghost use Rattle.std.specs.Prelude.{◌≡◌, IfOk, codes, string_bytes};
-ghost use Rattle.sw_inputs.specs.declared.RosterLine as lines;
+ghost use Rattle.sw_readers.specs.declared.inputs.RosterLine as lines;
 ghost use Rattle.sw_print.specs.Transcript.{listed, numbered};
 ghost use Rattle.sw_roster.specs.Texts as texts;
 ghost use Rattle.sw_roster.specs.declared.beats.Beat.TheVariants as beat;
@@ -9,8 +9,8 @@ ghost use Rattle.sw_roster.specs.declared.beats.Beat.TheVariants as beat;
 use crate::beats::{Beat, RosterAnswer, RosterEnd};
 use std::alloc::{AllocError, Global};
 use sw_data::{NoMemory, Text};
-use sw_inputs::RosterLine;
 use sw_print::print_entry;
+use sw_readers::RosterLine;
 
 // How many members of a list are printed.
 const PRINTED: usize = 16;

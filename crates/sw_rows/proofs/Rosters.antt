@@ -11,8 +11,8 @@ use Rattle.sw_data.specs.declared.recordings.FetchLine.{FetchLine}
 use Rattle.sw_data.specs.declared.workers.Kind.TheVariants.{Classic}
 use Rattle.sw_data.specs.declared.workers.Mode.TheVariants.{Imports}
 use Rattle.sw_data.specs.Events.{who_of}
-use Rattle.sw_inputs.specs.declared.RosterLine.{RosterLine}
-use Rattle.sw_inputs.specs.declared.RosterLine.TheVariants as line
+use Rattle.sw_readers.specs.declared.inputs.RosterLine.{RosterLine}
+use Rattle.sw_readers.specs.declared.inputs.RosterLine.TheVariants as line
 use Rattle.sw_roster.specs.Beats.{answered, next_event, next_line}
 use Rattle.sw_roster.specs.Texts.{roster_text}
 use Rattle.sw_roster.specs.declared.beats.Beat.{Beat}

@@ -19,7 +19,7 @@ use Rattle.sw_turns.proofs.FlightLemmas.{flies_not_free}
 use Rattle.sw_turns.specs.Acting.{IsTaking, action_of_event}
 use Rattle.sw_turns.specs.Coming.{AreOfTurn, ArePicked, GrowsByPick, HaveLanded, IsPickedNext}
 use Rattle.sw_turns.specs.Flights.{Flies}
-use Rattle.sw_comes.specs.Machines.{IsEventOf}
+use Rattle.sw_core.specs.Machines.{IsEventOf}
 use Rattle.sw_work.specs.Hosted.{state_of}
 
 -- ---- an action that goes back

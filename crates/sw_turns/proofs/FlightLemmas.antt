@@ -31,9 +31,9 @@ use Rattle.sw_rules.specs.State.{State, AddAll, Handler}
 use Rattle.sw_rules.specs.Step.{state_after}
 use Rattle.sw_rules.specs.Tasks.{add_all_lines, call_or, event_of, handler_event, job_line, next_call, ready_tasks}
 use Rattle.sw_turns.specs.Flights.{AreInFlight, Flies, IsDue, Spares, ends}
-use Rattle.sw_comes.specs.Machines.{IsEventOf}
+use Rattle.sw_core.specs.Machines.{IsEventOf}
 use Rattle.sw_turns.proofs.NextLemmas.{left_picked, picked_task}
-use Rattle.sw_comes.proofs.ReadyLemmas.{add_all_fetch_ready, any_job, script_fetch_ready, turned}
+use Rattle.sw_core.proofs.ReadyLemmas.{add_all_fetch_ready, any_job, script_fetch_ready, turned}
 use Rattle.sw_turns.proofs.ReadyLemmas.{add_all_is_ready, script_is_ready}
 
 -- ---- places

@@ -30,9 +30,9 @@ use Rattle.sw_lane.proofs.Saying.{says}
 use Rattle.sw_laws.specs.Coherent.{Coherent}
 use Rattle.sw_laws.proofs.Lists.{find_passes}
 use Rattle.sw_turns.specs.Coming.{IsPickedNext}
-use Rattle.sw_comes.specs.Machines.{IsEventOf}
+use Rattle.sw_core.specs.Machines.{IsEventOf}
 use Rattle.sw_turns.specs.Playing.{ComesNext, IsSoFar}
-use Rattle.sw_comes.proofs.FetchLemmas.{comes_enabled}
+use Rattle.sw_core.proofs.FetchLemmas.{comes_enabled}
 use Rattle.sw_turns.proofs.ReadyLemmas.{found_ready}
 use Rattle.sw_rules.specs.History.{IsStep, after, moved}
 use Rattle.sw_rules.specs.Picks.{HasLines, IsFollowing, IsNextOfLane, IsPicked, is_host_forget, next}

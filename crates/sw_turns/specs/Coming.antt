@@ -15,7 +15,7 @@ use Rattle.sw_rules.specs.Step.{changes_of}
 use Rattle.sw_store.specs.Groups.{IsTooLong}
 use Rattle.sw_store.specs.Stores.{StoreState}
 use Rattle.sw_turns.specs.Flights.{Flies}
-use Rattle.sw_comes.specs.Machines.{IsEventOf}
+use Rattle.sw_core.specs.Machines.{IsEventOf}
 use Rattle.sw_twin.specs.Twin.{TwinState}
 use Rattle.sw_work.specs.Hosted.{state_of}
 

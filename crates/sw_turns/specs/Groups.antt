@@ -13,7 +13,7 @@ use Rattle.sw_lane.specs.declared.picks.Pick.TheVariants as pick
 use Rattle.sw_lane.specs.declared.picks.Work.TheVariants as work
 use Rattle.sw_turns.specs.Coming.{NextHasNoRoom}
 use Rattle.sw_turns.specs.Flights.{Flies}
-use Rattle.sw_comes.specs.Machines.{IsEventOf}
+use Rattle.sw_core.specs.Machines.{IsEventOf}
 use Rattle.sw_turns.specs.Playing.{ComesNext, IsSoFar}
 use Rattle.sw_turns.specs.declared.ends.DriveEnd.{DriveEnd}
 use Rattle.sw_turns.specs.declared.ends.DriveEnd.TheVariants as drive_end

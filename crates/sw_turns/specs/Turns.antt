@@ -20,7 +20,7 @@ use Rattle.sw_turns.specs.Coming.{AreOfTurn, NextHasNoRoom}
 use Rattle.sw_turns.specs.Ends.{Ended}
 use Rattle.sw_turns.specs.Flights.{AreInFlight, Flies, IsDue}
 use Rattle.sw_turns.specs.Groups.{IsUnderWay}
-use Rattle.sw_comes.specs.Machines.{IsEventOf}
+use Rattle.sw_core.specs.Machines.{IsEventOf}
 use Rattle.sw_turns.specs.Settling.{Standing}
 use Rattle.sw_turns.specs.Surviving.{IsAtWork, kept_of}
 use Rattle.sw_turns.specs.declared.ends.DriveEnd.{DriveEnd}

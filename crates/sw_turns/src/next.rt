@@ -10,14 +10,13 @@ ghost use Rattle.sw_laws.specs.Coherent.{Coherent};
 ghost use Rattle.sw_turns.specs.Acting.{IsTaking};
 ghost use Rattle.sw_turns.specs.Coming.{IsPickedNext};
 ghost use Rattle.sw_turns.specs.Flights.{AreInFlight, Flies, IsDue, Spares};
-ghost use Rattle.sw_comes.specs.Machines.{IsEventOf};
+ghost use Rattle.sw_core.specs.Machines.{IsEventOf};
 ghost use Rattle.sw_turns.specs.Playing.{ComesNext};
 ghost use Rattle.sw_work.specs.Hosted.{state_of};
 
 use crate::acting::action_of_event;
 use std::alloc::Global;
-use sw_comes::task_event;
-use sw_core::Core;
+use sw_core::{Core, task_event};
 use sw_data::{Event, NoMemory, Task, Who};
 use sw_lane::{Lanes, event_of_action};
 use sw_net::Net;

@@ -23,7 +23,7 @@ use Rattle.sw_view.specs.Moves.{AreMoves, after_move, after_moves, nothing, valu
 use Rattle.sw_view.specs.Pasts.{past_after, past_of}
 use Rattle.sw_view.specs.Showing.{Leads}
 use Rattle.sw_view.proofs.Lookups.{same_longest}
-use Rattle.sw_view.proofs.Moving.{same_moves}
+use Rattle.sw_view.proofs.AllMoves.{same_moves}
 
 knows_none : (x : Shown) → Knows x newcomer
 knows_none x origin is = absurd (cc (is))

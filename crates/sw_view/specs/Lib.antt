@@ -2,7 +2,9 @@ pub mod Found
 pub mod Keeping
 pub mod Mapped
 pub mod Moves
+pub mod Moving
 pub mod Pasts
 pub mod Rules
 pub mod Showing
 pub mod Views
+pub mod Watching

@@ -4,7 +4,7 @@ use Rattle.sw_lock.specs.Passes.{number, opened_of, seen}
 use Rattle.sw_pool.proofs.EndLemmas.{end_seen_then, never_spent_then}
 use Rattle.sw_pool.proofs.driving.drive_watched.Goals as goal
 use Rattle.sw_pool.specs.Yards.{Origin}
-use Rattle.sw_watch.specs.Watching.{WatchBase}
+use Rattle.sw_view.specs.Watching.{WatchBase}
 
 pub returns-in-Some-clause-spent : goal.returns-in-Some-clause-spent
 returns-in-Some-clause-spent g c = λ is.

@@ -1,6 +1,6 @@
 use Rattle.std.proofs.Common.{subst}
 use Rattle.std.specs.Prelude.{IfOk}
-use Rattle.sw_durable.specs.Telling.{Tells}
+use Rattle.sw_prepare.specs.Telling.{Tells}
 use Rattle.sw_rules.specs.Activating.{activated}
 use Rattle.sw_work.specs.contracts.tables.HostTables.{the_view}
 use Rattle.sw_work.specs.Hosted.{Hosted, rest_of, state_of}

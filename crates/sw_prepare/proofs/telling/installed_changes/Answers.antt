@@ -1,6 +1,6 @@
 use Rattle.std.proofs.Common.{subst, sym}
 use Rattle.std.specs.Prelude.{IfOk}
-use Rattle.sw_durable.specs.Telling.{Tells}
+use Rattle.sw_prepare.specs.Telling.{Tells}
 use Rattle.sw_laws.specs.Coherent.{Coherent}
 use Rattle.sw_rules.specs.Installing.{installed}
 use Rattle.sw_work.proofs.Coherence.{under_way}

@@ -2,7 +2,7 @@ use Rattle.std.proofs.Common.{◌∙◌, Option, refl, subst, sym}
 use Rattle.std.specs.Prelude.{IfOk}
 use Rattle.sw_prepare.proofs.Changing.{registers}
 use Rattle.sw_data.specs.declared.rows.JobKind.TheVariants as job_kind
-use Rattle.sw_durable.specs.Telling.{Tells}
+use Rattle.sw_prepare.specs.Telling.{Tells}
 use Rattle.sw_rules.specs.Told.{Outcome}
 use Rattle.sw_work.specs.Plans.{FitsWork, Means}
 use Rattle.sw_work.specs.declared.plan.Work.{Work}

@@ -11,7 +11,7 @@ use Rattle.sw_lock.specs.Entries.{ThenOwn}
 use Rattle.sw_turns.specs.Coming.{GrowsByPick}
 use Rattle.sw_turns.specs.Flights.{Flies}
 use Rattle.sw_turns.specs.Groups.{IsBarren, IsTaken, IsUnderWay, Stops}
-use Rattle.sw_comes.specs.Machines.{IsEventOf}
+use Rattle.sw_core.specs.Machines.{IsEventOf}
 use Rattle.sw_turns.specs.Playing.{ComesNext}
 use Rattle.sw_turns.specs.declared.ends.Refusal.{Refusal}
 use Rattle.sw_turns.specs.declared.ends.Stop.{Stop}

@@ -3,7 +3,7 @@ use Rattle.std.proofs.Common.{rules, length, refl, subst}
 use Rattle.std.proofs.lemmas.Option.{gets}
 use Rattle.sw_data.specs.declared.histories.Task.{Task}
 use Rattle.sw_turns.specs.Flights.{Flies}
-use Rattle.sw_comes.specs.Machines.{IsEventOf}
+use Rattle.sw_core.specs.Machines.{IsEventOf}
 use Rattle.sw_turns.proofs.FlightLemmas.{due_alone, flies_alike, flies_not_free, landed_stay, landing_spares}
 use Rattle.sw_turns.proofs.NextLemmas.{performed}
 use Rattle.sw_work.specs.Hosted.{state_of}

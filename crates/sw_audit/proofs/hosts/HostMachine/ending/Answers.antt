@@ -2,7 +2,7 @@
 use Rattle.std.proofs.Common.{subst, sym}
 use Rattle.sw_audit.specs.contracts.hosts.Host.{the_view}
 use Rattle.sw_audit.specs.Following.{Following, Stands}
-use Rattle.sw_check.specs.Continuing.{IsEnd}
+use Rattle.sw_audit.specs.Continuing.{IsEnd}
 use Rattle.sw_rules.specs.State.{State}
 use Rattle.sw_audit.proofs.hosts.HostMachine.ending.Goals as goal
 

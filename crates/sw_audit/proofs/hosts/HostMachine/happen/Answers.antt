@@ -3,7 +3,7 @@ use Rattle.std.proofs.Common.{[], ◌∷◌, ◌++◌, subst, sym}
 use Rattle.sw_audit.specs.contracts.hosts.Host.{the_view}
 use Rattle.sw_audit.specs.Following.{Following, Stands}
 use Rattle.sw_audit.proofs.Stood.{may_enter, names_it, none_on, stands_then, still_led, there_on}
-use Rattle.sw_check.specs.Named.{IsNamed}
+use Rattle.sw_audit.specs.Named.{IsNamed}
 use Rattle.sw_data.specs.declared.histories.Entry.{Entry}
 use Rattle.sw_rules.specs.History.{moved}
 use Rattle.sw_audit.proofs.hosts.HostMachine.happen.Goals.{in-Err-enter, in-Ok}

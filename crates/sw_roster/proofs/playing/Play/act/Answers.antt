@@ -3,7 +3,7 @@ use Rattle.std.proofs.Common.{◌+◌, false, true, arith, subst, sym}
 use Rattle.sw_data.specs.Events.{event_of_action}
 use Rattle.sw_data.specs.declared.events.Event.{Event}
 use Rattle.sw_data.specs.declared.events.Who.TheVariants as who
-use Rattle.sw_inputs.specs.declared.RosterLine.{RosterLine}
+use Rattle.sw_readers.specs.declared.inputs.RosterLine.{RosterLine}
 use Rattle.sw_roster.proofs.Played.{line_played, spent_by_line, stalled_now, tested}
 use Rattle.sw_roster.proofs.playing.Play.act.Goals as goal
 use Rattle.sw_roster.specs.Beats.{HasRoster}

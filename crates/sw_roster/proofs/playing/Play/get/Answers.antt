@@ -1,6 +1,6 @@
 -- The answer is added.
 use Rattle.std.proofs.Common.{refl}
-use Rattle.sw_inputs.specs.declared.RosterLine.TheVariants as line
+use Rattle.sw_readers.specs.declared.inputs.RosterLine.TheVariants as line
 use Rattle.sw_roster.proofs.Played.{asked_on}
 use Rattle.sw_roster.proofs.playing.Play.get.Goals as goal
 

@@ -1,6 +1,6 @@
 use Rattle.std.proofs.Common.{◌≡◌, ◌-◌, ◌^◌, List}
 use Rattle.sw_data.specs.declared.recordings.FetchLine.{FetchLine}
-use Rattle.sw_inputs.specs.declared.RosterLine.{RosterLine}
+use Rattle.sw_readers.specs.declared.inputs.RosterLine.{RosterLine}
 use Rattle.sw_roster.specs.Playing.{IsPlayed}
 use Rattle.sw_roster.proofs.playing.Play.settle.Given as goal
 

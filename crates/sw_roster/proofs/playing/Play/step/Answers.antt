@@ -1,6 +1,6 @@
 -- No more entries are made; or every line was taken; or the next one is taken.
 use Rattle.std.proofs.Common.{◌∙◌, List, ◌∷◌, refl, subst, sym}
-use Rattle.sw_inputs.specs.declared.RosterLine.{RosterLine}
+use Rattle.sw_readers.specs.declared.inputs.RosterLine.{RosterLine}
 use Rattle.sw_roster.proofs.Played.{done_now, left_apart, none_more, rests_now, spent_so}
 use Rattle.sw_roster.proofs.playing.Play.step.Goals as goal
 use Rattle.sw_roster.specs.Playing.{IsPlayed}

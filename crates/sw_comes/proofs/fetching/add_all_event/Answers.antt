@@ -1,6 +1,0 @@
-use Rattle.sw_comes.proofs.FetchLemmas.{add_all_comes_on}
-use Rattle.sw_work.specs.Hosted.{state_of}
-use Rattle.sw_comes.proofs.fetching.add_all_event.Goals as goal
-
-pub returns : goal.returns
-returns c = add_all_comes_on c.args.net.now (state_of c.args.core.now) c.added.result c.args.task c.requires c.added.ensures

@@ -1,5 +1,0 @@
-pub mod Adding
-pub mod Durable
-pub mod LastRows
-pub mod Numbers
-pub mod Restarting

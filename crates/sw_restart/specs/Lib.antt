@@ -1,4 +1,0 @@
-pub mod Keeping
-pub mod Parts
-pub mod Restored
-pub mod Rows

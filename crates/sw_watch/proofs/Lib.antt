@@ -1,5 +1,0 @@
-pub mod Agreeing
-pub mod Beginnings
-pub mod Leading
-pub mod Persisting
-pub mod Telling
