@@ -3,6 +3,7 @@
 ghost use Rattle.std.specs.Prelude.{◌≡◌};
 
 use crate::core_tables::Core;
+use sw_caches::Caches;
 use sw_client::Clients;
 use sw_queue::Queues;
 use sw_reg::Registrations;
@@ -43,5 +44,12 @@ impl Core {
         ensures { result.now ≡ self.now.clients }
     {
         &self.host.clients
+    }
+
+    /// The caches. It takes no memory.
+    pub fn caches(&self) -> &Caches
+        ensures { result.now ≡ self.now.caches }
+    {
+        &self.host.caches
     }
 }

@@ -7,6 +7,7 @@ use Rattle.sw_rules.specs.History.{Legal, after}
 use Rattle.sw_scope.specs.Scopes.{Scopes}
 use Rattle.sw_tables.specs.Lent.{lent}
 use Rattle.sw_turns.proofs.EndLemmas.{so_far_here}
+use Rattle.sw_turns.specs.Ways.{recorded_way}
 use Rattle.sw_turns.specs.declared.ends.DriveEnd.{DriveEnd}
 use Rattle.sw_turns.specs.declared.ends.DriveEnd.TheVariants as drive_end
 use Rattle.sw_turns.specs.declared.progress.Progress.{Progress}
@@ -16,7 +17,7 @@ use Rattle.sw_work.specs.Hosted.{Hosted, rest_of, state_of}
 pub known : {D : Type 0} (disk : Ghosts D) (now : D) (origin : Origin D) (progress : Progress) (end : Option DriveEnd) → Stands disk now origin progress end → is_known end ≡ true
     → Legal origin.base progress.history.items × (after origin.base progress.history.items ≡ state_of progress.store.core)
 known disk now origin progress None going is =
-    let so_far = so_far_here (length progress.flights.items) origin.recording origin.base progress.history.items progress.lanes progress.store going.under_way going.quiet.staged in
+    let so_far = so_far_here (length progress.flights.items) (recorded_way origin.recording) origin.base progress.history.items progress.lanes progress.store going.under_way going.quiet.staged in
     (so_far.legal, so_far.state_is)
 known disk now origin progress (Some drive_end.Done) stands is = (stands.0.0.0.run.legal, stands.0.1)
 known disk now origin progress (Some (drive_end.Stalled lane)) stands is = (stands.0.0.0.run.legal, stands.0.1)

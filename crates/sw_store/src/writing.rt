@@ -134,6 +134,13 @@ impl Store {
         }
     }
 
+    /// The spellings of the changes that wait, one behind the other.
+    pub fn payload(&self) -> &[u8]
+        ensures { result.now ≡ self.now.payload }
+    {
+        self.group.payload()
+    }
+
     /// Whether changes wait to be written.
     pub fn has_changes(&self) -> bool
         ensures changes { result ≡ true → self.now.payload ≢ [] }

@@ -26,6 +26,7 @@ use Rattle.sw_turns.specs.Groups.{IsUnderWay}
 use Rattle.sw_turns.specs.Playing.{IsSoFar, opening_of}
 use Rattle.sw_turns.specs.Surviving.{IsAtWork, KeepsPrefix, Survives}
 use Rattle.sw_turns.specs.Turns.{IsGoing}
+use Rattle.sw_turns.specs.Ways.{Way, recorded_way}
 use Rattle.sw_turns.specs.declared.progress.Progress.{Progress}
 use Rattle.sw_rules.specs.History.{IsOpening, after_entries}
 use Rattle.sw_rules.specs.Restart.{restart, restored_registration}
@@ -49,25 +50,25 @@ opens base clock = record {
   notices = refl;
 }
 
-module _ (workers : ℕ) (some : 0 < workers) (recording : Recording) (clock : ℕ) (lanes : List Left) (store : StoreState) (fresh : IsFresh (2 ^ 32) store) (ours : AreLanesOf recording [] lanes) where
+module _ (workers : ℕ) (some : 0 < workers) (way : Way) (clock : ℕ) (lanes : List Left) (store : StoreState) (fresh : IsFresh (2 ^ 32) store) (ours : AreLanesOf way.recording [] lanes) where
   abbrev opening : Entry
   opening = opening_of store.base clock
 
   -- nothing has happened but the restart
-  begins : IsSoFar workers recording store.base (opening ∷ []) lanes (state_of store.core)
+  begins : IsSoFar workers way store.base (opening ∷ []) lanes (state_of store.core)
   begins = record {
     legal = record { made = fresh.made; opens = opens store.base clock; steps = tt };
     follows = tt;
     picked = λ alone. tt;
     passes = All-push (λ (entry : Entry). entry.pass < workers) [] opening (All-nil (λ (entry : Entry). entry.pass < workers)) some;
-    lanes_are = stays recording [] lanes opening ours refl;
+    lanes_are = stays way.recording [] lanes opening ours refl;
     state_is = sym fresh.state;
   }
 
-  goes : IsUnderWay workers recording store.base (opening ∷ []) lanes store
+  goes : IsUnderWay workers way store.base (opening ∷ []) lanes store
   goes = record {
     so_far = λ now.
-        subst (λ (staged : List Entry). IsSoFar workers recording store.base ((opening ∷ []) ++ all_stamped now staged) lanes (state_of store.core))
+        subst (λ (staged : List Entry). IsSoFar workers way store.base ((opening ∷ []) ++ all_stamped now staged) lanes (state_of store.core))
         (sym fresh.quiet.staged) begins;
     group = record {
       now = ap (after_entries (restart store.base)) fresh.quiet.staged ∙ sym fresh.state;
@@ -79,12 +80,12 @@ module _ (workers : ℕ) (some : 0 < workers) (recording : Recording) (clock : �
   }
 
 -- a recording of which nothing has happened is under way
-under_way : (workers : ℕ) (recording : Recording) (base : Kept) (clock : ℕ) (lanes : List Left) (store : StoreState) (history : List Entry)
-    → 0 < workers → IsFresh (2 ^ 32) store → AreLanesOf recording [] lanes → base ≡ store.base → history ≡ opening_of base clock ∷ []
-    → IsUnderWay workers recording store.base history lanes store
-under_way workers recording base clock lanes store history some fresh ours same is =
-    subst (λ (h : List Entry). IsUnderWay workers recording store.base h lanes store)
-    (sym (is ∙ ap (λ (b : Kept). opening_of b clock ∷ []) same)) (goes workers some recording clock lanes store fresh ours)
+pub under_way : (workers : ℕ) (way : Way) (base : Kept) (clock : ℕ) (lanes : List Left) (store : StoreState) (history : List Entry)
+    → 0 < workers → IsFresh (2 ^ 32) store → AreLanesOf way.recording [] lanes → base ≡ store.base → history ≡ opening_of base clock ∷ []
+    → IsUnderWay workers way store.base history lanes store
+under_way workers way base clock lanes store history some fresh ours same is =
+    subst (λ (h : List Entry). IsUnderWay workers way store.base h lanes store)
+    (sym (is ∙ ap (λ (b : Kept). opening_of b clock ∷ []) same)) (goes workers some way clock lanes store fresh ours)
 
 -- ---- the disk of a restart
 
@@ -177,7 +178,7 @@ module _ {D : Type 0} (disk : Ghosts D) (start now : D) (store : StoreState) (op
   }
 
 -- a host whose disk was just opened is at work on it
-at_work : {D : Type 0} (disk : Ghosts D) (start now : D) (clock : ℕ) (kept : Kept) (store : StoreState) (entries : List Entry)
+pub at_work : {D : Type 0} (disk : Ghosts D) (start now : D) (clock : ℕ) (kept : Kept) (store : StoreState) (entries : List Entry)
     → IsFresh (2 ^ 32) store → kept ≡ store.base → clock ≡ disk.clock now → entries ≡ opening_of kept clock ∷ []
     → HasOpened disk start now store → IsAtWork disk start now store.base entries store
 at_work disk start now clock kept store entries fresh same at is opened =
@@ -214,17 +215,17 @@ module _ (passes : ℕ) (many : passes ≤ 64) (flights : List (Option Task)) (f
 
 -- ---- a host that was just opened
 
-pub is_going : {D : Type 0} (disk : Ghosts D) (start now : D) (recording : Recording) (kept : Kept) (clock passes : ℕ) (p : Progress)
-    → 0 < passes → passes ≤ 64 → IsFresh (2 ^ 32) p.store → AreLanesOf recording [] p.lanes → p.net ≡ recording.fetches → p.flights.items ≡ replicate passes None
-    → kept ≡ p.store.base → clock ≡ disk.clock now → p.history.items ≡ opening_of kept clock ∷ [] → HasOpened disk start now p.store
+pub is_going : {D : Type 0} (disk : Ghosts D) (start now : D) (recording : Recording) (passes : ℕ) (p : Progress)
+    → passes ≤ 64 → IsFresh (2 ^ 32) p.store → ((way : Way) → way.recording ≡ recording → IsUnderWay passes way p.store.base p.history.items p.lanes p.store)
+    → IsAtWork disk start now p.store.base p.history.items p.store → p.net ≡ recording.fetches → p.flights.items ≡ replicate passes None
     → IsGoing disk start now recording p.store.base p
-is_going disk start now recording kept clock passes p some many fresh ours lines free same at is opened = record {
+is_going disk start now recording passes p many fresh goes works lines free = record {
   lines = sym lines;
   under_way =
-      under_way (length p.flights.items) recording kept clock p.lanes p.store p.history.items
-      (omega (arith, some, ap length free, length-replicate {A = Option Task} passes None)) fresh ours same is;
+      subst (λ (workers : ℕ). IsUnderWay workers (recorded_way recording) p.store.base p.history.items p.lanes p.store)
+      (sym (ap length free ∙ length-replicate {A = Option Task} passes None)) (goes (recorded_way recording) refl);
   quiet = fresh.quiet;
-  at_work = at_work disk start now clock kept p.store p.history.items fresh same at is opened;
+  at_work = works;
   tended = inl (λ grown. omega (arith, grown, fresh.mark));
   flights = free_flights passes many p.flights.items free (state_of p.store.core);
   due = free_due passes many p.flights.items free (state_of p.store.core) p.lanes;

@@ -20,8 +20,9 @@ use Rattle.sw_laws.proofs.LawProofs.{is_always_coherent}
 use Rattle.sw_lock.specs.Entries.{ThenOwn}
 use Rattle.sw_turns.specs.Flights.{AreInFlight, Spares}
 use Rattle.sw_turns.specs.Coming.{NextHasNoRoom, IsPickedNext}
-use Rattle.sw_turns.specs.Groups.{HasSome, IsBarren, IsByPick, IsHeld, IsRefused, IsTaken, IsUnderWay, KeepsLanes, LacksRoom, Leaves, StaysOut, Stops, stop_by}
-use Rattle.sw_turns.specs.Playing.{ComesNext, IsSoFar}
+use Rattle.sw_turns.specs.Groups.{ComesBehind, HasSome, IsBarren, IsByPick, IsHeld, IsRefused, IsTaken, IsUnderWay, KeepsLanes, LacksRoom, Leaves, StaysOut, Stops, stop_by}
+use Rattle.sw_turns.specs.Playing.{ComesByPick, ComesNext, IsSoFar}
+use Rattle.sw_turns.specs.Ways.{Way, recorded_way}
 use Rattle.sw_turns.specs.declared.ends.Refusal.{Refusal}
 use Rattle.sw_turns.specs.declared.ends.Refusal.TheVariants as refusal
 use Rattle.sw_turns.specs.declared.ends.Stop.{Stop}
@@ -65,9 +66,9 @@ module _ (happened : Event) (pass : ℕ) (old new : StoreState) (has : IsStaged 
   pub adds_own : ThenOwn (λ (entry : Entry). entry.pass) pass old.staged new.staged
   adds_own = (has.entry ∷ [], staged_is, All-push (λ (entry : Entry). entry.pass ≡ pass) [] has.entry (All-nil (λ (entry : Entry). entry.pass ≡ pass)) has.is_entry.pass_is)
 
-  module _ (workers : ℕ) (below : pass < workers) (recording : Recording) (base : Kept) (history : List Entry) (lanes : List Left) (held : IsHeld workers recording base history lanes old happened) where
+  module _ (workers : ℕ) (below : pass < workers) (way : Way) (base : Kept) (history : List Entry) (lanes : List Left) (held : IsHeld workers way base history lanes old happened) where
     -- behind the history and what waits, whatever clock they will be stamped with
-    goes_on_by : (clock : ℕ) → IsSoFar workers recording base (history ++ all_stamped clock new.staged) lanes (state_of new.core)
+    goes_on_by : (clock : ℕ) → IsSoFar workers way base (history ++ all_stamped clock new.staged) lanes (state_of new.core)
     goes_on_by clock =
         let entry : Entry = has.entry in
         let is_entry : IsEntry happened pass (state_of old.core) (stamped clock entry) (state_of new.core) = record {
@@ -80,10 +81,10 @@ module _ (happened : Event) (pass : ℕ) (old new : StoreState) (has : IsStaged 
         ap (all_stamped clock) staged_is ∙ map_push (stamped clock) old.staged entry in
         let whole : history ++ all_stamped clock new.staged ≡ (history ++ all_stamped clock old.staged) ++ stamped clock entry ∷ [] =
         ap (λ (xs : List Entry). history ++ xs) waits ∙ sym (append_assoc history (all_stamped clock old.staged) (stamped clock entry ∷ [])) in
-        subst (λ (h : List Entry). IsSoFar workers recording base h lanes (state_of new.core)) (sym whole)
-        (held.next.goes_on pass recording base (history ++ all_stamped clock old.staged) (stamped clock entry) (state_of new.core) below refl (held.under_way.so_far clock) is_entry)
+        subst (λ (h : List Entry). IsSoFar workers way base h lanes (state_of new.core)) (sym whole)
+        ((held.next clock).goes_on pass (stamped clock entry) (state_of new.core) below (held.under_way.so_far clock) is_entry)
 
-    goes_on_with : length old.staged < 16 → IsGroup (after base history) new → IsUnderWay workers recording base history lanes new
+    goes_on_with : length old.staged < 16 → IsGroup (after base history) new → IsUnderWay workers way base history lanes new
     goes_on_with few group = record {
       so_far = goes_on_by;
       group = group;
@@ -123,12 +124,12 @@ module _ (old new : StoreState) (same : IsSame old new) where
   pub same_own : (pass : ℕ) → ThenOwn (λ (entry : Entry). entry.pass) pass old.staged new.staged
   same_own pass = ([], same_staged ∙ sym (append-nil old.staged), All-nil (λ (entry : Entry). entry.pass ≡ pass))
 
-  module _ (workers : ℕ) (recording : Recording) (base : Kept) (history : List Entry) where
-    pub stays_under_way : (lanes : List Left) → IsUnderWay workers recording base history lanes old → IsUnderWay workers recording base history lanes new
+  module _ (workers : ℕ) (way : Way) (base : Kept) (history : List Entry) where
+    pub stays_under_way : (lanes : List Left) → IsUnderWay workers way base history lanes old → IsUnderWay workers way base history lanes new
     stays_under_way lanes goes = record {
       so_far = λ clock.
-          subst (λ (staged : List Entry). IsSoFar workers recording base (history ++ all_stamped clock staged) lanes (state_of new.core)) (sym same_staged)
-          (subst (λ (state : State). IsSoFar workers recording base (history ++ all_stamped clock old.staged) lanes state) (sym same.state) (goes.so_far clock));
+          subst (λ (staged : List Entry). IsSoFar workers way base (history ++ all_stamped clock staged) lanes (state_of new.core)) (sym same_staged)
+          (subst (λ (state : State). IsSoFar workers way base (history ++ all_stamped clock old.staged) lanes state) (sym same.state) (goes.so_far clock));
       group = record {
         now = ap (after_entries (after base history)) same_staged ∙ goes.group.now ∙ sym same.state;
         spelled = ap (λ (staged : List Entry). spelled_all (changes_along (after base history) staged)) same_staged
@@ -139,17 +140,19 @@ module _ (old new : StoreState) (same : IsSame old new) where
     }
 
     -- the event comes next all the same
-    stays_held : (lanes : List Left) (happened : Event) → IsHeld workers recording base history lanes old happened → IsHeld workers recording base history lanes new happened
+    stays_held : (lanes : List Left) (happened : Event) → IsHeld workers way base history lanes old happened → IsHeld workers way base history lanes new happened
     stays_held lanes happened held = record {
       before = held.before;
       under_way = stays_under_way held.before held.under_way;
-      next = subst (λ (state : State). ComesNext workers recording.fetches held.before lanes state happened) (sym same.state) held.next;
+      next = λ clock.
+          subst (λ (staged : List Entry). ComesNext workers way base (history ++ all_stamped clock staged) held.before lanes (state_of new.core) happened) (sym same_staged)
+          (subst (λ (state : State). ComesNext workers way base (history ++ all_stamped clock old.staged) held.before lanes state happened) (sym same.state) (held.next clock));
     }
 
     -- the event has no room, though nothing waits
-    pub is_refused : (lanes : List Left) (happened : Event) (from needed : ℕ) → IsHeld workers recording base history lanes old happened → old.staged ≡ []
+    pub is_refused : (lanes : List Left) (happened : Event) (from needed : ℕ) → IsHeld workers way base history lanes old happened → old.staged ≡ []
         → from ≡ old.twin.journal.gate + 1 → IsTooLong (changes_of (state_of old.core) happened) old.payload old.twin needed
-        → IsRefused workers recording base history lanes new happened from needed
+        → IsRefused workers way base history lanes new happened from needed
     is_refused lanes happened from needed held none at long =
         let empty : old.payload ≡ [] =
         (let both : Some [] ≡ Some old.payload =
@@ -166,25 +169,26 @@ module _ (old new : StoreState) (same : IsSame old new) where
 -- ---- what the calls answer
 
 -- an event comes next behind what waits
-pub holds : (workers : ℕ) (recording : Recording) (base : Kept) (history : List Entry) (before lanes : List Left) (store : StoreState) (happened : Event)
-    → IsUnderWay workers recording base history before store → ComesNext workers recording.fetches before lanes (state_of store.core) happened
-    → IsHeld workers recording base history lanes store happened
-holds workers recording base history before lanes store happened way next = record { before = before; under_way = way; next = next }
+pub holds : (workers : ℕ) (way : Way) (base : Kept) (history : List Entry) (before lanes : List Left) (store : StoreState) (happened : Event)
+    → IsUnderWay workers way base history before store → ComesBehind workers way base history before lanes store happened
+    → IsHeld workers way base history lanes store happened
+holds workers way base history before lanes store happened goes next = record { before = before; under_way = goes; next = next }
 
 -- the event that comes next has joined the group
 pub joined : (happened : Event) (pass : ℕ) (old new : StoreState) → IsStaged happened pass old new → length old.staged < 16
     → ((begun : State) → IsGroup begun old → IsGroup begun new)
-    → (workers : ℕ) (recording : Recording) (base : Kept) (history : List Entry) (lanes : List Left) → pass < workers → IsHeld workers recording base history lanes old happened
-    → IsUnderWay workers recording base history lanes new
-joined happened pass old new has few group workers recording base history lanes below held =
-    goes_on_with happened pass old new has workers below recording base history lanes held few (group (after base history) held.under_way.group)
+    → (workers : ℕ) (way : Way) (base : Kept) (history : List Entry) (lanes : List Left) → pass < workers → IsHeld workers way base history lanes old happened
+    → IsUnderWay workers way base history lanes new
+joined happened pass old new has few group workers way base history lanes below held =
+    goes_on_with happened pass old new has workers below way base history lanes held few (group (after base history) held.under_way.group)
 
--- the event of what was picked comes next, of whatever recording with these fetch lines
-pub next_of : (workers : ℕ) (lines : List FetchLine) (lanes left : List Left) (host now : Hosted) (happened : Event) → host ≡ now → ComesNext workers lines lanes left (state_of host) happened
-    → (recording : Recording) → recording.fetches ≡ lines → ComesNext workers recording.fetches lanes left (state_of now) happened
-next_of workers lines lanes left host now happened same next recording gives =
-    subst (λ (all : List FetchLine). ComesNext workers all lanes left (state_of now) happened) (sym gives)
-    (subst (λ (h : Hosted). ComesNext workers lines lanes left (state_of h) happened) same next)
+-- the event of what was picked comes next behind what waits, of whatever recording with these fetch lines
+pub next_of : (workers : ℕ) (lines : List FetchLine) (lanes left : List Left) (host : Hosted) (store : StoreState) (happened : Event) → host ≡ store.core
+    → ComesByPick workers lines lanes left (state_of host) happened → (recording : Recording) (base : Kept) (history : List Entry) → recording.fetches ≡ lines
+    → ComesBehind workers (recorded_way recording) base history lanes left store happened
+next_of workers lines lanes left host store happened same next recording base history gives = λ clock.
+    subst (λ (h : Hosted). ComesNext workers (recorded_way recording) base (history ++ all_stamped clock store.staged) lanes left (state_of h) happened) same
+    (next.next (recorded_way recording) base (history ++ all_stamped clock store.staged) gives refl)
 
 -- and is that of what the pick order has next
 pub next_pick : (lines : List FetchLine) (flights : List (Option Task)) (lanes left : List Left) (host now : Hosted) (happened : Event) → host ≡ now
@@ -254,12 +258,12 @@ module _ (stopped : Stop) (why : Refusal) (is : stopped ≡ stop_by why) where
   pub stop_barren : IsBarren (stop_by why) → IsBarren stopped
   stop_barren barren = by_why IsBarren barren
 
-  module _ (workers : ℕ) (recording : Recording) (base : Kept) (history : List Entry) (flights : List (Option Task)) (store : StoreState) where
+  module _ (workers : ℕ) (way : Way) (base : Kept) (history : List Entry) (flights : List (Option Task)) (store : StoreState) where
     -- an event that leaves the lanes as they are
-    pub stop_stays : (lanes : List Left) → StaysOut workers recording base history lanes lanes store why → Stops workers recording base history lanes flights store stopped
-    stop_stays lanes stays = by_why (Stops workers recording base history lanes flights store) (each why stays)
+    pub stop_stays : (lanes : List Left) → StaysOut workers way base history lanes lanes store why → Stops workers way base history lanes flights store stopped
+    stop_stays lanes stays = by_why (Stops workers way base history lanes flights store) (each why stays)
       where
-        each : (why : Refusal) → StaysOut workers recording base history lanes lanes store why → Stops workers recording base history lanes flights store (stop_by why)
+        each : (why : Refusal) → StaysOut workers way base history lanes lanes store why → Stops workers way base history lanes flights store (stop_by why)
         each (refusal.NoRoom kept) stays = stays
         each (refusal.Full kept from needed) stays = stays
         each refusal.NoMemory stays = (lanes, stays)

@@ -14,6 +14,7 @@ use Rattle.sw_data.specs.declared.histories.Task.TheVariants as task
 use Rattle.sw_data.specs.declared.recordings.Action.{Action}
 use Rattle.sw_data.specs.declared.recordings.Call.{Call}
 use Rattle.sw_data.specs.declared.recordings.FetchLine.{FetchLine}
+use Rattle.sw_data.specs.declared.recordings.Place.{Place}
 use Rattle.sw_data.specs.declared.recordings.Recording.{Recording}
 use Rattle.sw_data.specs.declared.rows.JobRow.{JobRow}
 use Rattle.sw_data.specs.declared.storage.Kept.{Kept}
@@ -31,15 +32,16 @@ use Rattle.sw_laws.specs.Coherent.{Coherent}
 use Rattle.sw_laws.proofs.Lists.{find_passes}
 use Rattle.sw_turns.specs.Coming.{IsPickedNext}
 use Rattle.sw_core.specs.Machines.{IsEventOf}
-use Rattle.sw_turns.specs.Playing.{ComesNext, IsSoFar}
+use Rattle.sw_turns.specs.Playing.{ComesByPick, ComesNext, IsSoFar}
+use Rattle.sw_turns.specs.Ways.{HasNextByPick, IsNext, IsOne, IsOneOf, Way}
 use Rattle.sw_core.proofs.FetchLemmas.{comes_enabled}
 use Rattle.sw_turns.proofs.ReadyLemmas.{found_ready}
 use Rattle.sw_rules.specs.History.{IsStep, after, moved}
-use Rattle.sw_rules.specs.Picks.{HasLines, IsFollowing, IsNextOfLane, IsPicked, is_host_forget, next}
+use Rattle.sw_rules.specs.Picks.{HasLines, IsFollowing, IsNextOfLane, IsRecorded, is_host_forget}
 use Rattle.sw_rules.specs.Recordings.{recorded_event}
 use Rattle.sw_rules.specs.Rows.{free_handler, job_row, task_row}
 use Rattle.sw_rules.specs.State.{State, AddAll, Handler}
-use Rattle.sw_rules.specs.Step.{Step, enabled, state_after}
+use Rattle.sw_rules.specs.Step.{Step, enabled, state_after, step}
 use Rattle.sw_rules.specs.Tasks.{add_all_lines, call_or, event_of, handler_event, job_line, next_call, ready_tasks}
 use Rattle.sw_rules.specs.Told.{Outcome}
 use Rattle.sw_rules.proofs.HistoryLemmas.{EachLater-snoc, Legal-snoc, after-snoc}
@@ -173,13 +175,18 @@ free_of_lane recording before entry (who.Handler worker phase number) is = tt
 
 -- ---- one more entry
 
--- the history goes on by an entry that follows the recording, and with one worker is what the pick order has next
-one_more : (workers pass : ℕ) (recording : Recording) (base : Kept) (history : List Entry) (lanes left : List Left) (state new : State) (happened : Event) (entry : Entry)
-    → IsSoFar workers recording base history lanes state → pass < workers → IsEntry happened pass state entry new
-    → IsFollowing recording history state entry → (workers ≡ 1 → next recording history state ≡ Some happened)
-    → AreLanesOf recording (history ++ entry ∷ []) left
-    → IsSoFar workers recording base (history ++ entry ∷ []) left new
-one_more workers pass recording base history lanes left state new happened entry so_far below is_entry following is_next ours =
+-- an entry that follows the recording of a way is one of those of the way
+is_one : (forgets : Bool) (recording : Recording) (history : List Entry) (state : State) (entry : Entry) → IsFollowing recording history state entry → IsOneOf forgets recording history state entry
+is_one true recording history state entry following = following.recorded
+is_one false recording history state entry following = following
+
+-- the history goes on by an entry of its way, which with one worker is what comes next
+one_more : (workers pass : ℕ) (way : Way) (base : Kept) (history : List Entry) (lanes left : List Left) (state new : State) (happened : Event) (entry : Entry)
+    → IsSoFar workers way base history lanes state → pass < workers → IsEntry happened pass state entry new
+    → IsOne way history state entry → (workers ≡ 1 → way.next history state ≡ Some happened)
+    → AreLanesOf way.recording (history ++ entry ∷ []) left
+    → IsSoFar workers way base (history ++ entry ∷ []) left new
+one_more workers pass way base history lanes left state new happened entry so_far below is_entry one is_next ours =
     let to : moved state entry ≡ new =
     ap (state_after state) is_entry.event ∙ ap (λ (r : Option Outcome). option_map_or (λ outcome. outcome.told.state) r state) is_entry.step.1 in
     let now : moved (after base history) entry ≡ new = ap (λ (s : State). moved s entry) so_far.state_is ∙ to in
@@ -191,12 +198,12 @@ one_more workers pass recording base history lanes left state new happened entry
     } in
     record {
       legal = Legal-snoc base history entry so_far.legal (subst (λ (s : State). IsStep history s entry) (sym so_far.state_is) is_step);
-      follows = EachLater-snoc (IsFollowing recording) base history entry so_far.follows
-          (subst (λ (s : State). IsFollowing recording history s entry) (sym so_far.state_is) following);
+      follows = EachLater-snoc (IsOne way) base history entry so_far.follows
+          (subst (λ (s : State). IsOne way history s entry) (sym so_far.state_is) one);
       picked = λ alone.
-          let picked_next : IsPicked recording history state entry = is_next alone ∙ ap (λ (e : Event). Some e) (sym is_entry.event) in
-          EachLater-snoc (IsPicked recording) base history entry (so_far.picked alone)
-          (subst (λ (s : State). IsPicked recording history s entry) (sym so_far.state_is) picked_next);
+          let comes_next : IsNext way history state entry = is_next alone ∙ ap (λ (e : Event). Some e) (sym is_entry.event) in
+          EachLater-snoc (IsNext way) base history entry (so_far.picked alone)
+          (subst (λ (s : State). IsNext way history s entry) (sym so_far.state_is) comes_next);
       passes = All-push (λ row. row.pass < workers) history entry so_far.passes (omega (arith, is_entry.pass_is, below));
       lanes_are = ours;
       state_is = after-snoc base history entry so_far.legal.opens ∙ now;
@@ -204,10 +211,11 @@ one_more workers pass recording base history lanes left state new happened entry
 
 -- an action of a lane comes next
 module _ (state : State) (in_flight : List Task) (lanes : List Left) (lane at : ℕ) (taking : Action) (is : picked state in_flight lanes ≡ pick.Work (work.Action lane at)) (got : action_of lanes lane ≡ Some taking) where
-  action_goes_on : (workers pass : ℕ) (recording : Recording) (base : Kept) (history : List Entry) (entry : Entry) (new : State)
-      → pass < workers → IsSoFar workers recording base history lanes state → IsEntry (event_of_action (who.Lane lane at) taking) pass state entry new
-      → IsSoFar workers recording base (history ++ entry ∷ []) (taken lane lanes) new
-  action_goes_on workers pass recording base history entry new below so_far is_entry =
+  action_goes_on : (workers pass : ℕ) (way : Way) (base : Kept) (history : List Entry) (entry : Entry) (new : State)
+      → HasNextByPick way history state → pass < workers → IsSoFar workers way base history lanes state → IsEntry (event_of_action (who.Lane lane at) taking) pass state entry new
+      → IsSoFar workers way base (history ++ entry ∷ []) (taken lane lanes) new
+  action_goes_on workers pass way base history entry new by_pick below so_far is_entry =
+      let recording = way.recording in
       let happened : Event = event_of_action (who.Lane lane at) taking in
       let said = says recording history lanes state in_flight (pick.Work (work.Action lane at)) (sym is) so_far.lanes_are in
       let maker : entry.who ≡ who.Lane lane at = is_entry.maker ∙ who_of-event_of_action (who.Lane lane at) taking in
@@ -225,43 +233,68 @@ module _ (state : State) (in_flight : List Task) (lanes : List Left) (lane at : 
         };
         unforced = ap is_host_forget is_entry.event ∙ unforced lane at taking;
       } in
-      one_more workers pass recording base history lanes (taken lane lanes) state new happened entry so_far below is_entry following (λ alone. said.next taking got)
+      one_more workers pass way base history lanes (taken lane lanes) state new happened entry so_far below is_entry (is_one way.forgets recording history state entry following)
+      (λ alone. by_pick ∙ said.next taking got)
       (goes_on recording history lanes lane (taken lane lanes) entry at refl so_far.lanes_are maker)
 
-  action_next : (workers : ℕ) (lines : List FetchLine) → ComesNext workers lines lanes (taken lane lanes) state (event_of_action (who.Lane lane at) taking)
+  action_next : (workers : ℕ) (lines : List FetchLine) → ComesByPick workers lines lanes (taken lane lanes) state (event_of_action (who.Lane lane at) taking)
   action_next workers lines = record {
     is_enabled = picked_enabled state in_flight lanes lane at taking is got;
-    goes_on = λ pass recording base history entry new below same so_far is_entry. action_goes_on workers pass recording base history entry new below so_far is_entry;
+    next = λ way base history same by_pick. record {
+      is_enabled = picked_enabled state in_flight lanes lane at taking is got;
+      goes_on = λ pass entry new below so_far is_entry. action_goes_on workers pass way base history entry new by_pick below so_far is_entry;
+    };
   }
 
 -- the event of an action that was taken comes next
 pub acted : (workers : ℕ) (lines : List FetchLine) (state : State) (in_flight : List Task) (lanes left : List Left) (lane at : ℕ) (taking : Action) (happened : Event)
     → picked state in_flight lanes ≡ pick.Work (work.Action lane at) → action_of lanes lane ≡ Some taking → left ≡ taken lane lanes
-    → happened ≡ event_of_action (who.Lane lane at) taking → ComesNext workers lines lanes left state happened
+    → happened ≡ event_of_action (who.Lane lane at) taking → ComesByPick workers lines lanes left state happened
 acted workers lines state in_flight lanes left lane at taking happened is got moves same =
-    subst (λ (rest : List Left). ComesNext workers lines lanes rest state happened) (sym moves)
-    (subst (λ (e : Event). ComesNext workers lines lanes (taken lane lanes) state e) (sym same) (action_next state in_flight lanes lane at taking is got workers lines))
+    subst (λ (rest : List Left). ComesByPick workers lines lanes rest state happened) (sym moves)
+    (subst (λ (e : Event). ComesByPick workers lines lanes (taken lane lanes) state e) (sym same) (action_next state in_flight lanes lane at taking is got workers lines))
 
 -- the event of a ready task comes next, which with one worker is what the pick order has next
 pub performed : (workers : ℕ) (lines : List FetchLine) (state : State) (lanes : List Left) (ready : Task) (happened : Event)
     → Coherent state → list_any (is_task ready) (ready_tasks state) ≡ true → (workers ≡ 1 → picked state [] lanes ≡ pick.Work (work.Task ready))
-    → IsEventOf lines state ready happened → ComesNext workers lines lanes lanes state happened
+    → IsEventOf lines state ready happened → ComesByPick workers lines lanes lanes state happened
 performed workers lines state lanes ready happened sound waits is gives = record {
   is_enabled = comes_enabled lines state ready happened sound waits gives;
-  goes_on = λ pass recording base history entry new below same so_far is_entry.
-      let given : event_of recording state ready ≡ Some happened = gives recording same in
-      let of = of_host recording state ready happened given in
-      let free : is_lane entry.who ≡ false = ap is_lane is_entry.maker ∙ of.free in
-      let following : IsFollowing recording history state entry = record {
-        recorded = record {
-          action = free_of_lane recording history entry entry.who free;
-          lines = subst (λ (e : Event). HasLines recording state e) (sym is_entry.event) of.lines;
-        };
-        unforced = ap is_host_forget is_entry.event ∙ of.unforced;
+  next = λ way base history same by_pick. record {
+    is_enabled = comes_enabled lines state ready happened sound waits gives;
+    goes_on = λ pass entry new below so_far is_entry.
+        let recording = way.recording in
+        let given : event_of recording state ready ≡ Some happened = gives recording same in
+        let of = of_host recording state ready happened given in
+        let free : is_lane entry.who ≡ false = ap is_lane is_entry.maker ∙ of.free in
+        let following : IsFollowing recording history state entry = record {
+          recorded = record {
+            action = free_of_lane recording history entry entry.who free;
+            lines = subst (λ (e : Event). HasLines recording state e) (sym is_entry.event) of.lines;
+          };
+          unforced = ap is_host_forget is_entry.event ∙ of.unforced;
+        } in
+        one_more workers pass way base history lanes lanes state new happened entry so_far below is_entry (is_one way.forgets recording history state entry following)
+        (λ alone. by_pick ∙ says recording history lanes state [] (pick.Work (work.Task ready)) (sym (is alone)) so_far.lanes_are refl ∙ given)
+        (stays recording history lanes entry so_far.lanes_are free);
+  };
+}
+
+-- a forget of the host comes next, where that is next on a way that has such
+pub forgotten : (workers : ℕ) (way : Way) (base : Kept) (history : List Entry) (lanes : List Left) (state : State) (place : Place) → way.forgets ≡ true
+    → way.next history state ≡ Some (event.Forget who.Host place) → ComesNext workers way base history lanes lanes state (event.Forget who.Host place)
+unfolding step who_of
+forgotten workers way base history lanes state place forgets is = record {
+  is_enabled = refl;
+  goes_on = λ pass entry new below so_far is_entry.
+      let free : is_lane entry.who ≡ false = ap is_lane is_entry.maker in
+      let recorded : IsRecorded way.recording history state entry = record {
+        action = free_of_lane way.recording history entry entry.who free;
+        lines = subst (λ (e : Event). HasLines way.recording state e) (sym is_entry.event) tt;
       } in
-      one_more workers pass recording base history lanes lanes state new happened entry so_far below is_entry following
-      (λ alone. says recording history lanes state [] (pick.Work (work.Task ready)) (sym (is alone)) so_far.lanes_are refl ∙ given)
-      (stays recording history lanes entry so_far.lanes_are free);
+      one_more workers pass way base history lanes lanes state new (event.Forget who.Host place) entry so_far below is_entry
+      (subst (λ (may : Bool). IsOneOf may way.recording history state entry) (sym forgets) recorded)
+      (λ alone. is) (stays way.recording history lanes entry so_far.lanes_are free);
 }
 
 -- what was picked with nothing in flight where there is one worker
@@ -272,7 +305,7 @@ picked_alone state in_flight lanes one alone is x = subst (λ (flying : List Tas
 -- the event of a task that was picked comes next, where there is memory for it
 pub performed_on : {E : Type 0} (result : Result Event E) (workers : ℕ) (lines : List FetchLine) (state : State) (in_flight : List Task) (lanes : List Left) (ready : Task)
     → Coherent state → (workers ≡ 1 → in_flight ≡ []) → picked state in_flight lanes ≡ pick.Work (work.Task ready)
-    → IfOk result (IsEventOf lines state ready) → IfOk result (ComesNext workers lines lanes lanes state)
+    → IfOk result (IsEventOf lines state ready) → IfOk result (ComesByPick workers lines lanes lanes state)
 performed_on (Err why) workers lines state in_flight lanes ready sound alone is gives = tt
 performed_on (Ok happened) workers lines state in_flight lanes ready sound alone is gives =
     performed workers lines state lanes ready happened sound (picked_task state in_flight lanes ready is) (picked_alone state in_flight lanes ready alone is) gives

@@ -4,7 +4,6 @@ use Rattle.sw_codec.specs.Spelling.{spelled_all}
 use Rattle.sw_data.specs.declared.events.Event.{Event}
 use Rattle.sw_data.specs.declared.histories.Entry.{Entry}
 use Rattle.sw_data.specs.declared.histories.Task.{Task}
-use Rattle.sw_data.specs.declared.recordings.Recording.{Recording}
 use Rattle.sw_data.specs.declared.storage.Change.{Change}
 use Rattle.sw_data.specs.declared.storage.Kept.{Kept}
 use Rattle.sw_data.specs.Faults.{Rose}
@@ -25,11 +24,12 @@ use Rattle.sw_turns.proofs.ChangeLemmas.{kept_durable, kept_stamped, made_kept, 
 use Rattle.sw_turns.proofs.EndLemmas.{IsPlayed, ends_unmade, goes_on, played, played_front, run_on, so_far_here}
 use Rattle.sw_turns.proofs.PaceLemmas.{latest_grows, latest_leaps, stamp_at, stamped_group, stamped_later}
 use Rattle.sw_turns.proofs.SurvivalLemmas.{refused_survives, written_survives}
-use Rattle.sw_turns.specs.Ends.{Ended, GoesOn, IsRunOn}
+use Rattle.sw_turns.specs.Ends.{EndedBy, GoesOn, IsRunOn}
 use Rattle.sw_turns.specs.Groups.{IsHeld, IsUnderWay, Stops}
 use Rattle.sw_turns.specs.Playing.{ComesNext, IsSoFar}
 use Rattle.sw_turns.specs.Settling.{HasStopped, IsAnew, IsNotFull, IsOneRecord, Standing}
 use Rattle.sw_turns.specs.Surviving.{IsAtWork, Survives, kept_of, latest}
+use Rattle.sw_turns.specs.Ways.{Way}
 use Rattle.sw_turns.specs.declared.ends.DriveEnd.TheVariants as drive_end
 use Rattle.sw_turns.specs.declared.ends.Stop.{Stop}
 use Rattle.sw_turns.specs.declared.ends.Stop.TheVariants as stop
@@ -47,22 +47,22 @@ use Rattle.sw_work.specs.Hosted.{Hosted, state_of}
 -- ---- what stopped a group
 
 -- what waits is under way
-pub under_way : (workers : ℕ) (recording : Recording) (base : Kept) (history : List Entry) (lanes : List Left) (flights : List (Option Task)) (store : StoreState) (stopped : Stop)
-    → Stops workers recording base history lanes flights store stopped → (before : List Left) × IsUnderWay workers recording base history before store
-under_way workers recording base history lanes flights store stop.Whole stops = (lanes, stops)
-under_way workers recording base history lanes flights store stop.NoRoom stops = (lanes, stops)
-under_way workers recording base history lanes flights store (stop.Fetch taken fetches) stops = (lanes, stops)
-under_way workers recording base history lanes flights store stop.Idle stops = (lanes, stops.0)
-under_way workers recording base history lanes flights store stop.Done stops = (lanes, stops.0)
-under_way workers recording base history lanes flights store (stop.Stalled lane) stops = (lanes, stops.0)
-under_way workers recording base history lanes flights store (stop.Full happened from needed) stops = (stops.held.before, stops.held.under_way)
-under_way workers recording base history lanes flights store stop.NoMemory stops = stops
+pub under_way : (workers : ℕ) (way : Way) (base : Kept) (history : List Entry) (lanes : List Left) (flights : List (Option Task)) (store : StoreState) (stopped : Stop)
+    → Stops workers way base history lanes flights store stopped → (before : List Left) × IsUnderWay workers way base history before store
+under_way workers way base history lanes flights store stop.Whole stops = (lanes, stops)
+under_way workers way base history lanes flights store stop.NoRoom stops = (lanes, stops)
+under_way workers way base history lanes flights store (stop.Fetch taken fetches) stops = (lanes, stops)
+under_way workers way base history lanes flights store stop.Idle stops = (lanes, stops.0)
+under_way workers way base history lanes flights store stop.Done stops = (lanes, stops.0)
+under_way workers way base history lanes flights store (stop.Stalled lane) stops = (lanes, stops.0)
+under_way workers way base history lanes flights store (stop.Full happened from needed) stops = (stops.held.before, stops.held.under_way)
+under_way workers way base history lanes flights store stop.NoMemory stops = stops
 
 -- where it stopped idle, nothing is ready but what is in flight
-pub rests : (workers : ℕ) (recording : Recording) (base : Kept) (history : List Entry) (lanes : List Left) (flights : List (Option Task)) (store : StoreState) (stopped : Stop)
-    → Stops workers recording base history lanes flights store stopped → stopped ≡ stop.Idle → picked (state_of store.core) (in_flight flights) lanes ≡ pick.Idle
-rests workers recording base history lanes flights store stopped stops is =
-    (subst (λ (reason : Stop). Stops workers recording base history lanes flights store reason) is stops).1
+pub rests : (workers : ℕ) (way : Way) (base : Kept) (history : List Entry) (lanes : List Left) (flights : List (Option Task)) (store : StoreState) (stopped : Stop)
+    → Stops workers way base history lanes flights store stopped → stopped ≡ stop.Idle → picked (state_of store.core) (in_flight flights) lanes ≡ pick.Idle
+rests workers way base history lanes flights store stopped stops is =
+    (subst (λ (reason : Stop). Stops workers way base history lanes flights store reason) is stops).1
 
 -- where nothing waits the payload is empty
 nothing_waits : (state : State) (staged : List Entry) (payload : List ℕ) → staged ≡ [] → spelled_all (changes_along state staged) ≡ Some payload → payload ≡ []
@@ -71,49 +71,53 @@ nothing_waits state staged payload none spelled =
     cc
 
 -- want of room on the disk stops a group that has no changes to write
-is_room : (workers : ℕ) (recording : Recording) (base : Kept) (history : List Entry) (lanes : List Left) (flights : List (Option Task)) (store : StoreState) (stopped : Stop)
-    → Stops workers recording base history lanes flights store stopped → store.payload ≢ [] → IsNotFull stopped
-is_room workers recording base history lanes flights store stop.Whole stops some = tt
-is_room workers recording base history lanes flights store stop.NoRoom stops some = tt
-is_room workers recording base history lanes flights store (stop.Fetch taken fetches) stops some = tt
-is_room workers recording base history lanes flights store stop.Idle stops some = tt
-is_room workers recording base history lanes flights store stop.Done stops some = tt
-is_room workers recording base history lanes flights store (stop.Stalled lane) stops some = tt
-is_room workers recording base history lanes flights store (stop.Full happened from needed) stops some =
+is_room : (workers : ℕ) (way : Way) (base : Kept) (history : List Entry) (lanes : List Left) (flights : List (Option Task)) (store : StoreState) (stopped : Stop)
+    → Stops workers way base history lanes flights store stopped → store.payload ≢ [] → IsNotFull stopped
+is_room workers way base history lanes flights store stop.Whole stops some = tt
+is_room workers way base history lanes flights store stop.NoRoom stops some = tt
+is_room workers way base history lanes flights store (stop.Fetch taken fetches) stops some = tt
+is_room workers way base history lanes flights store stop.Idle stops some = tt
+is_room workers way base history lanes flights store stop.Done stops some = tt
+is_room workers way base history lanes flights store (stop.Stalled lane) stops some = tt
+is_room workers way base history lanes flights store (stop.Full happened from needed) stops some =
     absurd (some (nothing_waits (after base history) store.staged store.payload stops.none stops.held.under_way.group.spelled))
-is_room workers recording base history lanes flights store stop.NoMemory stops some = tt
+is_room workers way base history lanes flights store stop.NoMemory stops some = tt
 
 pub has_room : {D : Type 0} (disk : Ghosts D) (now : D) (s : Standing) (history : List Entry) (store : StoreState) → HasStopped disk now s history store → store.payload ≢ [] → IsNotFull s.stopped
 has_room disk now s history store halted some =
-    is_room s.workers s.recording s.base history s.lanes s.flights store s.stopped halted.stops some
+    is_room s.workers s.way s.base history s.lanes s.flights store s.stopped halted.stops some
 
-module _ (workers : ℕ) (recording : Recording) (base : Kept) (history : List Entry) (store next : StoreState) (clock : ℕ) (core : next.core ≡ store.core) (quiet : IsQuiet next) where
-  way_on : (lanes : List Left) → IsUnderWay workers recording base history lanes store → IsUnderWay workers recording base (history ++ all_stamped clock store.staged) lanes next
-  way_on lanes way =
+module _ (workers : ℕ) (way : Way) (base : Kept) (history : List Entry) (store next : StoreState) (clock : ℕ) (core : next.core ≡ store.core) (quiet : IsQuiet next) where
+  way_on : (lanes : List Left) → IsUnderWay workers way base history lanes store → IsUnderWay workers way base (history ++ all_stamped clock store.staged) lanes next
+  way_on lanes goes =
       let entries = history ++ all_stamped clock store.staged in
       record {
         so_far = λ other.
-            subst (λ (host : Hosted). IsSoFar workers recording base (entries ++ all_stamped other next.staged) lanes (state_of host)) (sym core)
-            (subst (λ (all : List Entry). IsSoFar workers recording base all lanes (state_of store.core))
-            (sym (ap (λ (staged : List Entry). entries ++ all_stamped other staged) quiet.staged ∙ append-nil entries)) (way.so_far clock));
+            subst (λ (host : Hosted). IsSoFar workers way base (entries ++ all_stamped other next.staged) lanes (state_of host)) (sym core)
+            (subst (λ (all : List Entry). IsSoFar workers way base all lanes (state_of store.core))
+            (sym (ap (λ (staged : List Entry). entries ++ all_stamped other staged) quiet.staged ∙ append-nil entries)) (goes.so_far clock));
         group = record {
-          now = ap (after_entries (after base entries)) quiet.staged ∙ (way.so_far clock).state_is ∙ ap state_of (sym core);
+          now = ap (after_entries (after base entries)) quiet.staged ∙ (goes.so_far clock).state_is ∙ ap state_of (sym core);
           spelled = ap (λ (staged : List Entry). spelled_all (changes_along (after base entries) staged)) quiet.staged ∙ ap (λ (bytes : List ℕ). Some bytes) (sym quiet.payload);
         };
         few = rw quiet.staged (omega arith);
         since = quiet.since;
       }
 
-  held_on : (lanes : List Left) (happened : Event) → IsHeld workers recording base history lanes store happened → IsHeld workers recording base (history ++ all_stamped clock store.staged) lanes next happened
+  held_on : (lanes : List Left) (happened : Event) → IsHeld workers way base history lanes store happened → IsHeld workers way base (history ++ all_stamped clock store.staged) lanes next happened
   held_on lanes happened held = record {
     before = held.before;
     under_way = way_on held.before held.under_way;
-    next = subst (λ (host : Hosted). ComesNext workers recording.fetches held.before lanes (state_of host) happened) (sym core) held.next;
+    next = λ other.
+        let entries = history ++ all_stamped clock store.staged in
+        subst (λ (host : Hosted). ComesNext workers way base (entries ++ all_stamped other next.staged) held.before lanes (state_of host) happened) (sym core)
+        (subst (λ (all : List Entry). ComesNext workers way base all held.before lanes (state_of store.core) happened)
+        (sym (ap (λ (staged : List Entry). entries ++ all_stamped other staged) quiet.staged ∙ append-nil entries)) (held.next clock));
   }
 
   -- what stopped a group stands once the group is written
   stops_on : (lanes : List Left) (flights : List (Option Task)) (stopped : Stop) → ((IsNotFull stopped → ⊥) → store.payload ≡ [] → next.twin ≡ store.twin)
-      → Stops workers recording base history lanes flights store stopped → Stops workers recording base (history ++ all_stamped clock store.staged) lanes flights next stopped
+      → Stops workers way base history lanes flights store stopped → Stops workers way base (history ++ all_stamped clock store.staged) lanes flights next stopped
   stops_on lanes flights stop.Whole same stops = way_on lanes stops
   stops_on lanes flights stop.NoRoom same stops = way_on lanes stops
   stops_on lanes flights (stop.Fetch taken fetches) same stops = way_on lanes stops
@@ -146,9 +150,9 @@ tended_alike kept store next mark gate limit tended =
 -- ---- a group is written
 
 -- the end of a run whose disk refused these events
-abbrev HasFailed : {D : Type 0} → Ghosts D → (start now : D) → ℕ → Recording → Kept → (history refused : List Entry) → Type 0
-HasFailed disk start now workers recording base history refused =
-    IsRunOn disk start now workers recording base history refused (λ entries state. GoesOn workers recording base entries refused) × Rose (disk.faults start) (disk.faults now)
+abbrev HasFailed : {D : Type 0} → Ghosts D → (start now : D) → ℕ → Way → Kept → (history refused : List Entry) → Type 0
+HasFailed disk start now workers way base history refused =
+    IsRunOn disk start now workers way base history refused (λ entries state. GoesOn workers way base entries refused) × Rose (disk.faults start) (disk.faults now)
 
 -- what a call makes of a store and a disk that has written what waited
 pub record HasWritten {D : Type 0} (disk : Ghosts D) (old new : D) (store next : StoreState) : Type 0 where
@@ -168,8 +172,8 @@ pub record HasWritten {D : Type 0} (disk : Ghosts D) (old new : D) (store next :
 
 module _ {D : Type 0} (disk : Ghosts D) (old new : D) (s : Standing) (history : List Entry) (store : StoreState)
     (halted : HasStopped disk old s history store) where
-  waiting : (before : List Left) × IsUnderWay s.workers s.recording s.base history before store
-  waiting = under_way s.workers s.recording s.base history s.lanes s.flights store s.stopped halted.stops
+  waiting : (before : List Left) × IsUnderWay s.workers s.way s.base history before store
+  waiting = under_way s.workers s.way s.base history s.lanes s.flights store s.stopped halted.stops
 
   is_spelled : spelled_all (changes_along (after s.base history) store.staged) ≡ Some store.payload
   is_spelled = waiting.1.group.spelled
@@ -196,18 +200,18 @@ module _ {D : Type 0} (disk : Ghosts D) (old new : D) (s : Standing) (history : 
     -- the disk refused it
     pub ends_refused : (refused : Vec Entry Global) → refused.items ≡ all_stamped (disk.clock new) store.staged → Rose (disk.faults old) (disk.faults new) → disk.clock old ≤ disk.clock new
         → ((kept : Kept) (all : List Change) → spelled_all all ≡ Some store.payload → KeepsNow store.twin kept disk old → LeavesEither disk old new kept (kept_after kept all))
-        → Ended disk start new s.workers s.recording s.base history (drive_end.DiskFault refused)
+        → EndedBy disk start new s.workers s.way s.base history (drive_end.DiskFault refused)
     ends_refused refused is rose later any_moment =
         let entries = all_stamped (disk.clock new) store.staged in
-        let whole = played s.workers s.recording s.base (history ++ entries) waiting.0 (state_of store.core) (waiting.1.so_far (disk.clock new)) in
+        let whole = played s.workers s.way s.base (history ++ entries) waiting.0 (state_of store.core) (waiting.1.so_far (disk.clock new)) in
         let run = any_moment (kept_of s.base history) (changes_along (after s.base history) store.staged) is_spelled halted.keeps in
-        subst (λ (all : List Entry). HasFailed disk start new s.workers s.recording s.base history all) (sym is) (
-          run_on s.workers s.recording s.base disk start new history entries (λ front state. GoesOn s.workers s.recording s.base front entries) (played_front s.workers s.recording s.base history entries halted.opens whole)
+        subst (λ (all : List Entry). HasFailed disk start new s.workers s.way s.base history all) (sym is) (
+          run_on s.workers s.way s.base disk start new history entries (λ front state. GoesOn s.workers s.way s.base front entries) (played_front s.workers s.way s.base history entries halted.opens whole)
               (stamped_later (disk.clock start) (disk.clock old) (disk.clock new) history later work.stamped.0, work.stamped.1) work.opened
               (told_some (disk.seen start) (λ image. Survives disk start new s.base history entries)
               (λ image at. let seen = told_old image at in
               refused_survives disk start old new s.base history entries (survives_at image at) (run_at image seen.0 seen.1 run) work.clock work.calls work.stamped.0))
-              (goes_on s.workers s.recording s.base history entries whole),
+              (goes_on s.workers s.way s.base history entries whole),
           λ below. omega (arith, work.faults, rose below),
         )
 
@@ -266,7 +270,7 @@ module _ {D : Type 0} (disk : Ghosts D) (old new : D) (s : Standing) (history : 
   pub stopped_on : (next : StoreState) → HasWritten disk old new store next → HasStopped disk new s (history ++ all_stamped (disk.clock new) store.staged) next
   stopped_on next wrote = record {
     opens = opens_more s.base history (all_stamped (disk.clock new) store.staged) halted.opens;
-    stops = stops_on s.workers s.recording s.base history store next (disk.clock new) wrote.core wrote.quiet s.lanes s.flights s.stopped (λ full empty. (wrote.nothing empty).1) halted.stops;
+    stops = stops_on s.workers s.way s.base history store next (disk.clock new) wrote.core wrote.quiet s.lanes s.flights s.stopped (λ full empty. (wrote.nothing empty).1) halted.stops;
     keeps =
         subst (λ (kept : Kept). KeepsNow next.twin kept disk new) kept_is
         (wrote.keeps (kept_of s.base history) (changes_along (after s.base history) store.staged) is_spelled halted.keeps);
@@ -300,14 +304,14 @@ pub record HasTended {D : Type 0} (disk : Ghosts D) (old new : D) (store next : 
 
 module _ {D : Type 0} (disk : Ghosts D) (old new : D) (s : Standing) (history : List Entry) (store : StoreState)
     (halted : HasStopped disk old s history store) (none : store.staged ≡ []) where
-  gone : (before : List Left) × IsUnderWay s.workers s.recording s.base history before store
-  gone = under_way s.workers s.recording s.base history s.lanes s.flights store s.stopped halted.stops
+  gone : (before : List Left) × IsUnderWay s.workers s.way s.base history before store
+  gone = under_way s.workers s.way s.base history s.lanes s.flights store s.stopped halted.stops
 
-  so_far : IsSoFar s.workers s.recording s.base history gone.0 (state_of store.core)
-  so_far = so_far_here s.workers s.recording s.base history gone.0 store gone.1 none
+  so_far : IsSoFar s.workers s.way s.base history gone.0 (state_of store.core)
+  so_far = so_far_here s.workers s.way s.base history gone.0 store gone.1 none
 
-  is_played : IsPlayed s.workers s.recording s.base history
-  is_played = played s.workers s.recording s.base history gone.0 (state_of store.core) so_far
+  is_played : IsPlayed s.workers s.way s.base history
+  is_played = played s.workers s.way s.base history gone.0 (state_of store.core) so_far
 
   is_durable : kept_of s.base history ≡ durable (state_of store.core)
   is_durable = kept_durable s.base history so_far.legal ∙ ap durable so_far.state_is
@@ -327,17 +331,17 @@ module _ {D : Type 0} (disk : Ghosts D) (old new : D) (s : Standing) (history : 
   stopped_still next room tended = record {
     opens = halted.opens;
     stops =
-        subst (λ (entries : List Entry). Stops s.workers s.recording s.base entries s.lanes s.flights next s.stopped)
+        subst (λ (entries : List Entry). Stops s.workers s.way s.base entries s.lanes s.flights next s.stopped)
         (ap (λ (staged : List Entry). history ++ all_stamped 0 staged) none ∙ append-nil history)
-        (stops_on s.workers s.recording s.base history store next 0 tended.core tended.quiet s.lanes s.flights s.stopped (λ full empty. absurd (full room)) halted.stops);
+        (stops_on s.workers s.way s.base history store next 0 tended.core tended.quiet s.lanes s.flights s.stopped (λ full empty. absurd (full room)) halted.stops);
     keeps = subst (λ (kept : Kept). KeepsNow next.twin kept disk new) (sym is_durable) (tended.keeps keeps_durable);
   }
 
   module _ (start : D) (work : IsAtWork disk start old s.base history store) where
     -- there was no memory
-    pub ends_untended : new ≡ old → Ended disk start new s.workers s.recording s.base history drive_end.NoMemory
+    pub ends_untended : new ≡ old → EndedBy disk start new s.workers s.way s.base history drive_end.NoMemory
     ends_untended same =
-        subst (λ (now : D). Ended disk start now s.workers s.recording s.base history drive_end.NoMemory) (sym same) (ends_unmade disk start old s.workers s.recording s.base history store work is_played)
+        subst (λ (now : D). EndedBy disk start now s.workers s.way s.base history drive_end.NoMemory) (sym same) (ends_unmade disk start old s.workers s.way s.base history store work is_played)
 
     module _ (later : disk.clock old ≤ disk.clock new)
         (any_moment : KeepsNow store.twin (durable (state_of store.core)) disk old → ForTold (disk.seen old) (λ image. LeavesOnly disk old new (HasKept (durable (state_of store.core))))) where
@@ -355,11 +359,11 @@ module _ {D : Type 0} (disk : Ghosts D) (old new : D) (s : Standing) (history : 
           work.clock work.calls work.stamped.0)
 
       -- the disk refused it
-      pub ends_spoilt : (refused : Vec Entry Global) → refused.items ≡ [] → Rose (disk.faults old) (disk.faults new) → Ended disk start new s.workers s.recording s.base history (drive_end.DiskFault refused)
+      pub ends_spoilt : (refused : Vec Entry Global) → refused.items ≡ [] → Rose (disk.faults old) (disk.faults new) → EndedBy disk start new s.workers s.way s.base history (drive_end.DiskFault refused)
       ends_spoilt refused is rose =
-          subst (λ (all : List Entry). HasFailed disk start new s.workers s.recording s.base history all) (sym is) (
-            run_on s.workers s.recording s.base disk start new history [] (λ front state. GoesOn s.workers s.recording s.base front []) is_played stamps_on work.opened survives_on
-                (goes_on s.workers s.recording s.base history [] (subst (λ (entries : List Entry). IsPlayed s.workers s.recording s.base entries) (sym (append-nil history)) is_played)),
+          subst (λ (all : List Entry). HasFailed disk start new s.workers s.way s.base history all) (sym is) (
+            run_on s.workers s.way s.base disk start new history [] (λ front state. GoesOn s.workers s.way s.base front []) is_played stamps_on work.opened survives_on
+                (goes_on s.workers s.way s.base history [] (subst (λ (entries : List Entry). IsPlayed s.workers s.way s.base entries) (sym (append-nil history)) is_played)),
             λ below. omega (arith, work.faults, rose below),
           )
 

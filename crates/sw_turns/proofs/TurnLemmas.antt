@@ -38,6 +38,7 @@ use Rattle.sw_turns.specs.Groups.{Begins, HasSome, IsBarren, IsUnderWay, KeepsLa
 use Rattle.sw_turns.specs.Settling.{HasStopped, IsWritten, Standing}
 use Rattle.sw_turns.specs.Surviving.{IsAtWork, kept_of}
 use Rattle.sw_turns.specs.Turns.{HadNoRoom, HasPicked, HasTurned, IsAtRest, IsGoing, IsLanding, IsTurn, standing_of}
+use Rattle.sw_turns.specs.Ways.{Way, recorded_way}
 use Rattle.sw_turns.specs.declared.ends.DriveEnd.{DriveEnd}
 use Rattle.sw_turns.specs.declared.ends.DriveEnd.TheVariants as drive_end
 use Rattle.sw_turns.specs.declared.ends.Stop.{Stop}
@@ -49,15 +50,15 @@ use Rattle.sw_work.specs.Hosted.{Hosted, state_of}
 
 -- ---- what is under way
 
-module _ (workers : ℕ) (recording : Recording) (base : Kept) (history : List Entry) (lanes : List Left) (store : StoreState)
-    (way : IsUnderWay workers recording base history lanes store) (none : store.staged ≡ []) where
+module _ (workers : ℕ) (way : Way) (base : Kept) (history : List Entry) (lanes : List Left) (store : StoreState)
+    (goes : IsUnderWay workers way base history lanes store) (none : store.staged ≡ []) where
   pub sound : Coherent (state_of store.core)
   sound =
-      let so_far = so_far_here workers recording base history lanes store way none in
+      let so_far = so_far_here workers way base history lanes store goes none in
       subst Coherent so_far.state_is (after-coherent base history so_far.legal.made)
 
   pub opens : Opens base history
-  opens = (so_far_here workers recording base history lanes store way none).legal.opens
+  opens = (so_far_here workers way base history lanes store goes none).legal.opens
 
 -- ---- room for a record
 
@@ -105,7 +106,7 @@ tended_roomy kept store next same mark tended =
 
 -- a group has stopped
 pub begun : {D : Type 0} (disk : Ghosts D) (now : D) (s : Standing) (history entries : List Entry) (was store : StoreState) → entries ≡ history → IsSameTwin was.twin store.twin
-    → Opens s.base history → KeepsNow was.twin (kept_of s.base history) disk now → Stops s.workers s.recording s.base history s.lanes s.flights store s.stopped → HasStopped disk now s entries store
+    → Opens s.base history → KeepsNow was.twin (kept_of s.base history) disk now → Stops s.workers s.way s.base history s.lanes s.flights store s.stopped → HasStopped disk now s entries store
 begun disk now s history entries was store is same opened keeps stops =
     subst (λ (all : List Entry). HasStopped disk now s all store) (sym is)
     (record {
@@ -131,14 +132,14 @@ flights_are before flights count = with_items_is before.flights flights (count �
 module _ {D : Type 0} (disk : Ghosts D) (start now : D) (recording : Recording) (base : Kept) (before : Progress) (entries : Vec Entry Global) (lanes : List Left) (store : StoreState)
     (flights : List (Option Task)) (stopped : Stop) (going : IsGoing disk start now recording base before) (same : entries.items ≡ before.history.items)
     (count : length flights ≡ length before.flights.items) (twin : IsSameTwin before.store.twin store.twin)
-    (goes_on : (recording : Recording) (base : Kept) (history : List Entry) → recording.fetches ≡ before.net → IsUnderWay (length before.flights.items) recording base history before.lanes before.store
-    → Stops (length before.flights.items) recording base history lanes flights store stopped) where
+    (goes_on : (recording : Recording) (base : Kept) (history : List Entry) → recording.fetches ≡ before.net → IsUnderWay (length before.flights.items) (recorded_way recording) base history before.lanes before.store
+    → Stops (length before.flights.items) (recorded_way recording) base history lanes flights store stopped) where
   pub halted : HasStopped disk now (standing_of recording base (begun_host before entries lanes store flights) stopped) entries.items store
   halted =
       begun disk now (standing_of recording base (begun_host before entries lanes store flights) stopped) before.history.items entries.items before.store store same twin
-      (opens (length before.flights.items) recording base before.history.items before.lanes before.store going.under_way going.quiet.staged) going.at_work.keeps
-      (subst (λ (all : List (Option Task)). Stops (length all) recording base before.history.items lanes all store stopped) (sym (flights_are before flights count))
-      (subst (λ (workers : ℕ). Stops workers recording base before.history.items lanes flights store stopped) (sym count)
+      (opens (length before.flights.items) (recorded_way recording) base before.history.items before.lanes before.store going.under_way going.quiet.staged) going.at_work.keeps
+      (subst (λ (all : List (Option Task)). Stops (length all) (recorded_way recording) base before.history.items lanes all store stopped) (sym (flights_are before flights count))
+      (subst (λ (workers : ℕ). Stops workers (recorded_way recording) base before.history.items lanes flights store stopped) (sym count)
       (goes_on recording base before.history.items going.lines going.under_way)))
 
   pub working : IsAtWork disk start now base entries.items store
@@ -155,8 +156,8 @@ module _ {D : Type 0} (disk : Ghosts D) (start now : D) (recording : Recording) 
       let workers = length before.flights.items in
       let history = before.history.items in
       subst (λ (state : State). IsGroup state store)
-      (so_far_here workers recording base history before.lanes before.store going.under_way going.quiet.staged).state_is
-      (under_way workers recording base history lanes flights store stopped (goes_on recording base history going.lines going.under_way)).1.group
+      (so_far_here workers (recorded_way recording) base history before.lanes before.store going.under_way going.quiet.staged).state_is
+      (under_way workers (recorded_way recording) base history lanes flights store stopped (goes_on recording base history going.lines going.under_way)).1.group
 
 -- no turn comes to an end for want of turns
 pub over_kept : (stopped : Stop) (some : Bool) → IfErr (over_by stopped some) IsKept
@@ -192,8 +193,11 @@ module _ {D : Type 0} (disk : Ghosts D) (start now : D) (recording : Recording) 
   abbrev workers : ℕ
   workers = length p.flights.items
 
+  abbrev way : Way
+  way = recorded_way recording
+
   -- where nothing waits, what was refused ends the run
-  pub turned_barren : (stopped : Stop) (some : Bool) → IsBarren stopped → p.store.staged ≡ [] → Stops workers recording base p.history.items p.lanes p.flights.items p.store stopped
+  pub turned_barren : (stopped : Stop) (some : Bool) → IsBarren stopped → p.store.staged ≡ [] → Stops workers way base p.history.items p.lanes p.flights.items p.store stopped
       → HasTurned disk start now recording base p (over_by stopped some)
   turned_barren stop.Whole some barren none stops = absurd barren
   turned_barren stop.NoRoom some barren none stops = absurd barren
@@ -202,20 +206,20 @@ module _ {D : Type 0} (disk : Ghosts D) (start now : D) (recording : Recording) 
   turned_barren stop.Done some barren none stops = absurd barren
   turned_barren (stop.Stalled lane) some barren none stops = absurd barren
   turned_barren (stop.Full happened from needed) some barren none stops =
-      let so_far = so_far_here workers recording base p.history.items stops.held.before p.store stops.held.under_way none in
-      (ends_full disk start now workers recording base p.history.items p.store work p.lanes happened from needed stops, so_far.state_is)
+      let so_far = so_far_here workers way base p.history.items stops.held.before p.store stops.held.under_way none in
+      (ends_full disk start now workers way base p.history.items p.store work p.lanes happened from needed stops, so_far.state_is)
   turned_barren stop.NoMemory some barren none stops = (
-    ends_unmade disk start now workers recording base p.history.items p.store work
-        (played workers recording base p.history.items stops.0 (state_of p.store.core) (so_far_here workers recording base p.history.items stops.0 p.store stops.1 none)),
+    ends_unmade disk start now workers way base p.history.items p.store work
+        (played workers way base p.history.items stops.0 (state_of p.store.core) (so_far_here workers way base p.history.items stops.0 p.store stops.1 none)),
     tt,
   )
 
   module _ (lines : recording.fetches ≡ p.net) (quiet : IsQuiet p.store) (tended : IsTended (kept_of base p.history.items) p.store) (flights : AreInFlight (state_of p.store.core) p.flights.items) (due : IsDue (state_of p.store.core) p.lanes p.flights.items) where
-    pub going : IsUnderWay workers recording base p.history.items p.lanes p.store → IsGoing disk start now recording base p
-    going way = record { lines = lines; under_way = way; quiet = quiet; at_work = work; tended = tended; flights = flights; due = due }
+    pub going : IsUnderWay workers way base p.history.items p.lanes p.store → IsGoing disk start now recording base p
+    going goes = record { lines = lines; under_way = goes; quiet = quiet; at_work = work; tended = tended; flights = flights; due = due }
 
     -- the run goes on, or has ended
-    pub turned : (stopped : Stop) (some : Bool) → Stops workers recording base p.history.items p.lanes p.flights.items p.store stopped
+    pub turned : (stopped : Stop) (some : Bool) → Stops workers way base p.history.items p.lanes p.flights.items p.store stopped
         → HasTurned disk start now recording base p (over_by stopped some)
     turned stop.Whole some stops = going stops
     turned stop.NoRoom some stops = going stops
@@ -223,11 +227,11 @@ module _ {D : Type 0} (disk : Ghosts D) (start now : D) (recording : Recording) 
     turned stop.Idle true stops = going stops.0
     turned stop.Idle false stops = going stops.0
     turned stop.Done some stops =
-        let so_far = so_far_here workers recording base p.history.items p.lanes p.store stops.0 quiet.staged in
-        (ends_done disk start now workers recording base p.history.items p.store work p.lanes (in_flight p.flights.items) so_far stops.1, so_far.state_is)
+        let so_far = so_far_here workers way base p.history.items p.lanes p.store stops.0 quiet.staged in
+        (ends_done disk start now workers way base p.history.items p.store work p.lanes (in_flight p.flights.items) so_far stops.1, so_far.state_is)
     turned (stop.Stalled lane) some stops =
-        let so_far = so_far_here workers recording base p.history.items p.lanes p.store stops.0 quiet.staged in
-        (ends_stalled disk start now workers recording base p.history.items p.store work p.lanes (in_flight p.flights.items) so_far lane stops.1, so_far.state_is)
+        let so_far = so_far_here workers way base p.history.items p.lanes p.store stops.0 quiet.staged in
+        (ends_stalled disk start now workers way base p.history.items p.store work p.lanes (in_flight p.flights.items) so_far lane stops.1, so_far.state_is)
     turned (stop.Full happened from needed) some stops = turned_barren (stop.Full happened from needed) some tt quiet.staged stops
     turned stop.NoMemory some stops = turned_barren stop.NoMemory some tt quiet.staged stops
 

@@ -5,7 +5,6 @@ use Rattle.sw_data.specs.declared.events.Event.{Event}
 use Rattle.sw_data.specs.declared.histories.Entry.{Entry}
 use Rattle.sw_data.specs.declared.histories.Task.{Task}
 use Rattle.sw_data.specs.declared.recordings.FetchLine.{FetchLine}
-use Rattle.sw_data.specs.declared.recordings.Recording.{Recording}
 use Rattle.sw_data.specs.declared.storage.Kept.{Kept}
 use Rattle.sw_lane.specs.Left.{Left}
 use Rattle.sw_lane.specs.Picked.{in_flight, picked}
@@ -15,6 +14,7 @@ use Rattle.sw_turns.specs.Coming.{NextHasNoRoom}
 use Rattle.sw_turns.specs.Flights.{Flies}
 use Rattle.sw_core.specs.Machines.{IsEventOf}
 use Rattle.sw_turns.specs.Playing.{ComesNext, IsSoFar}
+use Rattle.sw_turns.specs.Ways.{Way}
 use Rattle.sw_turns.specs.declared.ends.DriveEnd.{DriveEnd}
 use Rattle.sw_turns.specs.declared.ends.DriveEnd.TheVariants as drive_end
 use Rattle.sw_turns.specs.declared.ends.Turn.{Turn}
@@ -32,58 +32,63 @@ use Rattle.sw_work.specs.Hosted.{state_of}
 
 -- own: the history goes on by the entries that wait, whatever clock they will be stamped with; they are no more than sixteen,
 -- and what waits to be written are their changes
-pub record IsUnderWay (workers : ℕ) (recording : Recording) (base : Kept) (history : List Entry) (lanes : List Left) (store : StoreState) : Type 0 where
-  pub so_far : (clock : ℕ) → IsSoFar workers recording base (history ++ all_stamped clock store.staged) lanes (state_of store.core)
+pub record IsUnderWay (workers : ℕ) (way : Way) (base : Kept) (history : List Entry) (lanes : List Left) (store : StoreState) : Type 0 where
+  pub so_far : (clock : ℕ) → IsSoFar workers way base (history ++ all_stamped clock store.staged) lanes (state_of store.core)
   pub group : IsGroup (after base history) store
   pub few : length store.staged ≤ 16
   pub since : store.since ≡ None
 
+-- own: an event comes next behind a history and what waits, whatever clock that will be stamped with
+abbrev pub ComesBehind : ℕ → Way → Kept → List Entry → (before lanes : List Left) → StoreState → Event → Type 0
+ComesBehind workers way base history before lanes store happened =
+    (clock : ℕ) → ComesNext workers way base (history ++ all_stamped clock store.staged) before lanes (state_of store.core) happened
+
 -- own: an event comes next behind what waits
-pub record IsHeld (workers : ℕ) (recording : Recording) (base : Kept) (history : List Entry) (lanes : List Left) (store : StoreState) (happened : Event) : Type 0 where
+pub record IsHeld (workers : ℕ) (way : Way) (base : Kept) (history : List Entry) (lanes : List Left) (store : StoreState) (happened : Event) : Type 0 where
   pub before : List Left
-  pub under_way : IsUnderWay workers recording base history before store
-  pub next : ComesNext workers recording.fetches before lanes (state_of store.core) happened
+  pub under_way : IsUnderWay workers way base history before store
+  pub next : ComesBehind workers way base history before lanes store happened
 
 -- own: an event comes next that has no room, though nothing waits
-pub record IsRefused (workers : ℕ) (recording : Recording) (base : Kept) (history : List Entry) (lanes : List Left) (store : StoreState) (happened : Event) (from needed : ℕ) : Type 0 where
-  pub held : IsHeld workers recording base history lanes store happened
+pub record IsRefused (workers : ℕ) (way : Way) (base : Kept) (history : List Entry) (lanes : List Left) (store : StoreState) (happened : Event) (from needed : ℕ) : Type 0 where
+  pub held : IsHeld workers way base history lanes store happened
   pub none : store.staged ≡ []
   pub offset : from ≡ store.twin.journal.gate + 1
   pub long : IsTooLong (changes_of (state_of store.core) happened) [] store.twin needed
 
 -- own: what stands where no further event joins a group, while its events wait or once they are written
-abbrev pub Stops : ℕ → Recording → Kept → List Entry → List Left → List (Option Task) → StoreState → Stop → Type 0
-Stops workers recording base history lanes flights store stop.Whole =
-    IsUnderWay workers recording base history lanes store
-Stops workers recording base history lanes flights store stop.NoRoom =
-    IsUnderWay workers recording base history lanes store
-Stops workers recording base history lanes flights store (stop.Fetch taken fetches) =
-    IsUnderWay workers recording base history lanes store
-Stops workers recording base history lanes flights store stop.Idle =
-    IsUnderWay workers recording base history lanes store
+abbrev pub Stops : ℕ → Way → Kept → List Entry → List Left → List (Option Task) → StoreState → Stop → Type 0
+Stops workers way base history lanes flights store stop.Whole =
+    IsUnderWay workers way base history lanes store
+Stops workers way base history lanes flights store stop.NoRoom =
+    IsUnderWay workers way base history lanes store
+Stops workers way base history lanes flights store (stop.Fetch taken fetches) =
+    IsUnderWay workers way base history lanes store
+Stops workers way base history lanes flights store stop.Idle =
+    IsUnderWay workers way base history lanes store
     × (picked (state_of store.core) (in_flight flights) lanes ≡ pick.Idle)
-Stops workers recording base history lanes flights store stop.Done =
-    IsUnderWay workers recording base history lanes store
+Stops workers way base history lanes flights store stop.Done =
+    IsUnderWay workers way base history lanes store
     × (picked (state_of store.core) (in_flight flights) lanes ≡ pick.Done)
-Stops workers recording base history lanes flights store (stop.Stalled lane) =
-    IsUnderWay workers recording base history lanes store
+Stops workers way base history lanes flights store (stop.Stalled lane) =
+    IsUnderWay workers way base history lanes store
     × (picked (state_of store.core) (in_flight flights) lanes ≡ pick.Stalled lane)
-Stops workers recording base history lanes flights store (stop.Full happened from needed) =
-    IsRefused workers recording base history lanes store happened from needed
-Stops workers recording base history lanes flights store stop.NoMemory =
-    (before : List Left) × IsUnderWay workers recording base history before store
+Stops workers way base history lanes flights store (stop.Full happened from needed) =
+    IsRefused workers way base history lanes store happened from needed
+Stops workers way base history lanes flights store stop.NoMemory =
+    (before : List Left) × IsUnderWay workers way base history before store
 
 -- own: a group that an event did not join is as it was before
-abbrev pub StaysOut : ℕ → Recording → Kept → List Entry → (before lanes : List Left) → StoreState → Refusal → Type 0
-StaysOut workers recording base history before lanes store (refusal.Full happened from needed) =
-    IsRefused workers recording base history lanes store happened from needed
-StaysOut workers recording base history before lanes store _ = IsUnderWay workers recording base history before store
+abbrev pub StaysOut : ℕ → Way → Kept → List Entry → (before lanes : List Left) → StoreState → Refusal → Type 0
+StaysOut workers way base history before lanes store (refusal.Full happened from needed) =
+    IsRefused workers way base history lanes store happened from needed
+StaysOut workers way base history before lanes store _ = IsUnderWay workers way base history before store
 
 -- own: an event that leaves this of the lanes has joined a group, or the group is as it was before
-abbrev pub HasJoined : {T : Type 0} → ℕ → Recording → Kept → List Entry → (before lanes : List Left) → StoreState → Result T Refusal → Type 0
-HasJoined workers recording base history before lanes store (Ok value) = IsUnderWay workers recording base history lanes store
-HasJoined workers recording base history before lanes store (Err why) =
-    StaysOut workers recording base history before lanes store why
+abbrev pub HasJoined : {T : Type 0} → ℕ → Way → Kept → List Entry → (before lanes : List Left) → StoreState → Result T Refusal → Type 0
+HasJoined workers way base history before lanes store (Ok value) = IsUnderWay workers way base history lanes store
+HasJoined workers way base history before lanes store (Err why) =
+    StaysOut workers way base history before lanes store why
 
 -- own: why a group stops by an event that doesn't join it
 abbrev pub stop_by : Refusal → Stop
@@ -92,10 +97,10 @@ stop_by (refusal.Full happened from needed) = stop.Full happened from needed
 stop_by refusal.NoMemory = stop.NoMemory
 
 -- own: what was picked has joined a group, or none does any more
-abbrev pub HasEntered : {T : Type 0} → ℕ → Recording → Kept → List Entry → List Left → List (Option Task) → StoreState → Result T Stop → Type 0
-HasEntered workers recording base history lanes flights store (Ok value) = IsUnderWay workers recording base history lanes store
-HasEntered workers recording base history lanes flights store (Err stopped) =
-    Stops workers recording base history lanes flights store stopped
+abbrev pub HasEntered : {T : Type 0} → ℕ → Way → Kept → List Entry → List Left → List (Option Task) → StoreState → Result T Stop → Type 0
+HasEntered workers way base history lanes flights store (Ok value) = IsUnderWay workers way base history lanes store
+HasEntered workers way base history lanes flights store (Err stopped) =
+    Stops workers way base history lanes flights store stopped
 
 -- own: the pass takes up the task for which a group stopped, and else nothing changes in what passes have taken up
 abbrev pub IsTaken : ℕ → (old new : List (Option Task)) → Stop → Type 0

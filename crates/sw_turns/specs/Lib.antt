@@ -7,3 +7,4 @@ pub mod Playing
 pub mod Settling
 pub mod Surviving
 pub mod Turns
+pub mod Ways

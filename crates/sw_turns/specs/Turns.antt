@@ -23,6 +23,7 @@ use Rattle.sw_turns.specs.Groups.{IsUnderWay}
 use Rattle.sw_core.specs.Machines.{IsEventOf}
 use Rattle.sw_turns.specs.Settling.{Standing}
 use Rattle.sw_turns.specs.Surviving.{IsAtWork, kept_of}
+use Rattle.sw_turns.specs.Ways.{recorded_way}
 use Rattle.sw_turns.specs.declared.ends.DriveEnd.{DriveEnd}
 use Rattle.sw_turns.specs.declared.ends.DriveEnd.TheVariants as drive_end
 use Rattle.sw_turns.specs.declared.ends.Stop.{Stop}
@@ -34,7 +35,7 @@ use Rattle.sw_work.specs.Hosted.{state_of}
 -- own: a recording is under way: nothing waits, the disk keeps what the history makes of the base, and so it stays after a crash
 pub record IsGoing {D : Type 0} (disk : Ghosts D) (start now : D) (recording : Recording) (base : Kept) (p : Progress) : Type 0 where
   pub lines : recording.fetches ≡ p.net
-  pub under_way : IsUnderWay (length p.flights.items) recording base p.history.items p.lanes p.store
+  pub under_way : IsUnderWay (length p.flights.items) (recorded_way recording) base p.history.items p.lanes p.store
   pub quiet : IsQuiet p.store
   pub at_work : IsAtWork disk start now base p.history.items p.store
   pub tended : IsTended (kept_of base p.history.items) p.store
@@ -45,7 +46,7 @@ pub record IsGoing {D : Type 0} (disk : Ghosts D) (start now : D) (recording : R
 abbrev pub standing_of : Recording → Kept → Progress → Stop → Standing
 standing_of recording base p stopped = record {
   workers = length p.flights.items;
-  recording = recording;
+  way = recorded_way recording;
   base = base;
   lanes = p.lanes;
   flights = p.flights.items;

@@ -37,9 +37,9 @@ pub enum Turn {
     Idle,
 }
 
-// Why an event joins no group.
+/// Why an event joins no group.
 #[derive(Drop)]
-pub(crate) enum Refusal {
+pub enum Refusal {
     /// With its changes the record of the group would pass the limit.
     NoRoom(Event),
     /// Nothing waits, and the record of its changes would pass the limit.

@@ -18,8 +18,8 @@ ghost use Rattle.sw_store.specs.Groups.{IsTooLong};
 ghost use Rattle.sw_store.specs.Stores.{IsSameTwin};
 ghost use Rattle.sw_turns.specs.Coming.{AreOfTurn, GrowsByPick};
 ghost use Rattle.sw_turns.specs.Flights.{AreInFlight, Flies, IsDue, Spares};
-ghost use Rattle.sw_turns.specs.Groups.{Begins, HasEntered, HasJoined, HasSome, IsBarren, IsByPick, IsTaken, IsUnderWay, KeepsLanes, LacksRoom, Leaves, Stops, stop_by};
-ghost use Rattle.sw_turns.specs.Playing.{ComesNext};
+ghost use Rattle.sw_turns.specs.Groups.{Begins, ComesBehind, HasEntered, HasJoined, HasSome, IsBarren, IsByPick, IsTaken, IsUnderWay, KeepsLanes, LacksRoom, Leaves, Stops, stop_by};
+ghost use Rattle.sw_turns.specs.Ways.{Way, recorded_way};
 ghost use Rattle.sw_turns.specs.declared.ends.Refusal.TheVariants as refused;
 ghost use Rattle.sw_turns.specs.declared.ends.Stop.TheVariants as stopped;
 ghost use Rattle.sw_work.specs.Hosted.{state_of};
@@ -36,17 +36,17 @@ use sw_store::{StageError, Store};
 // The most events of a group.
 pub(crate) const MOST: usize = 16;
 
-// An event that comes next happens, and waits.
-fn enter(alloc: Global, store: &mut Store, event: Event, pass: u32) -> Result<(), Refusal>
+/// An event that comes next happens, and waits.
+pub fn enter(alloc: Global, store: &mut Store, event: Event, pass: u32) -> Result<(), Refusal>
     requires coherent { Coherent (state_of store.old.core) }
     requires enabled { enabled (state_of store.old.core) event ≡ true }
     requires since { store.old.since ≡ None }
     requires few { length store.old.staged < 16 }
-    ensures goes_on { (workers : ℕ) (recording : Recording) (base : Kept)
-        (history : List entries.Entry) (before lanes : List Left)
-        → pass < workers → IsUnderWay workers recording base history before store.old
-        → ComesNext workers recording.fetches before lanes (state_of store.old.core) event
-        → HasJoined workers recording base history before lanes store.new result }
+    ensures goes_on { (workers : ℕ) (way : Way) (base : Kept) (history : List entries.Entry)
+        (before lanes : List Left)
+        → pass < workers → IsUnderWay workers way base history before store.old
+        → ComesBehind workers way base history before lanes store.old event
+        → HasJoined workers way base history before lanes store.new result }
     ensures flights { (flights : List (Option tasks.Task)) → Spares event flights
         → AreInFlight (state_of store.old.core) flights
         → AreInFlight (state_of store.new.core) flights }
@@ -126,10 +126,9 @@ fn take_off(
     ensures due { IsDue (state_of store.now.core) lanes.now flights.new }
     ensures leaves { Leaves pass flights.new lanes.now (state_of store.now.core) result }
     ensures taken { IsTaken pass flights.old flights.new result }
-    ensures goes_on { (workers : ℕ) (recording : Recording) (base : Kept)
-        (history : List entries.Entry)
-        → IsUnderWay workers recording base history lanes.now store.now
-        → Stops workers recording base history lanes.now flights.new store.now result }
+    ensures goes_on { (workers : ℕ) (way : Way) (base : Kept) (history : List entries.Entry)
+        → IsUnderWay workers way base history lanes.now store.now
+        → Stops workers way base history lanes.now flights.new store.now result }
     ensures kind { IsByPick result }
     ensures some { HasSome result store.now.staged }
     ensures lacks { (lines : List FetchLine)
@@ -165,9 +164,9 @@ fn act(
     requires few { length store.old.staged < 16 }
     ensures goes_on { (recording : Recording) (base : Kept) (history : List entries.Entry)
         → recording.fetches ≡ net.now
-        → IsUnderWay (length flights.now) recording base history lanes.old store.old
-        → HasEntered (length flights.now) recording base history lanes.new flights.now store.new
-        result }
+        → IsUnderWay (length flights.now) (recorded_way recording) base history lanes.old store.old
+        → HasEntered (length flights.now) (recorded_way recording) base history
+        lanes.new flights.now store.new result }
     ensures flights { AreInFlight (state_of store.new.core) flights.now }
     ensures coherent { Coherent (state_of store.new.core) }
     ensures twin { IsSameTwin store.old.twin store.new.twin }
@@ -230,9 +229,9 @@ fn perform(
     requires few { length store.old.staged < 16 }
     ensures goes_on { (recording : Recording) (base : Kept) (history : List entries.Entry)
         → recording.fetches ≡ net.now
-        → IsUnderWay (length flights.now) recording base history lanes.now store.old
-        → HasEntered (length flights.now) recording base history lanes.now flights.now store.new
-        result }
+        → IsUnderWay (length flights.now) (recorded_way recording) base history lanes.now store.old
+        → HasEntered (length flights.now) (recorded_way recording) base history
+        lanes.now flights.now store.new result }
     ensures flights { AreInFlight (state_of store.new.core) flights.now }
     ensures coherent { Coherent (state_of store.new.core) }
     ensures twin { IsSameTwin store.old.twin store.new.twin }
@@ -281,9 +280,9 @@ fn take_up(
     requires few { length store.old.staged < 16 }
     ensures goes_on { (recording : Recording) (base : Kept) (history : List entries.Entry)
         → recording.fetches ≡ net.now
-        → IsUnderWay (length flights.old) recording base history lanes.old store.old
-        → HasEntered (length flights.old) recording base history lanes.new flights.new store.new
-        result }
+        → IsUnderWay (length flights.old) (recorded_way recording) base history lanes.old store.old
+        → HasEntered (length flights.old) (recorded_way recording) base history
+        lanes.new flights.new store.new result }
     ensures flights { AreInFlight (state_of store.new.core) flights.new }
     ensures due { IsDue (state_of store.new.core) lanes.new flights.new }
     ensures coherent { Coherent (state_of store.new.core) }
@@ -346,9 +345,9 @@ fn fill(
     requires few { length store.old.staged ≤ 16 }
     ensures goes_on { (recording : Recording) (base : Kept) (history : List entries.Entry)
         → recording.fetches ≡ net.now
-        → IsUnderWay (length flights.old) recording base history lanes.old store.old
-        → Stops (length flights.old) recording base history lanes.new flights.new store.new
-        result }
+        → IsUnderWay (length flights.old) (recorded_way recording) base history lanes.old store.old
+        → Stops (length flights.old) (recorded_way recording) base history
+        lanes.new flights.new store.new result }
     ensures flights { AreInFlight (state_of store.new.core) flights.new }
     ensures due { IsDue (state_of store.new.core) lanes.new flights.new }
     ensures coherent { Coherent (state_of store.new.core) }
@@ -409,9 +408,9 @@ pub(crate) fn begin(
     requires none { store.old.staged ≡ [] }
     ensures goes_on { (recording : Recording) (base : Kept) (history : List entries.Entry)
         → recording.fetches ≡ net.now
-        → IsUnderWay (length flights.old) recording base history lanes.old store.old
-        → Stops (length flights.old) recording base history lanes.new flights.new store.new
-        result }
+        → IsUnderWay (length flights.old) (recorded_way recording) base history lanes.old store.old
+        → Stops (length flights.old) (recorded_way recording) base history
+        lanes.new flights.new store.new result }
     ensures flights { AreInFlight (state_of store.new.core) flights.new }
     ensures due { IsDue (state_of store.new.core) lanes.new flights.new }
     ensures workers { length flights.new ≡ length flights.old }

@@ -10,5 +10,8 @@ mod progress;
 mod settling;
 mod turning;
 
-pub use ends::{DriveEnd, Turn};
-pub use progress::Progress;
+pub use ends::{DriveEnd, Refusal, Turn};
+pub use filling::enter;
+pub use next::{action_event, due_event};
+pub use progress::{Progress, beginning};
+pub use settling::{settle, tend, write_group};

@@ -11,7 +11,7 @@ ghost use Rattle.sw_turns.specs.Acting.{IsTaking};
 ghost use Rattle.sw_turns.specs.Coming.{IsPickedNext};
 ghost use Rattle.sw_turns.specs.Flights.{AreInFlight, Flies, IsDue, Spares};
 ghost use Rattle.sw_core.specs.Machines.{IsEventOf};
-ghost use Rattle.sw_turns.specs.Playing.{ComesNext};
+ghost use Rattle.sw_turns.specs.Playing.{ComesByPick};
 ghost use Rattle.sw_work.specs.Hosted.{state_of};
 
 use crate::acting::action_of_event;
@@ -21,8 +21,8 @@ use sw_data::{Event, NoMemory, Task, Who};
 use sw_lane::{Lanes, event_of_action};
 use sw_net::Net;
 
-// The event of the next action of a lane, which is taken.
-pub(crate) fn action_event(
+/// The event of the next action of a lane, which is taken.
+pub fn action_event(
     core: &Core,
     lanes: &mut Lanes,
     flights: &[Option<Task>],
@@ -33,7 +33,7 @@ pub(crate) fn action_event(
     requires alone { length flights.now ≡ 1 → picks.in_flight flights.now ≡ [] }
     requires picked { picks.picked (state_of core.now) (picks.in_flight flights.now) lanes.old
         ≡ pick.Work (work.Action lane at) }
-    ensures next { ComesNext (length flights.now) net.now lanes.old lanes.new (state_of core.now)
+    ensures next { ComesByPick (length flights.now) net.now lanes.old lanes.new (state_of core.now)
         result }
     ensures picked { IsPickedNext net.now (state_of core.now) flights.now lanes.old result
         lanes.new }
@@ -55,6 +55,22 @@ pub(crate) fn put_back(lanes: &mut Lanes, lane: u32, event: Event)
     }
 }
 
+/// The event of the task that was picked with nothing in flight, that of a fetch at once.
+pub fn due_event(
+    alloc: Global,
+    core: &Core,
+    lanes: &Lanes,
+    net: &Net,
+    task: Task,
+) -> Result<Event, NoMemory>
+    requires coherent { Coherent (state_of core.now) }
+    requires picked { picks.picked (state_of core.now) [] lanes.now ≡ pick.Work (work.Task task) }
+    ensures next { IfOk result
+        (ComesByPick 1 net.now lanes.now lanes.now (state_of core.now)) }
+{
+    task_event(alloc, core, net, task)
+}
+
 // The event of the first ready task, which is no fetch.
 pub(crate) fn ready_event(
     alloc: Global,
@@ -70,7 +86,7 @@ pub(crate) fn ready_event(
         ≡ pick.Work (work.Task task) }
     requires plain { picks.is_fetch task ≡ false }
     ensures next { IfOk result
-        (ComesNext (length flights.now) net.now lanes.now lanes.now (state_of core.now)) }
+        (ComesByPick (length flights.now) net.now lanes.now lanes.now (state_of core.now)) }
     ensures picked { IfOk result (λ event.
         IsPickedNext net.now (state_of core.now) flights.now lanes.now event lanes.now) }
     ensures spares { IfOk result (λ event. Spares event flights.now) }
@@ -93,7 +109,7 @@ pub(crate) fn landing(
     requires flights { AreInFlight (state_of core.now) flights.old }
     requires due { IsDue (state_of core.now) lanes.now flights.old }
     ensures next { IfOk result (λ event. IfSome event
-        (ComesNext (length flights.old) net.now lanes.now lanes.now (state_of core.now))) }
+        (ComesByPick (length flights.old) net.now lanes.now lanes.now (state_of core.now))) }
     ensures event { IfOk result (λ event. IfSome event (λ event. (flown : tasks.Task)
         → Flies flights.old pass flown → IsEventOf net.now (state_of core.now) flown event)) }
     ensures spares { IfOk result (λ event. IfSome event (λ event. Spares event flights.new)) }

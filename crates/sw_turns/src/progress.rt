@@ -2,8 +2,11 @@
 
 ghost use Rattle.std.specs.Prelude.{◌≡◌, ◌<◌, ◌≤◌, ◌^◌, ◌∷◌, [], None, length, replicate, IfOk};
 ghost use Rattle.sw_lane.specs.Recorded.{AreLanesOf};
+ghost use Rattle.sw_turns.specs.Groups.{IsUnderWay};
 ghost use Rattle.sw_turns.specs.Playing.{opening_of};
+ghost use Rattle.sw_turns.specs.Surviving.{IsAtWork};
 ghost use Rattle.sw_turns.specs.Turns.{IsGoing};
+ghost use Rattle.sw_turns.specs.Ways.{Way};
 ghost use Rattle.sw_store.specs.Opened.{HasOpened, IsFresh};
 
 use std::alloc::Global;
@@ -77,6 +80,27 @@ fn set_out(
     Ok((lanes, net, flights, history))
 }
 
+/// What a run begins with on a host that was just opened: the lanes and the network of a recording, passes that have taken
+/// up nothing, and the history of the restart.
+pub fn beginning<D: Disk>(
+    alloc: Global,
+    store: &Store,
+    recording: Recording,
+    disk: &D,
+    passes: u32,
+) -> Result<(Lanes, Net, Vec<Option<Task>>, Vec<Entry>), NoMemory>
+    requires fresh { IsFresh (2 ^ 32) store.now }
+    requires some { 0 < passes }
+    ensures under_way { IfOk result (λ made. (way : Way) → way.recording ≡ recording
+        → IsUnderWay passes way store.now.base made.3.items made.0 store.now) }
+    ensures at_work { IfOk result (λ made. (start : D) → HasOpened D.Disk start disk.now store.now
+        → IsAtWork D.Disk start disk.now store.now.base made.3.items store.now) }
+    ensures net { IfOk result (λ made. made.1 ≡ recording.fetches) }
+    ensures flights { IfOk result (λ made. made.2.items ≡ replicate passes None) }
+{
+    set_out(alloc, recording, store.base(), disk.clock(), passes)
+}
+
 // A host for whose work there is no memory. A store that a larger function would drop itself at an early end costs the
 // check minutes.
 fn unmade(store: Store) -> NoMemory {
@@ -110,7 +134,7 @@ impl Progress {
             → IsGoing D.Disk start disk.now recording store.base progress) }
         ensures passes { IfOk result (λ progress. length progress.flights.items ≡ passes) }
     {
-        match set_out(alloc, recording, store.base(), disk.clock(), passes) {
+        match beginning(alloc, &store, recording, disk, passes) {
             Ok((lanes, net, flights, history)) => Ok(Progress {
                 store,
                 lanes,

@@ -25,8 +25,8 @@ fn add_all(history: &mut Vec<Entry>, entries: Vec<Entry>)
     }
 }
 
-// What waits is written, and its entries are the history's. It takes no memory.
-fn write_group<D: Disk>(
+/// What waits is written, and its entries are the history's. It takes no memory.
+pub fn write_group<D: Disk>(
     alloc: Global,
     store: &mut Store,
     history: &mut Vec<Entry>,
@@ -56,6 +56,9 @@ fn write_group<D: Disk>(
     ensures same { OnErr result (history.new.items ≡ history.old.items) }
     ensures room { vec_capacity history.new ≡ vec_capacity history.old }
     ensures calls { D.clock disk.new ≤ D.clock disk.old + 4 }
+    ensures nothing { store.old.payload ≡ [] → disk.new ≡ disk.old }
+    ensures grows { (s : Standing) → HasStopped D.Disk disk.old s history.old.items store.old
+        → OnOk result (latest s.base history.old.items ≤ latest s.base history.new.items) }
     ensures cut { IfErr result IsCutShort }
 {
     match store.commit(alloc, disk) {
@@ -68,8 +71,8 @@ fn write_group<D: Disk>(
     }
 }
 
-// What is kept is written anew where that is due.
-fn tend<D: Disk>(alloc: Global, store: &mut Store, disk: &mut D) -> Result<(), DriveEnd>
+/// What is kept is written anew where that is due.
+pub fn tend<D: Disk>(alloc: Global, store: &mut Store, disk: &mut D) -> Result<(), DriveEnd>
     requires quiet { IsQuiet store.old }
     requires stopped { (s : Standing) × (history : List entries.Entry)
         × HasStopped D.Disk disk.old s history store.old }
@@ -97,9 +100,9 @@ fn tend<D: Disk>(alloc: Global, store: &mut Store, disk: &mut D) -> Result<(), D
     }
 }
 
-// What waits is written, and its entries are the history's; where changes were written, what is kept is written anew if
-// that is due.
-pub(crate) fn settle<D: Disk>(
+/// What waits is written, and its entries are the history's; where changes were written, what is kept is written anew if
+/// that is due.
+pub fn settle<D: Disk>(
     alloc: Global,
     store: &mut Store,
     history: &mut Vec<Entry>,

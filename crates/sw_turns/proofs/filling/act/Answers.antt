@@ -15,6 +15,7 @@ use Rattle.sw_turns.specs.Acting.{IsTaking}
 use Rattle.sw_turns.specs.Coming.{NextHasNoRoom}
 use Rattle.sw_turns.specs.Groups.{IsUnderWay, StaysOut}
 use Rattle.sw_turns.specs.declared.ends.Refusal.{Refusal}
+use Rattle.sw_turns.specs.Ways.{recorded_way}
 use Rattle.sw_work.specs.Hosted.{Hosted, state_of}
 
 pub action_event-event-requires-clause-alone : goal.action_event-event-requires-clause-alone
@@ -29,10 +30,10 @@ action_event-event-requires-clause-picked c =
 
 pub returns-in-Ok-clause-goes_on : goal.returns-in-Ok-clause-goes_on
 returns-in-Ok-clause-goes_on c = λ recording base history same goes.
-    c.in-Ok.ensures.goes_on (length c.args.flights.now) recording base history c.args.lanes.now c.action_event-event.new.lanes
+    c.in-Ok.ensures.goes_on (length c.args.flights.now) (recorded_way recording) base history c.args.lanes.now c.action_event-event.new.lanes
     (slice_get_within c.args.flights.now c.args.pass None c.requires.free) goes
-    (next_of (length c.args.flights.now) c.args.net.now c.args.lanes.now c.action_event-event.new.lanes c.core.result.now c.args.store.now.core c.action_event-event.result
-    c.core.ensures c.action_event-event.ensures.next recording same)
+    (next_of (length c.args.flights.now) c.args.net.now c.args.lanes.now c.action_event-event.new.lanes c.core.result.now c.args.store.now c.action_event-event.result
+    c.core.ensures c.action_event-event.ensures.next recording base history same)
 
 pub returns-in-Ok-clause-flights : goal.returns-in-Ok-clause-flights
 returns-in-Ok-clause-flights c = c.enter.ensures.flights c.args.flights.now c.action_event-event.ensures.spares c.requires.flights
@@ -62,12 +63,12 @@ back c =
 
 pub returns-in-Err-NoRoom-clause-goes_on : goal.returns-in-Err-NoRoom-clause-goes_on
 returns-in-Err-NoRoom-clause-goes_on c = λ recording base history same goes.
-    subst (λ (lanes : List Left). IsUnderWay (length c.args.flights.now) recording base history lanes c.enter.new.store) (sym (back c))
-    (subst (StaysOut (length c.args.flights.now) recording base history c.args.lanes.now c.action_event-event.new.lanes c.enter.new.store) c.in-Err-NoRoom.field-0-is
-    (c.in-Err-NoRoom.ensures.goes_on (length c.args.flights.now) recording base history c.args.lanes.now c.action_event-event.new.lanes
+    subst (λ (lanes : List Left). IsUnderWay (length c.args.flights.now) (recorded_way recording) base history lanes c.enter.new.store) (sym (back c))
+    (subst (StaysOut (length c.args.flights.now) (recorded_way recording) base history c.args.lanes.now c.action_event-event.new.lanes c.enter.new.store) c.in-Err-NoRoom.field-0-is
+    (c.in-Err-NoRoom.ensures.goes_on (length c.args.flights.now) (recorded_way recording) base history c.args.lanes.now c.action_event-event.new.lanes
     (slice_get_within c.args.flights.now c.args.pass None c.requires.free) goes
-    (next_of (length c.args.flights.now) c.args.net.now c.args.lanes.now c.action_event-event.new.lanes c.core.result.now c.args.store.now.core c.action_event-event.result
-    c.core.ensures c.action_event-event.ensures.next recording same)))
+    (next_of (length c.args.flights.now) c.args.net.now c.args.lanes.now c.action_event-event.new.lanes c.core.result.now c.args.store.now c.action_event-event.result
+    c.core.ensures c.action_event-event.ensures.next recording base history same)))
 
 pub returns-in-Err-NoRoom-clause-flights : goal.returns-in-Err-NoRoom-clause-flights
 returns-in-Err-NoRoom-clause-flights c = c.enter.ensures.flights c.args.flights.now c.action_event-event.ensures.spares c.requires.flights
@@ -92,11 +93,11 @@ returns-in-Err-NoRoom-clause-lacks c =
 
 pub returns-in-Err-Full-clause-goes_on : goal.returns-in-Err-Full-clause-goes_on
 returns-in-Err-Full-clause-goes_on c = λ recording base history same goes.
-    subst (StaysOut (length c.args.flights.now) recording base history c.args.lanes.now c.action_event-event.new.lanes c.enter.new.store) c.in-Err-Full.field-0-is
-    (c.in-Err-Full.ensures.goes_on (length c.args.flights.now) recording base history c.args.lanes.now c.action_event-event.new.lanes
+    subst (StaysOut (length c.args.flights.now) (recorded_way recording) base history c.args.lanes.now c.action_event-event.new.lanes c.enter.new.store) c.in-Err-Full.field-0-is
+    (c.in-Err-Full.ensures.goes_on (length c.args.flights.now) (recorded_way recording) base history c.args.lanes.now c.action_event-event.new.lanes
     (slice_get_within c.args.flights.now c.args.pass None c.requires.free) goes
-    (next_of (length c.args.flights.now) c.args.net.now c.args.lanes.now c.action_event-event.new.lanes c.core.result.now c.args.store.now.core c.action_event-event.result
-    c.core.ensures c.action_event-event.ensures.next recording same))
+    (next_of (length c.args.flights.now) c.args.net.now c.args.lanes.now c.action_event-event.new.lanes c.core.result.now c.args.store.now c.action_event-event.result
+    c.core.ensures c.action_event-event.ensures.next recording base history same))
 
 pub returns-in-Err-Full-clause-flights : goal.returns-in-Err-Full-clause-flights
 returns-in-Err-Full-clause-flights c = c.enter.ensures.flights c.args.flights.now c.action_event-event.ensures.spares c.requires.flights
@@ -104,11 +105,11 @@ returns-in-Err-Full-clause-flights c = c.enter.ensures.flights c.args.flights.no
 pub returns-in-Err-NoMemory-clause-goes_on : goal.returns-in-Err-NoMemory-clause-goes_on
 returns-in-Err-NoMemory-clause-goes_on c = λ recording base history same goes. (
   c.args.lanes.now,
-  subst (StaysOut (length c.args.flights.now) recording base history c.args.lanes.now c.action_event-event.new.lanes c.enter.new.store) c.in-Err-NoMemory.field-0-is
-      (c.in-Err-NoMemory.ensures.goes_on (length c.args.flights.now) recording base history c.args.lanes.now c.action_event-event.new.lanes
+  subst (StaysOut (length c.args.flights.now) (recorded_way recording) base history c.args.lanes.now c.action_event-event.new.lanes c.enter.new.store) c.in-Err-NoMemory.field-0-is
+      (c.in-Err-NoMemory.ensures.goes_on (length c.args.flights.now) (recorded_way recording) base history c.args.lanes.now c.action_event-event.new.lanes
       (slice_get_within c.args.flights.now c.args.pass None c.requires.free) goes
-      (next_of (length c.args.flights.now) c.args.net.now c.args.lanes.now c.action_event-event.new.lanes c.core.result.now c.args.store.now.core c.action_event-event.result
-      c.core.ensures c.action_event-event.ensures.next recording same)),
+      (next_of (length c.args.flights.now) c.args.net.now c.args.lanes.now c.action_event-event.new.lanes c.core.result.now c.args.store.now c.action_event-event.result
+      c.core.ensures c.action_event-event.ensures.next recording base history same)),
 )
 
 pub returns-in-Err-NoMemory-clause-flights : goal.returns-in-Err-NoMemory-clause-flights

@@ -12,13 +12,14 @@ use Rattle.sw_turns.specs.Coming.{GrowsByPick}
 use Rattle.sw_turns.specs.Flights.{Flies}
 use Rattle.sw_turns.specs.Groups.{IsBarren, IsTaken, IsUnderWay, Stops}
 use Rattle.sw_core.specs.Machines.{IsEventOf}
-use Rattle.sw_turns.specs.Playing.{ComesNext}
+use Rattle.sw_turns.specs.Playing.{ComesByPick}
 use Rattle.sw_turns.specs.declared.ends.Refusal.{Refusal}
 use Rattle.sw_turns.specs.declared.ends.Stop.{Stop}
 use Rattle.sw_turns.specs.declared.ends.Stop.TheVariants as stop
 use Rattle.sw_turns.proofs.ComingLemmas.{of_turn_free, of_turn_landed, of_turn_none}
 use Rattle.sw_turns.proofs.FlightLemmas.{free_due, set_else, set_same, set_there}
 use Rattle.sw_turns.proofs.GroupLemmas.{barren_lacks, first_waits, further_own, next_of, stop_barren, stop_keeps, stop_leaves, stop_some, stop_stays}
+use Rattle.sw_turns.specs.Ways.{recorded_way}
 use Rattle.sw_work.specs.Hosted.{Hosted, state_of}
 use Rattle.sw_turns.proofs.filling.begin.Goals as goal
 use Rattle.sw_turns.proofs.filling.begin.Goals.{After-stop_by}
@@ -55,13 +56,13 @@ pub returns-in-Ok-clause-goes_on : goal.returns-in-Ok-clause-goes_on
 returns-in-Ok-clause-goes_on c = λ recording base history same goes.
     let before : List (Option Task) = c.args.flights.now in
     let len : length c.landing.new.flights ≡ length before = ap length c.in-Ok-Some.ensures.landed ∙ length-set before c.args.pass None in
-    subst (λ (workers : ℕ). Stops workers recording base history c.fill.new.lanes c.fill.new.flights c.fill.new.store c.fill.result) len
+    subst (λ (workers : ℕ). Stops workers (recorded_way recording) base history c.fill.new.lanes c.fill.new.flights c.fill.new.store c.fill.result) len
     (c.fill.ensures.goes_on recording base history same
-    (subst (λ (workers : ℕ). IsUnderWay workers recording base history c.args.lanes.now c.enter.new.store) (sym len)
-    (c.in-Ok.ensures.goes_on (length before) recording base history c.args.lanes.now c.args.lanes.now c.requires.pass goes
-    (next_of (length before) c.args.net.now c.args.lanes.now c.args.lanes.now c.core.result.now c.args.store.now.core c.in-Ok-Some.event c.core.ensures
-    (got c.in-Ok-Some.field-0 c.in-Ok-Some.event (ComesNext (length before) c.args.net.now c.args.lanes.now c.args.lanes.now (state_of c.core.result.now)) c.in-Ok-Some.field-0-is c.in-Ok-Some.ensures.next)
-    recording same))))
+    (subst (λ (workers : ℕ). IsUnderWay workers (recorded_way recording) base history c.args.lanes.now c.enter.new.store) (sym len)
+    (c.in-Ok.ensures.goes_on (length before) (recorded_way recording) base history c.args.lanes.now c.args.lanes.now c.requires.pass goes
+    (next_of (length before) c.args.net.now c.args.lanes.now c.args.lanes.now c.core.result.now c.args.store.now c.in-Ok-Some.event c.core.ensures
+    (got c.in-Ok-Some.field-0 c.in-Ok-Some.event (ComesByPick (length before) c.args.net.now c.args.lanes.now c.args.lanes.now (state_of c.core.result.now)) c.in-Ok-Some.field-0-is c.in-Ok-Some.ensures.next)
+    recording base history same))))
 
 pub returns-in-Ok-clause-others : goal.returns-in-Ok-clause-others
 returns-in-Ok-clause-others c = λ other apart.
@@ -104,11 +105,11 @@ returns-in-Ok-clause-entries c =
 pub returns-in-Err-enter-clause-goes_on : goal.returns-in-Err-enter-clause-goes_on
 returns-in-Err-enter-clause-goes_on c = λ recording base history same goes.
     let before : List (Option Task) = c.args.flights.now in
-    stop_stays c.stop_by.result c.in-Err-enter.refusal c.stop_by.ensures (length before) recording base history c.landing.new.flights c.enter.new.store c.args.lanes.now
-    (c.in-Err-enter.ensures.goes_on (length before) recording base history c.args.lanes.now c.args.lanes.now c.requires.pass goes
-    (next_of (length before) c.args.net.now c.args.lanes.now c.args.lanes.now c.core.result.now c.args.store.now.core c.in-Ok-Some.event c.core.ensures
-    (got c.in-Ok-Some.field-0 c.in-Ok-Some.event (ComesNext (length before) c.args.net.now c.args.lanes.now c.args.lanes.now (state_of c.core.result.now)) c.in-Ok-Some.field-0-is c.in-Ok-Some.ensures.next)
-    recording same))
+    stop_stays c.stop_by.result c.in-Err-enter.refusal c.stop_by.ensures (length before) (recorded_way recording) base history c.landing.new.flights c.enter.new.store c.args.lanes.now
+    (c.in-Err-enter.ensures.goes_on (length before) (recorded_way recording) base history c.args.lanes.now c.args.lanes.now c.requires.pass goes
+    (next_of (length before) c.args.net.now c.args.lanes.now c.args.lanes.now c.core.result.now c.args.store.now c.in-Ok-Some.event c.core.ensures
+    (got c.in-Ok-Some.field-0 c.in-Ok-Some.event (ComesByPick (length before) c.args.net.now c.args.lanes.now c.args.lanes.now (state_of c.core.result.now)) c.in-Ok-Some.field-0-is c.in-Ok-Some.ensures.next)
+    recording base history same))
 
 pub returns-in-Err-enter-clause-due : goal.returns-in-Err-enter-clause-due
 returns-in-Err-enter-clause-due c =
@@ -155,9 +156,9 @@ pub returns-in-Ok-None-clause-goes_on : goal.returns-in-Ok-None-clause-goes_on
 returns-in-Ok-None-clause-goes_on c = λ recording base history same goes.
     let before : List (Option Task) = c.args.flights.now in
     let len : length c.landing.new.flights ≡ length before = ap length c.in-Ok-None.ensures.landed ∙ length-set before c.args.pass None in
-    subst (λ (workers : ℕ). Stops workers recording base history c.fill-in-Ok-None.new.lanes c.fill-in-Ok-None.new.flights c.fill-in-Ok-None.new.store c.fill-in-Ok-None.result) len
+    subst (λ (workers : ℕ). Stops workers (recorded_way recording) base history c.fill-in-Ok-None.new.lanes c.fill-in-Ok-None.new.flights c.fill-in-Ok-None.new.store c.fill-in-Ok-None.result) len
     (c.fill-in-Ok-None.ensures.goes_on recording base history same
-    (subst (λ (workers : ℕ). IsUnderWay workers recording base history c.args.lanes.now c.args.store.now) (sym len) goes))
+    (subst (λ (workers : ℕ). IsUnderWay workers (recorded_way recording) base history c.args.lanes.now c.args.store.now) (sym len) goes))
 
 pub returns-in-Ok-None-clause-others : goal.returns-in-Ok-None-clause-others
 returns-in-Ok-None-clause-others c = λ other apart.

@@ -8,6 +8,7 @@ use Rattle.sw_turns.specs.Coming.{GrowsByPick}
 use Rattle.sw_turns.proofs.ComingLemmas.{grows_none, grows_still, grows_then}
 use Rattle.sw_turns.proofs.FlightLemmas.{free_due}
 use Rattle.sw_turns.proofs.GroupLemmas.{further_own, none_own, picked_by, same_twins}
+use Rattle.sw_turns.specs.Ways.{recorded_way}
 use Rattle.sw_work.specs.Hosted.{state_of}
 use Rattle.sw_turns.proofs.filling.fill.Goals as goal
 
@@ -59,9 +60,9 @@ events-preserved c =
           grows_then c.args.net.now c.args.flights.now c.args.lanes.now c.events.lanes c.take_up.new.lanes c.args.store.now c.events.store c.take_up.new.store was.grows
           (subst (λ (flights : List (Option Task)). GrowsByPick c.args.net.now flights c.events.lanes c.take_up.new.lanes c.events.store c.take_up.new.store) was.same joined.grows);
       goes_on = λ recording base history same goes.
-          subst (λ (workers : ℕ). IsUnderWay workers recording base history c.take_up.new.lanes c.take_up.new.store) (ap length was.same)
+          subst (λ (workers : ℕ). IsUnderWay workers (recorded_way recording) base history c.take_up.new.lanes c.take_up.new.store) (ap length was.same)
           (joined.goes_on recording base history same
-          (subst (λ (workers : ℕ). IsUnderWay workers recording base history c.events.lanes c.events.store) (sym (ap length was.same)) (was.goes_on recording base history same goes)));
+          (subst (λ (workers : ℕ). IsUnderWay workers (recorded_way recording) base history c.events.lanes c.events.store) (sym (ap length was.same)) (was.goes_on recording base history same goes)));
     }
 
 -- ---- the pick takes up something, or stops the group
@@ -69,9 +70,9 @@ events-preserved c =
 pub returns-in-Err-clause-goes_on : goal.returns-in-Err-clause-goes_on
 returns-in-Err-clause-goes_on c = λ recording base history same goes.
     let alike : length c.events.flights ≡ length c.args.flights.now = ap length c.events.invariant.same in
-    subst (λ (workers : ℕ). Stops workers recording base history c.take_up.new.lanes c.take_up.new.flights c.take_up.new.store c.in-Err.stop) alike
+    subst (λ (workers : ℕ). Stops workers (recorded_way recording) base history c.take_up.new.lanes c.take_up.new.flights c.take_up.new.store c.in-Err.stop) alike
     (c.in-Err.ensures.goes_on recording base history same
-    (subst (λ (workers : ℕ). IsUnderWay workers recording base history c.events.lanes c.events.store) (sym alike) (c.events.invariant.goes_on recording base history same goes)))
+    (subst (λ (workers : ℕ). IsUnderWay workers (recorded_way recording) base history c.events.lanes c.events.store) (sym alike) (c.events.invariant.goes_on recording base history same goes)))
 
 pub returns-in-Err-clause-twin : goal.returns-in-Err-clause-twin
 returns-in-Err-clause-twin c = same_twins c.args.store.now.twin c.events.store.twin c.take_up.new.store.twin c.events.invariant.twin c.in-Err.ensures.twin

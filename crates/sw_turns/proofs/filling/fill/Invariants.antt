@@ -9,6 +9,7 @@ use Rattle.sw_lock.specs.Entries.{ThenOwn}
 use Rattle.sw_turns.specs.Coming.{GrowsByPick}
 use Rattle.sw_turns.specs.Flights.{AreInFlight}
 use Rattle.sw_turns.specs.Groups.{IsUnderWay}
+use Rattle.sw_turns.specs.Ways.{recorded_way}
 use Rattle.sw_store.specs.Stores.{IsSameTwin}
 use Rattle.sw_work.specs.Hosted.{state_of}
 use Rattle.sw_turns.proofs.filling.fill.Given as goal
@@ -31,8 +32,8 @@ invariant-events l = record {
   own : ThenOwn (λ (entry : Entry). entry.pass) l.pass l.initial.store.staged l.store.staged;
   grows : GrowsByPick l.net l.initial.flights l.initial.lanes l.lanes l.initial.store l.store;
   goes_on : (recording : Recording) (base : Kept) (history : List Entry) → recording.fetches ≡ l.net
-      → IsUnderWay (length l.initial.flights) recording base history l.initial.lanes l.initial.store
-      → IsUnderWay (length l.initial.flights) recording base history l.lanes l.store;
+      → IsUnderWay (length l.initial.flights) (recorded_way recording) base history l.initial.lanes l.initial.store
+      → IsUnderWay (length l.initial.flights) (recorded_way recording) base history l.lanes l.store;
 }
 
 abbrev pub decreases-events : goal.decreases-events

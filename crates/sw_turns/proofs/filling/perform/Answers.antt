@@ -9,6 +9,7 @@ use Rattle.sw_turns.proofs.ComingLemmas.{grows_one}
 use Rattle.sw_turns.proofs.FlightLemmas.{none_flies}
 use Rattle.sw_turns.proofs.GroupLemmas.{next_of, next_pick, no_room, stop_keeps, stop_lacks, stop_leaves, stop_picks, stop_some, stop_stays, stop_takes}
 use Rattle.sw_turns.specs.declared.ends.Refusal.{Refusal}
+use Rattle.sw_turns.specs.Ways.{recorded_way}
 use Rattle.sw_work.specs.Hosted.{Hosted, state_of}
 use Rattle.sw_turns.proofs.filling.perform.Goals as goal
 
@@ -27,10 +28,10 @@ ready_event-requires-clause-picked c =
 
 pub returns-in-Ok-enter-clause-goes_on : goal.returns-in-Ok-enter-clause-goes_on
 returns-in-Ok-enter-clause-goes_on c = λ recording base history same goes.
-    c.in-Ok-enter.ensures.goes_on (length c.args.flights.now) recording base history c.args.lanes.now c.args.lanes.now
+    c.in-Ok-enter.ensures.goes_on (length c.args.flights.now) (recorded_way recording) base history c.args.lanes.now c.args.lanes.now
     (slice_get_within c.args.flights.now c.args.pass None c.requires.free) goes
-    (next_of (length c.args.flights.now) c.args.net.now c.args.lanes.now c.args.lanes.now c.core.result.now c.args.store.now.core c.in-Ok.event c.core.ensures
-    c.in-Ok.ensures.next recording same)
+    (next_of (length c.args.flights.now) c.args.net.now c.args.lanes.now c.args.lanes.now c.core.result.now c.args.store.now c.in-Ok.event c.core.ensures
+    c.in-Ok.ensures.next recording base history same)
 
 pub returns-in-Ok-enter-clause-flights : goal.returns-in-Ok-enter-clause-flights
 returns-in-Ok-enter-clause-flights c = c.enter.ensures.flights c.args.flights.now c.in-Ok.ensures.spares c.requires.flights
@@ -45,11 +46,11 @@ returns-in-Ok-enter-clause-grows c =
 
 pub returns-in-Err-enter-clause-goes_on : goal.returns-in-Err-enter-clause-goes_on
 returns-in-Err-enter-clause-goes_on c = λ recording base history same goes.
-    stop_stays c.stop_by.result c.in-Err-enter.refusal c.stop_by.ensures (length c.args.flights.now) recording base history c.args.flights.now c.enter.new.store c.args.lanes.now
-    (c.in-Err-enter.ensures.goes_on (length c.args.flights.now) recording base history c.args.lanes.now c.args.lanes.now
+    stop_stays c.stop_by.result c.in-Err-enter.refusal c.stop_by.ensures (length c.args.flights.now) (recorded_way recording) base history c.args.flights.now c.enter.new.store c.args.lanes.now
+    (c.in-Err-enter.ensures.goes_on (length c.args.flights.now) (recorded_way recording) base history c.args.lanes.now c.args.lanes.now
     (slice_get_within c.args.flights.now c.args.pass None c.requires.free) goes
-    (next_of (length c.args.flights.now) c.args.net.now c.args.lanes.now c.args.lanes.now c.core.result.now c.args.store.now.core c.in-Ok.event c.core.ensures
-    c.in-Ok.ensures.next recording same))
+    (next_of (length c.args.flights.now) c.args.net.now c.args.lanes.now c.args.lanes.now c.core.result.now c.args.store.now c.in-Ok.event c.core.ensures
+    c.in-Ok.ensures.next recording base history same))
 
 pub returns-in-Err-enter-clause-flights : goal.returns-in-Err-enter-clause-flights
 returns-in-Err-enter-clause-flights c = c.enter.ensures.flights c.args.flights.now c.in-Ok.ensures.spares c.requires.flights

@@ -1,6 +1,7 @@
 -- A group is written, and its entries are the history's; or it was refused.
 use Rattle.std.proofs.Common.{◌≡◌, ◌++◌, List, ◌∙◌, ap, sym, subst}
 use Rattle.sw_data.specs.declared.histories.Entry.{Entry}
+use Rattle.sw_turns.proofs.PaceLemmas.{latest_grows}
 use Rattle.sw_turns.proofs.SettleLemmas.{HasWritten, ahead, ends_refused, stopped_on, tended_on, works_on}
 use Rattle.sw_turns.proofs.settling.write_group.Given.{Over}
 use Rattle.sw_turns.proofs.settling.write_group.Goals as goal
@@ -47,6 +48,10 @@ pub returns-in-Ok-clause-stopped : goal.returns-in-Ok-clause-stopped
 returns-in-Ok-clause-stopped g c s halted =
     subst (λ (entries : List Entry). HasStopped g.D.Disk c.commit.new.disk s entries c.commit.new.self) (history_is g c)
     (stopped_on g.D.Disk c.args.disk.now c.commit.new.disk s c.args.history.now.items c.args.store.now halted c.commit.new.self (wrote g c))
+
+pub returns-in-Ok-clause-grows : goal.returns-in-Ok-clause-grows
+returns-in-Ok-clause-grows g c s halted =
+    rw (← history_is g c) (latest_grows s.base c.args.history.now.items c.args.store.now.staged halted.opens (g.D.Disk.clock c.commit.new.disk))
 
 pub returns-in-Ok-clause-tended : goal.returns-in-Ok-clause-tended
 returns-in-Ok-clause-tended g c s halted none tended =

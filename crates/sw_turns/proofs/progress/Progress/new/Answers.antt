@@ -6,9 +6,8 @@ use Rattle.sw_turns.proofs.progress.Progress.new.Goals as goal
 
 pub returns-in-Ok-clause-going : goal.returns-in-Ok-clause-going
 returns-in-Ok-clause-going g c start opened =
-    is_going g.D.Disk start c.args.disk.now c.args.recording c.base.result.now c.clock.result c.args.passes _
-    c.requires.many.0 c.requires.many.1 c.requires.fresh c.in-Ok.ensures.lanes c.in-Ok.ensures.net c.in-Ok.ensures.flights
-    c.base.ensures c.clock.ensures c.in-Ok.ensures.history opened
+    is_going g.D.Disk start c.args.disk.now c.args.recording c.args.passes _
+    c.requires.many.1 c.requires.fresh c.in-Ok.ensures.under_way (c.in-Ok.ensures.at_work start opened) c.in-Ok.ensures.net c.in-Ok.ensures.flights
 
 pub returns-in-Ok-clause-passes : goal.returns-in-Ok-clause-passes
 returns-in-Ok-clause-passes g c =

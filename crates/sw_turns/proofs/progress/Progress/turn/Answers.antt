@@ -11,6 +11,7 @@ use Rattle.sw_turns.specs.Flights.{AreInFlight, IsDue}
 use Rattle.sw_turns.specs.Groups.{LacksRoom, Leaves}
 use Rattle.sw_turns.specs.Settling.{IsWritten}
 use Rattle.sw_turns.specs.Turns.{HasTurned, IsAtRest, IsTurn, standing_of}
+use Rattle.sw_turns.specs.Ways.{recorded_way}
 use Rattle.sw_turns.specs.declared.ends.DriveEnd.{DriveEnd}
 use Rattle.sw_turns.specs.declared.ends.DriveEnd.TheVariants as drive_end
 use Rattle.sw_turns.specs.declared.ends.Turn.{Turn}
@@ -26,7 +27,7 @@ returns-then-is_err-clause-turned g c recording base start going = (
 pub begin-stop-requires-clause-coherent : goal.begin-stop-requires-clause-coherent
 begin-stop-requires-clause-coherent g c =
     let it = c.requires.going in
-    sound (length c.args.self.now.flights.items) it.0 it.1 c.args.self.now.history.items c.args.self.now.lanes c.args.self.now.store it.3.under_way it.3.quiet.staged
+    sound (length c.args.self.now.flights.items) (recorded_way it.0) it.1 c.args.self.now.history.items c.args.self.now.lanes c.args.self.now.store it.3.under_way it.3.quiet.staged
 
 pub settle-requires-clause-stopped : goal.settle-requires-clause-stopped
 settle-requires-clause-stopped g c =
@@ -85,7 +86,7 @@ returns-in-Ok g c =
           (λ other apart. ap (λ (flights : List (Option Task)). slice_get flights other) all ∙ others other apart)
           (subst (λ (host : Hosted). Leaves c.args.pass after.flights.items after.lanes (state_of host) c.begin-stop.result) (sym c.settle.ensures.core)
           (subst (λ (flights : List (Option Task)). Leaves c.args.pass flights after.lanes (state_of c.begin-stop.new.store.core) c.begin-stop.result) (sym all) c.begin-stop.ensures.leaves))
-          (rests (length after.flights.items) it.0 it.1 after.history.items after.lanes after.flights.items after.store c.begin-stop.result (c.in-Ok.ensures.stopped s halts).stops)
+          (rests (length after.flights.items) (recorded_way it.0) it.1 after.history.items after.lanes after.flights.items after.store c.begin-stop.result (c.in-Ok.ensures.stopped s halts).stops)
           (subst (λ (flights : List (Option Task)). LacksRoom c.begin-stop.result p.net after.lanes flights c.begin-stop.new.store) (sym all) c.begin-stop.ensures.lacks)
           c.begin-stop.result _ refl c.begin-stop.ensures.some tells.0 tells.1);
       calls = c.settle.ensures.calls;
