@@ -47,7 +47,8 @@ pub(crate) fn slot_at<'a, V>(
 ) -> Option<&'a Slot<V>>
     requires told { holes.now ≡ holes_of 0 0 slots.now }
     requires fits { length slots.now < 2 ^ 64 }
-    ensures { option_map row_of (option_copied result) ≡ option_map Some (slice_get (rows_of slots.now) place) }
+    ensures { option_map row_of (option_copied result)
+        ≡ option_map Some (slice_get (rows_of slots.now) place) }
 {
     if place >= slots.len() - holes.len() {
         return None;
@@ -78,7 +79,8 @@ pub(crate) fn squeeze<V: Drop>(slots: &mut Vec<Slot<V>>, holes: &mut Vec<Hole>)
     ensures rows { rows_of slots.new.items ≡ rows_of slots.old.items }
     ensures rising { AllPairs (λ left right. left.number < right.number) slots.old.items
         → AllPairs (λ left right. left.number < right.number) slots.new.items }
-    ensures below { (top : ℕ) → All (λ slot. slot.number < top) slots.old.items → All (λ slot. slot.number < top) slots.new.items }
+    ensures below { (top : ℕ) → All (λ slot. slot.number < top) slots.old.items
+        → All (λ slot. slot.number < top) slots.new.items }
     ensures len { vec_len slots.new ≤ vec_len slots.old }
     ensures slots_room { vec_capacity slots.new ≡ vec_capacity slots.old }
     ensures holes_room { vec_capacity holes.new ≡ vec_capacity holes.old }
@@ -92,7 +94,8 @@ pub(crate) fn squeeze<V: Drop>(slots: &mut Vec<Slot<V>>, holes: &mut Vec<Hole>)
 
 // The values of slots, in order.
 pub(crate) fn values_in<V: Drop>(alloc: Global, slots: Vec<Slot<V>>) -> Result<Vec<V>, NoMemory>
-    ensures { IfOk result (λ values. values.items ≡ flat_map (λ slot. option_to_list slot.value) slots.items) }
+    ensures { IfOk result (λ values. values.items
+        ≡ flat_map (λ slot. option_to_list slot.value) slots.items) }
 {
     let mut values = Vec::new(alloc);
     for slot in slots {
