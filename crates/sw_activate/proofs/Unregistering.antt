@@ -19,7 +19,7 @@ use Rattle.sw_rules.specs.Jobs.{finish, resolve_and_finish, settle}
 use Rattle.sw_rules.specs.Noticing.{Did, NoticeList}
 use Rattle.sw_rules.specs.Registering as rules
 use Rattle.sw_rules.specs.Registrations.{try_clear, unmap}
-use Rattle.sw_rules.specs.Rows.{in_phase, is_first, is_job, is_waiting, mapped_registration}
+use Rattle.sw_rules.specs.Rows.{is_in_phase, is_first, is_job, is_waiting, mapped_registration}
 use Rattle.sw_rules.specs.State.{State, Registration}
 use Rattle.sw_rules.specs.Told.{Outcome, followed}
 use Rattle.sw_tables.proofs.Moves.{passing, there}
@@ -45,18 +45,18 @@ pub of_job : (job : ℕ) (rows : List JobRow) (row : JobRow) → find (is_job jo
 of_job job rows row here holds all = subst (λ (o : Option JobRow). IfSome o holds) here all
 
 abbrev pub may : List JobRow → JobRow → Bool
-may rows row = in_phase is_waiting row && is_first rows row
+may rows row = is_in_phase is_waiting row && is_first rows row
 
 pub stands_first : (job : ℕ) (rows : List JobRow) → has_job (may rows) job rows ≡ true → has_job (is_first rows) job rows ≡ true
 stands_first job rows runs =
     let found = there (may rows) (find (is_job job) rows) runs in
-    passing (is_first rows) (find (is_job job) rows) found.0 found.1 (and_parts (in_phase is_waiting found.0) (is_first rows found.0) found.2).1
+    passing (is_first rows) (find (is_job job) rows) found.0 found.1 (and_parts (is_in_phase is_waiting found.0) (is_first rows found.0) found.2).1
 
 pub joins_none : (job : ℕ) (rows : List JobRow) → has_job (may rows) job rows ≡ true → has_job (λ row. is_none row.leader) job rows ≡ true
 joins_none job rows runs =
     let found = there (may rows) (find (is_job job) rows) runs in
     passing (λ row. is_none row.leader) (find (is_job job) rows) found.0 found.1
-    (and_parts (is_none found.0.leader) (is_waiting found.0.phase) (and_parts (in_phase is_waiting found.0) (is_first rows found.0) found.2).0).0
+    (and_parts (is_none found.0.leader) (is_waiting found.0.phase) (and_parts (is_in_phase is_waiting found.0) (is_first rows found.0) found.2).0).0
 
 -- ---- the run
 

@@ -11,7 +11,7 @@ use Rattle.sw_client.specs.Table as clients
 use Rattle.sw_client.specs.Table.{clients_of}
 use Rattle.sw_reg.specs.Table as registrations
 use Rattle.sw_data.specs.declared.rows.JobRow.{JobRow}
-use Rattle.sw_rules.specs.Caching.{is_busy, is_worker_of_key}
+use Rattle.sw_rules.specs.Forgetting.{is_busy, is_worker_of_key}
 use Rattle.sw_rules.specs.Rows.{has_pending_worker, is_registration, is_unfinished, is_worker}
 use Rattle.sw_rules.specs.State.{State, AddAll, FetchEvent, Registration, Worker}
 use Rattle.sw_scope.specs.Scopes.{Scopes}

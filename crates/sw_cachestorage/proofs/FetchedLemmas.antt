@@ -14,7 +14,7 @@ use Rattle.sw_data.specs.declared.exchange.Op.TheVariants as op
 use Rattle.sw_data.specs.declared.exchange.Request.{Request}
 use Rattle.sw_data.specs.declared.recordings.Fetched.{Fetched}
 use Rattle.sw_data.specs.declared.recordings.FetchLine.{FetchLine}
-use Rattle.sw_rules.specs.Caching.{fetched_fault, fetched_put, puts_of, responses_fault}
+use Rattle.sw_rules.specs.Caching.{response_fault, put_of_response, puts_of, responses_fault}
 use Rattle.sw_rules.specs.Installing.{fetched_of, is_ok_status}
 use Rattle.sw_rules.specs.Matching.{varies_on_all}
 
@@ -33,7 +33,7 @@ none_zipped [] = refl
 none_zipped (x ∷ xs) = refl
 
 -- what the definition tests is what is tested at a place
-fault_of : (lines : List (Option FetchLine)) (place : ℕ) (line : Option FetchLine) → slice_get lines place ≡ Some line → fault_at lines place ≡ fetched_fault line
+fault_of : (lines : List (Option FetchLine)) (place : ℕ) (line : Option FetchLine) → slice_get lines place ≡ Some line → fault_at lines place ≡ response_fault line
 fault_of lines place line is = ap (λ found. fault (option_and_then fetched_of found)) is ∙ by (fetched_of line)
   where
     fault : Option Fetched → Option Cause
@@ -51,12 +51,12 @@ fault_of lines place line is = ap (λ found. fault (option_and_then fetched_of f
     by None = refl
     by (Some fetched) = refl
 
-put_of : (request : Request) (lines : List (Option FetchLine)) (place : ℕ) (line : Option FetchLine) → slice_get lines place ≡ Some line → put_at request lines place ≡ fetched_put (request, line)
+put_of : (request : Request) (lines : List (Option FetchLine)) (place : ℕ) (line : Option FetchLine) → slice_get lines place ≡ Some line → put_at request lines place ≡ put_of_response (request, line)
 put_of request lines place line is = ap (λ found. option_map (λ fetched. op.Put request fetched.response) (option_and_then fetched_of found)) is
 
 fault_before : (place : ℕ) (request : Request) (requests : List Request) (line : Option FetchLine) (lines : List (Option FetchLine))
-    → responses_fault place (request ∷ requests) (line ∷ lines) ≡ or_later place (fetched_fault line) (responses_fault (place + 1) requests lines)
-fault_before place request requests line lines = by (fetched_fault line)
+    → responses_fault place (request ∷ requests) (line ∷ lines) ≡ or_later place (response_fault line) (responses_fault (place + 1) requests lines)
+fault_before place request requests line lines = by (response_fault line)
   where
     by : (bad : Option Cause) → (elim bad [ Some why ↦ Some (fault.TypeError why (Some place)) | None ↦ responses_fault (place + 1) requests lines ])
         ≡ or_later place bad (responses_fault (place + 1) requests lines)
@@ -64,7 +64,7 @@ fault_before place request requests line lines = by (fetched_fault line)
     by (Some why) = refl
 
 puts_before : (request : Request) (requests : List Request) (line : Option FetchLine) (lines : List (Option FetchLine))
-    → puts_of (request ∷ requests) (line ∷ lines) ≡ before (fetched_put (request, line)) (puts_of requests lines)
+    → puts_of (request ∷ requests) (line ∷ lines) ≡ before (put_of_response (request, line)) (puts_of requests lines)
 puts_before request requests line lines = grind (arith)
 
 -- the request at a place stands before the rest
@@ -86,7 +86,7 @@ module _ (requests : List Request) (lines : List (Option FetchLine)) (place : �
     | inl line ↦
         (λ i. responses_fault place (here i) (drop_more lines place line.0 line.1 i))
         ∙ (fault_before place request (drop (place + 1) requests) (get_or lines place line.0) (drop (place + 1) lines)
-        ∙ (λ i. or_later place (fetched_fault (line.3 i)) later)
+        ∙ (λ i. or_later place (response_fault (line.3 i)) later)
         ∙ ap (λ bad. or_later place bad later) (sym (fault_of lines place line.0 line.2)))
     | inr past ↦
         (λ i. responses_fault place (here i) (drop_all place lines past.0 i))
@@ -98,11 +98,11 @@ module _ (requests : List Request) (lines : List (Option FetchLine)) (place : �
     | inl line ↦
         (λ i. puts_of (here i) (drop_more lines place line.0 line.1 i))
         ∙ (puts_before request (drop (place + 1) requests) (get_or lines place line.0) (drop (place + 1) lines)
-        ∙ (λ i. before (fetched_put (request, line.3 i)) others)
+        ∙ (λ i. before (put_of_response (request, line.3 i)) others)
         ∙ ap (λ put. before put others) (sym (put_of request lines place line.0 line.2)))
     | inr past ↦
         (λ i. puts_of (here i) (drop_all place lines past.0 i))
-        ∙ (ap (filter_map fetched_put) (sym (none_zipped (drop (place + 1) requests)))
+        ∙ (ap (filter_map put_of_response) (sym (none_zipped (drop (place + 1) requests)))
         ∙ (λ i. puts_of (drop (place + 1) requests) (sym (drop_all (place + 1) lines (let far = past.0 in omega (arith, far))) i))
         ∙ ap (λ found. before (option_map (λ fetched. op.Put request fetched.response) (option_and_then fetched_of found)) others) (sym past.1))
   ]

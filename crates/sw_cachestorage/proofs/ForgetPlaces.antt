@@ -14,7 +14,7 @@ use Rattle.sw_data.specs.declared.answers.Notice.{Notice}
 use Rattle.sw_data.specs.declared.rows.RegistrationRow.{RegistrationRow}
 use Rattle.sw_data.specs.declared.storage.KeptCache.{KeptCache}
 use Rattle.sw_reg.specs.Table as registrations
-use Rattle.sw_rules.specs.Caching.{forget_key, is_mapped_of}
+use Rattle.sw_rules.specs.Forgetting.{forget_key, is_mapped_of}
 use Rattle.sw_rules.specs.Noticing.{Did, NoticeList}
 use Rattle.sw_rules.specs.Registrations.{clear, unmap}
 use Rattle.sw_rules.specs.Rows.{changed, is_registration}

@@ -10,7 +10,8 @@ use Rattle.sw_data.specs.declared.workers.Slot.{Slot}
 use Rattle.sw_data.specs.declared.workers.Slot.TheVariants as slot
 use Rattle.sw_data.specs.declared.workers.WorkerState.{WorkerState}
 use Rattle.sw_data.specs.declared.workers.WorkerState.TheVariants as worker_state
-use Rattle.sw_rules.specs.Caching.{forget_key, forget_notices, is_mapped_of, is_worker_of_any}
+use Rattle.sw_rules.specs.Caching.{forget_notices, is_worker_of_any}
+use Rattle.sw_rules.specs.Forgetting.{forget_key, is_mapped_of}
 use Rattle.sw_rules.specs.Registrations.{clear, clear_notices, clear_state, shift, unmap}
 use Rattle.sw_rules.specs.Rows.{changed, in_slot, is_registration}
 use Rattle.sw_rules.specs.State.{State, Registration, Worker}

@@ -5,7 +5,7 @@ use Rattle.sw_data.specs.declared.rows.RegistrationRow.{RegistrationRow}
 use Rattle.sw_data.specs.declared.storage.KeptCache.{KeptCache}
 use Rattle.sw_reg.specs.Table as registrations
 use Rattle.sw_reg.specs.Table.{has_registration}
-use Rattle.sw_rules.specs.Caching.{is_mapped_of}
+use Rattle.sw_rules.specs.Forgetting.{is_mapped_of}
 use Rattle.sw_rules.specs.Registrations.{clear, unmap}
 use Rattle.sw_rules.specs.Rows.{is_number}
 use Rattle.sw_rules.specs.State.{State, Registration}

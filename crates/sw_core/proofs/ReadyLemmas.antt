@@ -34,7 +34,7 @@ use Rattle.sw_rules.specs.Activating.{is_owed}
 use Rattle.sw_rules.specs.Calls.{call_by, is_next_call}
 use Rattle.sw_rules.specs.Installing.{calls_of, ended_handler, job_in, job_worker}
 use Rattle.sw_rules.specs.Registering.{may_run}
-use Rattle.sw_rules.specs.Rows.{free_handler, has_worker, in_phase, is_done, is_evaluating, is_fetching, is_install, is_installing, is_job, is_number, is_waiting, is_worker, job_row, registration_row, task_row, worker_row}
+use Rattle.sw_rules.specs.Rows.{free_handler, has_worker, is_in_phase, is_done, is_evaluating, is_fetching, is_install, is_installing, is_job, is_number, is_waiting, is_worker, job_row, registration_row, task_row, worker_row}
 use Rattle.sw_rules.specs.State.{State, AddAll, Handler, Registration, Worker}
 use Rattle.sw_rules.specs.Step.{enabled, step}
 use Rattle.sw_rules.specs.Tasks.{activates, add_all_fetches, add_all_lines, call_or, evaluations, event_of, handler_event, installs, job_line, may_activate, may_install, ready_tasks, runs, jobs_where, script_fetches, try_activates}
@@ -107,13 +107,13 @@ module _ (p : Task → Bool) (state : State) where
   no_runs never = none_mapped p task.Run never (jobs_where (may_run state) state)
 
   no_fetches : ((n : ℕ) → p (task.Fetch n) ≡ false) → list_any p (script_fetches state) ≡ false
-  no_fetches never = none_mapped p task.Fetch never (jobs_where (in_phase is_fetching) state)
+  no_fetches never = none_mapped p task.Fetch never (jobs_where (is_in_phase is_fetching) state)
 
   no_add_alls : ((n : ℕ) → p (task.FetchAll n) ≡ false) → list_any p (add_all_fetches state) ≡ false
   no_add_alls never = none_mapped p (λ (row : AddAll). task.FetchAll row.number) (λ row. never row.number) (filter (λ row. is_none row.settled) state.tasks)
 
   no_evaluations : ((n : ℕ) → p (task.Evaluate n) ≡ false) → list_any p (evaluations state) ≡ false
-  no_evaluations never = none_mapped p task.Evaluate never (jobs_where (in_phase is_evaluating) state)
+  no_evaluations never = none_mapped p task.Evaluate never (jobs_where (is_in_phase is_evaluating) state)
 
   no_installs : ((n : ℕ) → p (task.Install n) ≡ false) → list_any p (installs state) ≡ false
   no_installs never = none_mapped p task.Install never (jobs_where (may_install state) state)
@@ -149,8 +149,8 @@ any_job make test state job same is =
 pub fetched_job : (state : State) (job : ℕ) → list_any (is_task (task.Fetch job)) (ready_tasks state) ≡ true → (row : JobRow) × (job_row state job ≡ Some row)
 fetched_job state job is =
     found_any (is_job job) state.jobs
-    (any_weaker (λ (row : JobRow). row.job.number == job && in_phase is_fetching row) (is_job job) (λ row is. grind (arith, is)) state.jobs
-    (any_job task.Fetch (in_phase is_fetching) state job (λ n. refl) (script_fetch_ready state job is)))
+    (any_weaker (λ (row : JobRow). row.job.number == job && is_in_phase is_fetching row) (is_job job) (λ row is. grind (arith, is)) state.jobs
+    (any_job task.Fetch (is_in_phase is_fetching) state job (λ n. refl) (script_fetch_ready state job is)))
 
 -- the addAll of a ready fetch is there
 pub fetched_add_all : (state : State) (number : ℕ) → list_any (is_task (task.FetchAll number)) (ready_tasks state) ≡ true → (row : AddAll) × (task_row state number ≡ Some row)
@@ -198,16 +198,16 @@ module _ (state : State) (sound : Coherent state) (job : ℕ) (row : JobRow) (fo
   unfolding step
   run_enabled may = grind (arith, found, may)
 
-  fetched_enabled : in_phase is_fetching row ≡ true → (line : Option FetchLine) → enabled state (event.Fetched who.Host job line) ≡ true
+  fetched_enabled : is_in_phase is_fetching row ≡ true → (line : Option FetchLine) → enabled state (event.Fetched who.Host job line) ≡ true
   unfolding step
   fetched_enabled is line =
-      bound_some _ _ row (job_in_is (in_phase is_fetching) is) (mapped_some _ row.registration (has_registration (grind (arith, is))))
+      bound_some _ _ row (job_in_is (is_in_phase is_fetching) is) (mapped_some _ row.registration (has_registration (grind (arith, is))))
 
-  evaluated_enabled : in_phase is_evaluating row ≡ true → enabled state (event.Evaluated who.Host job) ≡ true
+  evaluated_enabled : is_in_phase is_evaluating row ≡ true → enabled state (event.Evaluated who.Host job) ≡ true
   unfolding step
   evaluated_enabled is =
       let registration = there row.registration (has_registration (grind (arith, is))) in
-      bound_some _ _ row (job_in_is (in_phase is_evaluating) is)
+      bound_some _ _ row (job_in_is (is_in_phase is_evaluating) is)
       (bound_some _ row.registration registration.0 registration.1
       (mapped_some _ (job_worker state row) (worker_there row.worker (grind (arith, is, fits)))))
 
@@ -311,12 +311,12 @@ module _ (state : State) (sound : Coherent state) (worker : ℕ) (handler : Hand
       by None its = rw its (at_end its)
       by (Some called) its = rw its (call_enabled called its)
 
-  installed_enabled : (job : ℕ) (of_job : JobRow) → job_row state job ≡ Some of_job → in_phase is_installing of_job ≡ true → of_job.worker ≡ Some worker → is_install handler.phase ≡ true
+  installed_enabled : (job : ℕ) (of_job : JobRow) → job_row state job ≡ Some of_job → is_in_phase is_installing of_job ≡ true → of_job.worker ≡ Some worker → is_install handler.phase ≡ true
       → slice_get (calls_of row handler.phase) handler.made ≡ None → enabled state (event.Installed who.Host job) ≡ true
   unfolding step
   installed_enabled job of_job its is made of_phase none =
       let registration = there of_job.registration (has_registration state sound job of_job its (grind (arith, is))) in
-      bound_some _ _ of_job (job_in_is state sound job of_job its (in_phase is_installing) is)
+      bound_some _ _ of_job (job_in_is state sound job of_job its (is_in_phase is_installing) is)
       (bound_some _ of_job.registration registration.0 registration.1
       (bound_some _ (job_worker state of_job) row (ap (option_and_then (worker_row state)) made ∙ found)
       (mapped_some _ (ended_handler state is_install row) (ap is_some (ends is_install of_phase none)))))
@@ -387,7 +387,7 @@ ready_enabled recording state (task.Run job) happened sound is gives =
     let row = of_a_job task.Run (may_run state) state job (λ n. refl) sound kind in
     is_its state gives (run_enabled state sound job row.0 row.1.0 row.1.1)
 ready_enabled recording state (task.Fetch job) happened sound is gives =
-    let row = of_a_job task.Fetch (in_phase is_fetching) state job (λ n. refl) sound (script_fetch_ready state job is) in
+    let row = of_a_job task.Fetch (is_in_phase is_fetching) state job (λ n. refl) sound (script_fetch_ready state job is) in
     given_by state (λ (of_job : JobRow). event.Fetched who.Host job (job_line recording of_job)) (job_row state job) gives
     (λ of_job its. fetched_enabled state sound job row.0 row.1.0 row.1.1 (job_line recording of_job))
 ready_enabled recording state (task.FetchAll number) happened sound is gives =
@@ -398,7 +398,7 @@ ready_enabled recording state (task.Evaluate job) happened sound is gives =
     let p = is_task (task.Evaluate job) in
     let kind : list_any p (evaluations state) ≡ true =
     grind (arith, is, each_kind p state, no_runs p state (λ n. refl), no_fetches p state (λ n. refl), no_add_alls p state (λ n. refl), no_installs p state (λ n. refl), no_try_activates p state (λ n. refl), no_activates p state (λ n. refl)) in
-    let row = of_a_job task.Evaluate (in_phase is_evaluating) state job (λ n. refl) sound kind in
+    let row = of_a_job task.Evaluate (is_in_phase is_evaluating) state job (λ n. refl) sound kind in
     is_its state gives (evaluated_enabled state sound job row.0 row.1.0 row.1.1)
 ready_enabled recording state (task.Install job) happened sound is gives =
     let p = is_task (task.Install job) in

@@ -8,7 +8,7 @@ ghost use Rattle.sw_data.specs.declared.events.Who.TheVariants as maker;
 ghost use Rattle.sw_data.specs.declared.recordings.Recording.{Recording};
 ghost use Rattle.sw_lane.specs.Picked.{in_flight, is_fetch, is_task, task_left};
 ghost use Rattle.sw_next.specs.Fetching.{fetches_of};
-ghost use Rattle.sw_rules.specs.Caching.{is_busy};
+ghost use Rattle.sw_rules.specs.Forgetting.{is_busy};
 ghost use Rattle.sw_rules.specs.Clients as clients;
 ghost use Rattle.sw_rules.specs.History.{mapped_registrations};
 ghost use Rattle.sw_rules.specs.Rows.{task_row};

@@ -9,7 +9,7 @@ ghost use Rattle.sw_client.specs.Table as clients_table;
 ghost use Rattle.sw_data.specs.declared.storage.Change.{Change};
 ghost use Rattle.sw_pages.specs.Acts.{told_by};
 ghost use Rattle.sw_queue.specs.Tables.{FitsJob};
-ghost use Rattle.sw_rules.specs.Caching.{forget_key};
+ghost use Rattle.sw_rules.specs.Forgetting.{forget_key};
 ghost use Rattle.sw_rules.specs.Calls as calls;
 ghost use Rattle.sw_rules.specs.Clients as rules;
 ghost use Rattle.sw_rules.specs.Jobs as jobs;

@@ -12,7 +12,7 @@ use Rattle.sw_install.specs.Fetches.{ComesTo, IsOutcome, fetch_outcome}
 use Rattle.sw_install.specs.declared.calls.FetchOutcome.{FetchOutcome}
 use Rattle.sw_install.specs.declared.calls.FetchOutcome.TheVariants as outcome
 use Rattle.sw_rules.specs.Installing.{fetch_ended, fetched, fetched_of, fetched_script, job_in, keep_script, make_worker, reject_and_drop, script_fault}
-use Rattle.sw_rules.specs.Rows.{in_phase, is_fetching, is_job}
+use Rattle.sw_rules.specs.Rows.{is_in_phase, is_fetching, is_job}
 use Rattle.sw_rules.specs.State.{State}
 use Rattle.sw_tables.proofs.Rows.{found_number}
 
@@ -50,7 +50,7 @@ module _ (state : State) (registration : ℕ) (row : JobRow) where
       by (Some w) is = grind (arith, is, comes)
       by None is = grind (arith, is, comes)
 
-module _ (state : State) (number registration : ℕ) (row : JobRow) (line : Option FetchLine) (is : find (is_job number) state.jobs ≡ Some row) (fetches : in_phase is_fetching row ≡ true) (of : row.registration ≡ Some registration) where
+module _ (state : State) (number registration : ℕ) (row : JobRow) (line : Option FetchLine) (is : find (is_job number) state.jobs ≡ Some row) (fetches : is_in_phase is_fetching row ≡ true) (of : row.registration ≡ Some registration) where
   own_number : row.job.number ≡ number
   own_number = found_number (λ (r : JobRow). r.job.number) number state.jobs row is
 
@@ -75,8 +75,8 @@ module _ (state : State) (number registration : ℕ) (row : JobRow) (line : Opti
 
 -- the outcome of a fetch that is in flight
 pub outcome_of : (given : FetchOutcome) (made : Option WorkerRow) (state : State) (number registration : ℕ) (row : JobRow) (line : Option FetchLine)
-    → job_in (in_phase is_fetching) state number ≡ Some row → row.registration ≡ Some registration → ComesTo given made state number line
+    → job_in (is_in_phase is_fetching) state number ≡ Some row → row.registration ≡ Some registration → ComesTo given made state number line
     → IsOutcome given made state row (fetched_of line) registration
 outcome_of given made state number registration row line is of comes =
     if_some (IsOutcome given made state row (fetched_of line)) row.registration registration of
-    (if_some (λ (r : JobRow). IfSome r.registration (IsOutcome given made state r (fetched_of line))) (job_in (in_phase is_fetching) state number) row is comes)
+    (if_some (λ (r : JobRow). IfSome r.registration (IsOutcome given made state r (fetched_of line))) (job_in (is_in_phase is_fetching) state number) row is comes)

@@ -13,7 +13,7 @@ use Rattle.sw_data.specs.declared.rows.JobRow.{JobRow}
 use Rattle.sw_data.specs.declared.rows.RegistrationRow.{RegistrationRow}
 use Rattle.sw_install.specs.Runs.{fetches, is_of_job, is_ready}
 use Rattle.sw_queue.specs.Tables.{ready_job, with_phase}
-use Rattle.sw_rules.specs.Rows.{changed, first_job, in_phase, is_first, is_job, is_unfinished, is_waiting}
+use Rattle.sw_rules.specs.Rows.{changed, first_job, is_in_phase, is_first, is_job, is_unfinished, is_waiting}
 use Rattle.sw_tables.proofs.Rows.{found_at, found_number}
 use Rattle.sw_tables.specs.Linked.{ArePlaces}
 
@@ -27,8 +27,8 @@ starts rows job row are is ready = by (first_job row.job.key row.job.scope rows)
     own : row.job.number ≡ job
     own = found_number number job rows row is
 
-    parts : (in_phase is_waiting row ≡ true) × (is_first rows row ≡ true)
-    parts = and_parts (in_phase is_waiting row) (is_first rows row) ready
+    parts : (is_in_phase is_waiting row ≡ true) × (is_first rows row ≡ true)
+    parts = and_parts (is_in_phase is_waiting row) (is_first rows row) ready
 
     by : (o : Option JobRow) → first_job row.job.key row.job.scope rows ≡ o → ready_job row.job.key row.job.scope rows ≡ Some job
     by None none = absurd (grind (arith, none, parts.1))

@@ -10,7 +10,7 @@ use Rattle.sw_install.specs.declared.calls.FetchOutcome.{FetchOutcome}
 use Rattle.sw_install.specs.declared.calls.FetchOutcome.TheVariants as outcome
 use Rattle.sw_reg.specs.Table as registrations
 use Rattle.sw_rules.specs.Installing.{fetched_of, is_same_script, job_in, made_worker, script_fault}
-use Rattle.sw_rules.specs.Rows.{in_phase, is_fetching}
+use Rattle.sw_rules.specs.Rows.{is_in_phase, is_fetching}
 use Rattle.sw_rules.specs.State.{State}
 use Rattle.sw_rules.specs.Told.{type_error}
 use Rattle.sw_tables.specs.Lent.{shown_worker}
@@ -36,7 +36,7 @@ pub record IsOutcome (given : FetchOutcome) (made : Option WorkerRow) (state : S
 -- own: the same, where the fetch of the job of this number is in flight
 abbrev pub ComesTo : FetchOutcome → Option WorkerRow → State → ℕ → Option FetchLine → Type 0
 ComesTo given made state job line =
-    IfSome (job_in (in_phase is_fetching) state job) (λ row.
+    IfSome (job_in (is_in_phase is_fetching) state job) (λ row.
     IfSome row.registration (IsOutcome given made state row (fetched_of line)))
 
 -- own: a finished row of a parsed worker of a registration that is there, which the table may take

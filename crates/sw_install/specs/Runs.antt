@@ -20,7 +20,7 @@ use Rattle.sw_reg.specs.Table.{has_registration}
 use Rattle.sw_rules.specs.Jobs.{next_draw, with_draw}
 use Rattle.sw_rules.specs.Matching.{Scope}
 use Rattle.sw_rules.specs.Registering.{register_refusal}
-use Rattle.sw_rules.specs.Rows.{in_phase, is_first, is_job, is_waiting}
+use Rattle.sw_rules.specs.Rows.{is_in_phase, is_first, is_job, is_waiting}
 use Rattle.sw_rules.specs.State.{Draws}
 use Rattle.sw_scope.specs.Scopes.{Fits, Scopes, maps}
 use Rattle.sw_tables.specs.Lent.{Rest}
@@ -34,7 +34,7 @@ IsOfKind what job jobs = IfSome (find (is_job job) jobs) (λ row. row.job.what �
 
 -- the job may run: it joined no other and waits, and stands first in its queue
 abbrev pub is_ready : List JobRow → JobRow → Bool
-is_ready jobs row = in_phase is_waiting row && is_first jobs row
+is_ready jobs row = is_in_phase is_waiting row && is_first jobs row
 
 -- the first security fault of a register job
 abbrev pub register_fault : Job → Option Fault

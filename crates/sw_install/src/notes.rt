@@ -6,7 +6,7 @@ ghost use Rattle.sw_data.specs.declared.rows.JobPhase.TheVariants as job_phase;
 ghost use Rattle.sw_install.specs.Runs.{fetches};
 ghost use Rattle.sw_install.specs.Underway.{is_in};
 ghost use Rattle.sw_queue.specs.Tables.{FollowersStay, has_head};
-ghost use Rattle.sw_rules.specs.Rows.{changed, in_phase, is_job, is_waiting};
+ghost use Rattle.sw_rules.specs.Rows.{changed, is_in_phase, is_job, is_waiting};
 ghost use Rattle.sw_tables.specs.Linked.{ArePlaces};
 
 use sw_data::{JobPhase, JobRow};
@@ -14,7 +14,7 @@ use sw_queue::{JobNotes, Queues};
 
 // Whether a job joined no other and is in this phase.
 fn is_in_phase(row: &JobRow, phase: JobPhase) -> bool
-    ensures { result ≡ in_phase (is_in phase) row.now }
+    ensures { result ≡ is_in_phase (is_in phase) row.now }
 {
     row.leader.is_none() && row.phase == phase
 }
@@ -22,7 +22,7 @@ fn is_in_phase(row: &JobRow, phase: JobPhase) -> bool
 // The row of a job that joined no other, in this phase. It takes no memory.
 pub(crate) fn job_in(job: u32, phase: JobPhase, queues: &Queues) -> Option<&JobRow>
     ensures { option_copied result ≡ option_and_then
-        (λ row. if in_phase (is_in phase) row then Some row else None)
+        (λ row. if is_in_phase (is_in phase) row then Some row else None)
         (find (is_job job) queues.now.rows) }
 {
     match queues.row(job) {

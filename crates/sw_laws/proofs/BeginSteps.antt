@@ -11,7 +11,7 @@ use Rattle.sw_data.specs.declared.rows.JobPhase.TheVariants as job_phase
 use Rattle.sw_data.specs.declared.rows.JobRow.{JobRow}
 use Rattle.sw_rules.specs.Installing.{begin_install, installing, job_worker, tell_update}
 use Rattle.sw_rules.specs.Jobs.{gets_value, settle}
-use Rattle.sw_rules.specs.Rows.{changed, has_worker, in_phase, is_evaluating, is_installing, is_job, is_number, is_unfinished, is_waiting, is_worker, newest_worker, worker_row}
+use Rattle.sw_rules.specs.Rows.{changed, has_worker, is_in_phase, is_evaluating, is_installing, is_job, is_number, is_unfinished, is_waiting, is_worker, newest_worker, worker_row}
 use Rattle.sw_rules.specs.State.{State, Registration, Worker}
 use Rattle.sw_rules.specs.Told.{followed}
 use Rattle.sw_laws.specs.Coherent.{Coherent, SoundJobs, SoundWork, apart, has_its_handler, has_its_job, has_its_worker, has_own_registration, has_worker_row, is_being_installed, is_early, is_parsed, is_place, is_settled_phase, share_slot, share_worker}
@@ -112,7 +112,7 @@ installing_slots : (number registration : ℕ) (x y : Worker) → may_install nu
 installing_slots number registration x y one other fine = grind (arith, nat_tests, one, other, fine)
 
 its_installing : (owner registration : ℕ) (w : Worker) (jobs : List JobRow) → (w.registration == registration && is_being_installed w) ≡ true → has_its_job jobs w ≡ true
-    → list_any (λ x. in_phase is_installing x && is_number x.worker w.number && is_number x.registration w.registration) jobs ≡ true
+    → list_any (λ x. is_in_phase is_installing x && is_number x.worker w.number && is_number x.registration w.registration) jobs ≡ true
 its_installing owner registration w jobs here is = grind (arith, here, is)
 
 own_by : (registrations : List Registration) (x : JobRow) (o : Option ℕ) (registration : ℕ) → is_number o registration ≡ true
@@ -127,14 +127,14 @@ own_at : (registrations : List Registration) (x : JobRow) (registration : ℕ) �
     → list_any (λ row. row.number == registration && bytes_eq row.key x.job.key && bytes_eq row.scope x.job.scope) registrations ≡ true
 own_at registrations x registration of own = own_by registrations x x.registration registration of own
 
-past_both : (x row : JobRow) (w : Worker) → in_phase is_evaluating row ≡ true → (in_phase is_installing x && is_number x.worker w.number && is_number x.registration w.registration) ≡ true → (bytes_eq x.job.key row.job.key && bytes_eq x.job.scope row.job.scope) ≡ true → both_past x row ≡ true
+past_both : (x row : JobRow) (w : Worker) → is_in_phase is_evaluating row ≡ true → (is_in_phase is_installing x && is_number x.worker w.number && is_number x.registration w.registration) ≡ true → (bytes_eq x.job.key row.job.key && bytes_eq x.job.scope row.job.scope) ≡ true → both_past x row ≡ true
 past_both x row w phase is queue = grind (arith, phase, is, queue, bytes_eq_symmetric x.job.key row.job.key, bytes_eq_symmetric x.job.scope row.job.scope)
 
-phases_clash : (x : JobRow) → in_phase is_evaluating x ≡ true → in_phase is_installing x ≡ true → ⊥
+phases_clash : (x : JobRow) → is_in_phase is_evaluating x ≡ true → is_in_phase is_installing x ≡ true → ⊥
 phases_clash x one other = grind (arith, one, other)
 
-phases_differ : (x row : JobRow) (w : Worker) → x ≡ row → in_phase is_evaluating row ≡ true → (in_phase is_installing x && is_number x.worker w.number && is_number x.registration w.registration) ≡ true → ⊥
-phases_differ x row w same phase is = phases_clash x (subst (λ (r : JobRow). in_phase is_evaluating r ≡ true) (sym same) phase) (grind (arith, is))
+phases_differ : (x row : JobRow) (w : Worker) → x ≡ row → is_in_phase is_evaluating row ≡ true → (is_in_phase is_installing x && is_number x.worker w.number && is_number x.registration w.registration) ≡ true → ⊥
+phases_differ x row w same phase is = phases_clash x (subst (λ (r : JobRow). is_in_phase is_evaluating r ≡ true) (sym same) phase) (grind (arith, is))
 
 pub parsed_rows : (state : State) (row : JobRow) (registration : ℕ) (worker : Worker) (at : IsAt state is_evaluating row registration) (made : job_worker state row ≡ Some worker) (sound : Coherent state)
     → list_all (λ w. not (w.number == worker.number) || (is_parsed w && w.registration == registration)) state.workers ≡ true
@@ -160,17 +160,17 @@ has_job_from : (q : JobRow → Bool) (rows : List JobRow) (w : Worker) → list_
 has_job_from q rows w is = grind (arith, is)
 
 begun_job : (row : JobRow) (registration number : ℕ) (newest : Option ℕ) (w : Worker) (x : JobRow) → may_begin row registration number x ≡ true → is_job row.job.number x ≡ true → is_worker number w ≡ true → (w.registration == registration) ≡ true
-    → (in_phase is_installing (begun row.job.number newest x) && is_number (begun row.job.number newest x).worker w.number && is_number (begun row.job.number newest x).registration w.registration) ≡ true
+    → (is_in_phase is_installing (begun row.job.number newest x) && is_number (begun row.job.number newest x).worker w.number && is_number (begun row.job.number newest x).registration w.registration) ≡ true
 begun_job row registration number newest w x know here same of =
-    by_test (λ r. (in_phase is_installing r && is_number r.worker w.number && is_number r.registration w.registration) ≡ true) (is_job row.job.number x) _ x
+    by_test (λ r. (is_in_phase is_installing r && is_number r.worker w.number && is_number r.registration w.registration) ≡ true) (is_job row.job.number x) _ x
     (λ yes_here. begun_plain x.leader x.worker x.registration number registration w.number w.registration (grind (arith, know, here)) (grind (arith, know, here)) (grind (arith, know, here)) same of)
     (λ other. absurd (true≢false (sym here ∙ other)))
 
 still_at : (row : JobRow) (registration number : ℕ) (newest : Option ℕ) (w : Worker) (x : JobRow) → may_begin row registration number x ≡ true
-    → (in_phase is_installing x && is_number x.worker w.number && is_number x.registration w.registration) ≡ true
-    → (in_phase is_installing (begun row.job.number newest x) && is_number (begun row.job.number newest x).worker w.number && is_number (begun row.job.number newest x).registration w.registration) ≡ true
+    → (is_in_phase is_installing x && is_number x.worker w.number && is_number x.registration w.registration) ≡ true
+    → (is_in_phase is_installing (begun row.job.number newest x) && is_number (begun row.job.number newest x).worker w.number && is_number (begun row.job.number newest x).registration w.registration) ≡ true
 still_at row registration number newest w x know is =
-    by_test (λ r. (in_phase is_installing r && is_number r.worker w.number && is_number r.registration w.registration) ≡ true) (is_job row.job.number x) _ x
+    by_test (λ r. (is_in_phase is_installing r && is_number r.worker w.number && is_number r.registration w.registration) ≡ true) (is_job row.job.number x) _ x
     (λ here. absurd (grind (arith, know, here, is))) (λ other. is)
 
 module _ (state : State) (row : JobRow) (registration : ℕ) (worker : Worker) (at : IsAt state is_evaluating row registration) (made : job_worker state row ≡ Some worker) (sound : Coherent state) where
@@ -197,7 +197,7 @@ module _ (state : State) (row : JobRow) (registration : ℕ) (worker : Worker) (
       let other = found_any p state.workers is in
       let w = other.0 in
       let passes = find_passes p state.workers w other.1 in
-      let q = λ (x : JobRow). in_phase is_installing x && is_number x.worker w.number && is_number x.registration w.registration in
+      let q = λ (x : JobRow). is_in_phase is_installing x && is_number x.worker w.number && is_number x.registration w.registration in
       let its = found_any q state.jobs (its_installing w.registration registration w state.jobs passes (all_at_found p (has_its_job state.jobs) state.workers w other.1 sound.work.installing)) in
       let x = its.0 in
       let is_it = find_passes q state.jobs x its.1 in
@@ -270,7 +270,7 @@ module _ (state : State) (row : JobRow) (registration : ℕ) (worker : Worker) (
 
   own_job : (w : Worker) → is_worker number w ≡ true → (w.registration == registration) ≡ true → has_its_job rows (installing w) ≡ true
   own_job w here of =
-      has_job_from (λ x. in_phase is_installing x && is_number x.worker w.number && is_number x.registration w.registration) rows (installing w)
+      has_job_from (λ x. is_in_phase is_installing x && is_number x.worker w.number && is_number x.registration w.registration) rows (installing w)
       (any_known (may_begin row registration number) (is_job job) _ (begun job newest) (λ x know passes. begun_job row registration number newest w x know passes here of) state.jobs knows_jobs
       (find_any (is_job job) (is_job job) state.jobs row at.found (grind (arith, nat_tests))))
 
@@ -292,7 +292,7 @@ module _ (state : State) (row : JobRow) (registration : ℕ) (worker : Worker) (
             (all_known known _ _ (begun job newest) (λ x know is. let now = where_there _ _ x.worker (place_changed f state.workers) is in either_way (λ r. has_worker_row (map f state.workers) r ≡ true) (is_job job x) _ x now now) jobs knows_jobs sound.work.made);
         phases = all_changed _ _ g (λ x is. either_way (λ r. has_its_worker (map f state.workers) r ≡ true) (gets_value job x) _ x is is) rows
             (all_known known _ _ (begun job newest) fits_after jobs knows_jobs sound.work.phases);
-        installing = all_weaker _ _ (λ w is. its_job w _ _ (any_changed _ _ g (λ x passes. either_way (λ r. (in_phase is_installing r && is_number r.worker w.number && is_number r.registration w.registration) ≡ true) (gets_value job x) _ x passes passes) rows) is) (map f state.workers)
+        installing = all_weaker _ _ (λ w is. its_job w _ _ (any_changed _ _ g (λ x passes. either_way (λ r. (is_in_phase is_installing r && is_number r.worker w.number && is_number r.registration w.registration) ≡ true) (gets_value job x) _ x passes passes) rows) is) (map f state.workers)
             (all_known (may_install number registration) _ _ f job_after state.workers knows_workers sound.work.installing);
       }
 

@@ -8,7 +8,7 @@ use Rattle.std.proofs.lemmas.Bool.Decides.{nat_tests}
 use Rattle.sw_data.specs.declared.rows.ClientRow.{ClientRow}
 use Rattle.sw_rules.specs.Clients.{claim_client, claim_clients, claims, leave, take_control}
 use Rattle.sw_rules.specs.Registrations.{activate, chosen, clear, left_by, recheck, release, try_activate, try_clear, unload, used_registration}
-use Rattle.sw_rules.specs.Rows.{client_row, has_pending_worker, has_worker, is_active, is_client, is_mapped, is_number, is_used, is_worker, matched_registration, registration_of, uses, worker_row}
+use Rattle.sw_rules.specs.Rows.{client_row, has_pending_worker, has_worker, is_active, is_client, is_mapped, is_number, is_used, is_worker, matched_registration_number, registration_of, uses, worker_row}
 use Rattle.sw_rules.specs.State.{State, Registration, Worker}
 use Rattle.sw_rules.specs.Told.{Told, followed, quiet}
 use Rattle.sw_laws.specs.Coherent.{Coherent, is_controlled, is_of_key, is_secured, same_client, share_slot}
@@ -173,7 +173,7 @@ claims_may state worker registration number client there is active sound = recor
   active = active;
   client =
       all_as_found same_client (is_client number) (λ c. c.secure && list_any (λ row. row.number == registration && bytes_eq row.key c.key) state.registrations) (λ x y one other. grind (arith, nat_tests, one, other)) state.clients client sound.clients.numbers there
-      (and_from _ _ (grind (arith, is)) (matched_key state client.key client.url registration (number_is (matched_registration state client.key client.url) registration (grind (arith, is)))));
+      (and_from _ _ (grind (arith, is)) (matched_key state client.key client.url registration (number_is (matched_registration_number state client.key client.url) registration (grind (arith, is)))));
 }
 
 pub unloaded : (state : State) (worker registration number : ℕ) (client : ClientRow) → client_row state number ≡ Some client → claims state worker registration client ≡ true

@@ -15,7 +15,7 @@ use Rattle.sw_data.specs.declared.workers.WorkerState.TheVariants as worker_stat
 use Rattle.sw_rules.specs.Clients.{claim_client, claim_clients, claims, take_control}
 use Rattle.sw_rules.specs.History.{ControlledIn, HasGiven, IsSomeWorker, tells_change}
 use Rattle.sw_rules.specs.Registrations.{activate, chosen, clear, controlled_by, left_by, recheck, release, tell_redundant, try_activate, try_clear, unload, used_registration}
-use Rattle.sw_rules.specs.Rows.{active_worker, changed, client_row, has_pending_worker, has_worker, in_slot, is_active, is_client, is_mapped, is_used, is_worker, slot_worker, uses}
+use Rattle.sw_rules.specs.Rows.{active_worker_number, changed, client_row, has_pending_worker, has_worker, in_slot, is_active, is_client, is_mapped, is_used, is_worker, slot_worker, uses}
 use Rattle.sw_rules.specs.State.{State, Worker}
 use Rattle.sw_rules.specs.Told.{Told, followed, quiet}
 use Rattle.sw_laws.specs.Coherent.{Coherent, is_controlled, share_slot}
@@ -29,7 +29,7 @@ use Rattle.sw_laws.proofs.WorkerSteps.{cleared}
 -- ---- what a client holds is what it was given
 
 holds_active : (state : State) (number registration : ℕ) (found : Option Worker) → Coherent state → find (is_worker number) state.workers ≡ found → option_map (λ (row : Worker). row.registration) found ≡ Some registration → has_worker (λ row. is_active row.state) state.workers number ≡ true
-    → IsSomeWorker (active_worker state registration) (Some number)
+    → IsSomeWorker (active_worker_number state registration) (Some number)
 holds_active state number registration None sound is owner active = absurd cc
 holds_active state number registration (Some row) sound is owner active =
     let of : row.registration ≡ registration = cc in

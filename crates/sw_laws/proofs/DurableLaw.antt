@@ -12,7 +12,8 @@ use Rattle.sw_data.specs.declared.storage.Kept.{Kept}
 use Rattle.sw_data.specs.declared.workers.Mode.{Mode}
 use Rattle.sw_data.specs.declared.workers.Slot.TheVariants as slot
 use Rattle.sw_rules.specs.Activating.{become_activated, paid}
-use Rattle.sw_rules.specs.Caching.{add_cache, add_task, carry_out, drop_cache, forget_key, is_busy, is_maker, noted_task, settle_task}
+use Rattle.sw_rules.specs.Caching.{add_cache, add_task, carry_out, drop_cache, is_maker, noted_task, settle_task}
+use Rattle.sw_rules.specs.Forgetting.{forget_key, is_busy}
 use Rattle.sw_rules.specs.Calls.{note_call}
 use Rattle.sw_rules.specs.Clients.{add_client, add_event, flagged, new_client, remove_event}
 use Rattle.sw_rules.specs.Installing.{end_handler, kept_worker}
@@ -20,7 +21,7 @@ use Rattle.sw_rules.specs.Jobs.{finish, gets_value, joined_job, promise, schedul
 use Rattle.sw_rules.specs.Matching.{Pair}
 use Rattle.sw_rules.specs.Preloading.{set_preload}
 use Rattle.sw_rules.specs.Registrations.{map_registration, set_mode, unmap}
-use Rattle.sw_rules.specs.Rows.{active_worker, in_slot, is_activated, is_registration, is_worker, maker_worker, mapped_registration, task_row}
+use Rattle.sw_rules.specs.Rows.{active_worker_number, in_slot, is_activated, is_registration, is_worker, maker_worker, mapped_registration, task_row}
 use Rattle.sw_rules.specs.State.{State, Worker, AddAll, Awaited}
 use Rattle.sw_rules.specs.Storage.{applied, is_cache, kept_after}
 use Rattle.sw_rules.specs.Told.{Told, followed, quiet}
@@ -64,7 +65,7 @@ mode_keeps state registration mode sound orderly = (
   mode_rows state registration mode orderly.order,
 )
 
-preload_keeps : (state : State) (registration : ℕ) (on : Bool) (text : List ℕ) → is_some (active_worker state registration) ≡ true → Coherent state → KeepsOrder state (set_preload state registration on text)
+preload_keeps : (state : State) (registration : ℕ) (on : Bool) (text : List ℕ) → is_some (active_worker_number state registration) ≡ true → Coherent state → KeepsOrder state (set_preload state registration on text)
 unfolding set_preload
 preload_keeps state registration on text active sound orderly = (
   record {

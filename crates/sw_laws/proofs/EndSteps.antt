@@ -5,7 +5,7 @@ use Rattle.std.specs.Prelude.{find, is_none, is_some}
 use Rattle.std.specs.Option.{option_map_or}
 use Rattle.std.proofs.lemmas.Bool.Decides.{nat_tests}
 use Rattle.sw_data.specs.declared.rows.JobRow.{JobRow}
-use Rattle.sw_rules.specs.Rows.{has_worker, in_phase, is_activated, is_active, is_installing, is_job, is_number, is_unfinished, is_waiting, job_row}
+use Rattle.sw_rules.specs.Rows.{has_worker, is_in_phase, is_activated, is_active, is_installing, is_job, is_number, is_unfinished, is_waiting, job_row}
 use Rattle.sw_rules.specs.State.{State, Worker}
 use Rattle.sw_laws.specs.Coherent.{Coherent, SoundTasks, has_its_handler, has_its_job, has_its_worker, has_own_registration, has_worker_row, is_being_installed, is_early, is_parsed, share_slot, share_worker}
 use Rattle.sw_laws.proofs.JobMoves.{GoTogether, joined-moved, jobs_of_number, there_of_jobs}
@@ -54,10 +54,10 @@ pub other_number : (n number worker : ℕ) → (n == number) ≡ true → (numbe
 other_number n number worker same free = grind (arith, nat_tests, same, free)
 
 still_installs : (row : JobRow) (worker : ℕ) (w : Worker) (x : JobRow) → (w.number == worker) ≡ false → alone_has row worker x ≡ true
-    → (in_phase is_installing x && is_number x.worker w.number && is_number x.registration w.registration) ≡ true
-    → (in_phase is_installing (finished row.job.number x) && is_number (finished row.job.number x).worker w.number && is_number (finished row.job.number x).registration w.registration) ≡ true
+    → (is_in_phase is_installing x && is_number x.worker w.number && is_number x.registration w.registration) ≡ true
+    → (is_in_phase is_installing (finished row.job.number x) && is_number (finished row.job.number x).worker w.number && is_number (finished row.job.number x).registration w.registration) ≡ true
 still_installs row worker w x other know here =
-    by_test (λ r. (in_phase is_installing r && is_number r.worker w.number && is_number r.registration w.registration) ≡ true) (is_job row.job.number x) _ x
+    by_test (λ r. (is_in_phase is_installing r && is_number r.worker w.number && is_number r.registration w.registration) ≡ true) (is_job row.job.number x) _ x
     (λ same. absurd (grind (arith, nat_tests, same, other, know, here)))
     (λ there. here)
 

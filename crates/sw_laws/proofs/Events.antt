@@ -32,7 +32,8 @@ use Rattle.sw_data.specs.Addresses.{address_of, resolved, same_origin}
 use Rattle.sw_data.specs.Keys.{key_of}
 use Rattle.sw_rules.specs.Activating.{activated, finish_activate, is_owed, paid, pay, tryactivate}
 use Rattle.sw_rules.specs.Batch.{BatchFault, batch}
-use Rattle.sw_rules.specs.Caching.{add_all, add_all_at, add_task, batch_fault, batch_ops, delete_cache, delete_request, fetchable_all, forget, is_busy, match_request, open_cache, pairs_of, parsed_ops, place_key, put_response, query_cache, query_places, run_batch, single_fault, start_task, with_cache_pairs, with_key, with_url}
+use Rattle.sw_rules.specs.Caching.{add_all, add_all_at, add_task, batch_fault, batch_ops, delete_cache, delete_request, fetchable_all, match_request, open_cache, pairs_of, parsed_ops, place_key, put_response, query_cache, query_places, run_batch, single_fault, start_task, with_cache_pairs, with_key, with_url}
+use Rattle.sw_rules.specs.Forgetting.{forget, is_busy}
 use Rattle.sw_rules.specs.Calls.{called, is_next_call, make_call, noted, own_registration, update_own}
 use Rattle.sw_rules.specs.Clients.{await, begin, begin_on, claim_of, close, end, end_event, get_registration, get_registrations, open_at, open_client, ready, ready_registration, remove_event, skip_waiting, with_named, with_slot}
 use Rattle.sw_rules.specs.Installing.{ended_handler}
@@ -40,7 +41,7 @@ use Rattle.sw_rules.specs.Jobs.{promised_value}
 use Rattle.sw_rules.specs.Matching.{Pair, first_match}
 use Rattle.sw_rules.specs.Preloading.{preload_set}
 use Rattle.sw_rules.specs.Registering.{register, soft_update, soft_update_named, unregister, update, update_named, with_client}
-use Rattle.sw_rules.specs.Rows.{active_worker, client_row, event_row, is_active, is_install, is_activating, is_worker, maker_worker, mapped_registration, named_scope, newest_worker, registration_of, registration_row, slot_worker, worker_row}
+use Rattle.sw_rules.specs.Rows.{active_worker_number, client_row, event_row, is_active, is_install, is_activating, is_worker, maker_worker, mapped_registration, named_scope, newest_worker, registration_of, registration_row, slot_worker, worker_row}
 use Rattle.sw_rules.specs.State.{State, Registration, Worker, Handler, of_task}
 use Rattle.sw_rules.specs.Step.{by_host, by_lane, by_page, step}
 use Rattle.sw_rules.specs.Told.{Told, Outcome, followed, quiet}
@@ -312,7 +313,7 @@ module _ (Law Own Ends : State → Told → Type 0) (controls : Bool) {anywhere 
 
   preload_set-law : (state : State) (row : Registration) (on : Bool) (text : List ℕ) → Holds state (preload_set state row on text)
   preload_set-law state row on text =
-      by_test (Holds state) (is_some (active_worker state row.number)) _ _ (λ there. preloading-law anywhere law.preloading state row.number on text there) (λ none. nothing state)
+      by_test (Holds state) (is_some (active_worker_number state row.number)) _ _ (λ there. preloading-law anywhere law.preloading state row.number on text there) (λ none. nothing state)
 
   -- ---- calls
 

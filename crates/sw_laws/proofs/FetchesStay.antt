@@ -16,7 +16,7 @@ use Rattle.sw_rules.specs.Installing.{become_waiting, begin_install, discard, en
 use Rattle.sw_rules.specs.Jobs.{finish, resolve_and_finish, settle}
 use Rattle.sw_rules.specs.Registering.{fetch_script, may_run, unregister_mapped}
 use Rattle.sw_rules.specs.Registrations.{drop_registration, map_registration, set_mode, try_clear, unmap}
-use Rattle.sw_rules.specs.Rows.{in_phase, is_fetching, is_task, job_row}
+use Rattle.sw_rules.specs.Rows.{is_in_phase, is_fetching, is_task, job_row}
 use Rattle.sw_rules.specs.State.{State, Worker, AddAll}
 use Rattle.sw_rules.specs.Step.{state_after, step}
 use Rattle.sw_rules.specs.Told.{Told, Outcome, followed, quiet}
@@ -144,14 +144,14 @@ module _ (jobs tasks : ℕ → Bool) where
   Lasts state told = Coherent state → Stays jobs tasks state told
 
   -- a job that fetches is another than one that doesn't
-  another : (state : State) (row : JobRow) (job : ℕ) → Coherent state → job_row state row.job.number ≡ Some row → in_phase is_fetching row ≡ false → fetches state.jobs job ≡ true → others row.job.number job ≡ true
+  another : (state : State) (row : JobRow) (job : ℕ) → Coherent state → job_row state row.job.number ≡ Some row → is_in_phase is_fetching row ≡ false → fetches state.jobs job ≡ true → others row.job.number job ≡ true
   another state row job sound found idle is =
       by_truth (job == row.job.number)
-      (λ same. absurd (true≢false (sym (found_numbered (λ (x : JobRow). x.job.number) (in_phase is_fetching) state.jobs job row (places_apart (λ (x : JobRow). x.job.number) state.jobs sound.jobs.numbers) (grind (arith, nat_tests, same, found)) is) ∙ idle)))
+      (λ same. absurd (true≢false (sym (found_numbered (λ (x : JobRow). x.job.number) (is_in_phase is_fetching) state.jobs job row (places_apart (λ (x : JobRow). x.job.number) state.jobs sound.jobs.numbers) (grind (arith, nat_tests, same, found)) is) ∙ idle)))
       (λ other. grind (arith, other))
 
   -- what leaves the jobs but one that doesn't fetch leaves all that do
-  spared : (state : State) (row : JobRow) (new : State) → job_row state row.job.number ≡ Some row → in_phase is_fetching row ≡ false → Stay (others row.job.number) tasks state new → Coherent state → Stay jobs tasks state new
+  spared : (state : State) (row : JobRow) (new : State) → job_row state row.job.number ≡ Some row → is_in_phase is_fetching row ≡ false → Stay (others row.job.number) tasks state new → Coherent state → Stay jobs tasks state new
   spared state row new found idle spares sound = record {
     fetching = λ job of is. spares.fetching job (another state row job sound found idle is) is;
     unsettled = spares.unsettled;
@@ -159,7 +159,7 @@ module _ (jobs tasks : ℕ → Bool) where
 
   running : (state : State) (row : JobRow) → job_row state row.job.number ≡ Some row → may_run state row ≡ true → IsRunLaw Lasts state row.job
   running state row found may =
-      let idle : in_phase is_fetching row ≡ false = grind (arith, may) in
+      let idle : is_in_phase is_fetching row ≡ false = grind (arith, may) in
       record {
         ending = λ result. spared state row _ found idle (ended_spares tasks state row.job.number result);
         mapping = λ none. spared state row _ found idle (registered_spares tasks state row.job _);

@@ -10,14 +10,15 @@ use Rattle.sw_data.specs.declared.events.Who.{Who}
 use Rattle.sw_data.specs.declared.events.Who.TheVariants as who
 use Rattle.sw_data.specs.declared.rows.Job.{Job}
 use Rattle.sw_data.specs.declared.rows.JobRow.{JobRow}
-use Rattle.sw_rules.specs.Caching.{add_cache, add_task, carry_out, drop_cache, forget_key}
+use Rattle.sw_rules.specs.Caching.{add_cache, add_task, carry_out, drop_cache}
+use Rattle.sw_rules.specs.Forgetting.{forget_key}
 use Rattle.sw_rules.specs.Calls.{note_call}
 use Rattle.sw_rules.specs.Clients.{add_client, add_event, claim_client, claim_clients, claims, leave, remove_client, remove_event, take_control}
 use Rattle.sw_rules.specs.Jobs.{gets_value, promise, schedule, settle}
 use Rattle.sw_rules.specs.Preloading.{set_preload}
 use Rattle.sw_rules.specs.Registering.{fetch_script}
 use Rattle.sw_rules.specs.Registrations.{activate, clear, drop_registration, map_registration, set_mode, try_clear, unload, unmap}
-use Rattle.sw_rules.specs.Rows.{changed, client_row, has_pending_worker, in_phase, is_fetching, is_job, is_task, is_used, newest_worker}
+use Rattle.sw_rules.specs.Rows.{changed, client_row, has_pending_worker, is_in_phase, is_fetching, is_job, is_task, is_used, newest_worker}
 use Rattle.sw_rules.specs.State.{State, AddAll, Awaited}
 use Rattle.sw_rules.specs.Told.{Told, followed}
 use Rattle.sw_laws.proofs.Lists.{any_changed, by_test}
@@ -27,7 +28,7 @@ use Rattle.sw_laws.proofs.Split.{IsLawBeside, IsRecheckLaw, unload-law}
 
 -- a job of this number fetches
 abbrev pub fetches : List JobRow → ℕ → Bool
-fetches rows job = list_any (λ row. row.job.number == job && in_phase is_fetching row) rows
+fetches rows job = list_any (λ row. row.job.number == job && is_in_phase is_fetching row) rows
 
 -- an addAll of this number has not settled
 abbrev pub is_open : List AddAll → ℕ → Bool
@@ -41,9 +42,9 @@ others number other = not (other == number)
 abbrev pub GoOn : {X : Type 0} → (List X → ℕ → Bool) → (ℕ → Bool) → List X → List X → Type 0
 GoOn has test old new = (number : ℕ) → test number ≡ true → has old number ≡ true → has new number ≡ true
 
-jobs_changed : (jobs : ℕ → Bool) (test : JobRow → Bool) (g : JobRow → JobRow) → ((x : JobRow) (job : ℕ) → jobs job ≡ true → test x ≡ true → (x.job.number == job && in_phase is_fetching x) ≡ true → ((g x).job.number == job && in_phase is_fetching (g x)) ≡ true) → (rows : List JobRow) → GoOn fetches jobs rows (changed test g rows)
+jobs_changed : (jobs : ℕ → Bool) (test : JobRow → Bool) (g : JobRow → JobRow) → ((x : JobRow) (job : ℕ) → jobs job ≡ true → test x ≡ true → (x.job.number == job && is_in_phase is_fetching x) ≡ true → ((g x).job.number == job && is_in_phase is_fetching (g x)) ≡ true) → (rows : List JobRow) → GoOn fetches jobs rows (changed test g rows)
 jobs_changed jobs test g goes rows job of is =
-    any_changed _ _ _ (λ x here. by_test (λ (r : JobRow). (r.job.number == job && in_phase is_fetching r) ≡ true) (test x) _ x (λ passes. goes x job of passes here) (λ other. here)) rows is
+    any_changed _ _ _ (λ x here. by_test (λ (r : JobRow). (r.job.number == job && is_in_phase is_fetching r) ≡ true) (test x) _ x (λ passes. goes x job of passes here) (λ other. here)) rows is
 
 -- a change of the job of a number leaves the others
 pub others_fetch : (number : ℕ) (g : JobRow → JobRow) (rows : List JobRow) → GoOn fetches (others number) rows (changed (is_job number) g rows)
@@ -55,7 +56,7 @@ others_open number g rows task of is =
     any_changed _ _ _ (λ x here. by_test (λ (r : AddAll). (r.number == task && is_none r.settled) ≡ true) (is_task number x) _ x (λ passes. grind (arith, nat_tests, of, passes, here)) (λ other. here)) rows is
 
 jobs_pushed : (jobs : ℕ → Bool) (rows : List JobRow) (new : JobRow) → GoOn fetches jobs rows (rows ++ new ∷ [])
-jobs_pushed jobs rows new job of is = grind (arith, is, list_any-append (λ row. row.job.number == job && in_phase is_fetching row) rows (new ∷ []))
+jobs_pushed jobs rows new job of is = grind (arith, is, list_any-append (λ row. row.job.number == job && is_in_phase is_fetching row) rows (new ∷ []))
 
 tasks_pushed : (tasks : ℕ → Bool) (rows : List AddAll) (new : AddAll) → GoOn is_open tasks rows (rows ++ new ∷ [])
 tasks_pushed tasks rows new task of is = grind (arith, is, list_any-append (λ row. row.number == task && is_none row.settled) rows (new ∷ []))

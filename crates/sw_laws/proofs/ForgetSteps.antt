@@ -7,7 +7,8 @@ use Rattle.std.proofs.lemmas.Bool.{and_parts}
 use Rattle.std.proofs.lemmas.Bool.Decides.{nat_tests}
 use Rattle.sw_data.specs.declared.rows.ClientRow.{ClientRow}
 use Rattle.sw_data.specs.declared.workers.WorkerState.{WorkerState}
-use Rattle.sw_rules.specs.Caching.{forget_key, is_busy, is_mapped_of, is_worker_of_any, is_worker_of_key}
+use Rattle.sw_rules.specs.Caching.{is_worker_of_any}
+use Rattle.sw_rules.specs.Forgetting.{forget_key, is_busy, is_mapped_of, is_worker_of_key}
 use Rattle.sw_rules.specs.Registrations.{clear_state}
 use Rattle.sw_rules.specs.Rows.{has_worker, is_activated, is_active, is_registration, is_unfinished, is_worker, registration_row, worker_row}
 use Rattle.sw_rules.specs.State.{State, Registration, Worker}

@@ -15,7 +15,8 @@ use Rattle.sw_data.specs.declared.workers.Mode.{Mode}
 use Rattle.sw_data.specs.declared.workers.WorkerState.{WorkerState}
 use Rattle.sw_data.specs.declared.workers.WorkerState.TheVariants as worker_state
 use Rattle.sw_rules.specs.Activating.{become_activated, finish_activate}
-use Rattle.sw_rules.specs.Caching.{add_cache, add_task, carry_out, drop_cache, forget_key, is_mapped_of, is_worker_of_any, settle_task}
+use Rattle.sw_rules.specs.Caching.{add_cache, add_task, carry_out, drop_cache, is_worker_of_any, settle_task}
+use Rattle.sw_rules.specs.Forgetting.{forget_key, is_mapped_of}
 use Rattle.sw_rules.specs.Calls.{note_call}
 use Rattle.sw_rules.specs.Clients.{add_client, add_event, claim_client, claim_clients, claims, leave, remove_client, remove_event, take_control}
 use Rattle.sw_rules.specs.Installing.{begin_install, become_waiting, discard, end_handler, ended_handler, fail_install, finish_install, install, install_state, installing, job_worker, make_worker, reject_and_drop, tell_update, throw}

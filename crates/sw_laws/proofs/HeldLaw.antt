@@ -6,7 +6,8 @@ use Rattle.sw_data.specs.declared.events.Who.TheVariants as who
 use Rattle.sw_data.specs.declared.rows.JobRow.{JobRow}
 use Rattle.sw_data.specs.declared.rows.ClientRow.{ClientRow}
 use Rattle.sw_rules.specs.Activating.{become_activated}
-use Rattle.sw_rules.specs.Caching.{add_cache, add_task, carry_out, drop_cache, forget_key, is_mapped_of, is_worker_of_any, settle_task}
+use Rattle.sw_rules.specs.Caching.{add_cache, add_task, carry_out, drop_cache, is_worker_of_any, settle_task}
+use Rattle.sw_rules.specs.Forgetting.{forget_key, is_mapped_of}
 use Rattle.sw_rules.specs.Calls.{note_call}
 use Rattle.sw_rules.specs.Clients.{add_event, remove_event}
 use Rattle.sw_rules.specs.Installing.{begin_install, become_waiting, discard, end_handler, fail_install, finish_install, make_worker, reject_and_drop, tell_update, throw}

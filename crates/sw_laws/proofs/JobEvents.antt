@@ -26,7 +26,7 @@ use Rattle.sw_rules.specs.Installing.{ended_handler, evaluated, evaluated_worker
 use Rattle.sw_rules.specs.Matching.{Pair}
 use Rattle.sw_rules.specs.Registering.{fetch_script, has_script, is_registered, may_run, register_refusal, rejected, run, run_allowed_register, run_job, run_register, run_unregister, run_update, scheduled_by, unregister_mapped}
 use Rattle.sw_rules.specs.Registrations.{clear, drop_registration, map_registration, new_registration, set_mode, try_clear, unmap}
-use Rattle.sw_rules.specs.Rows.{changed, in_phase, is_evaluating, is_fetching, is_install, is_installing, is_job, is_mapped, is_registration, is_mapped_to, is_task, job_row, mapped_registration, task_row}
+use Rattle.sw_rules.specs.Rows.{changed, is_in_phase, is_evaluating, is_fetching, is_install, is_installing, is_job, is_mapped, is_registration, is_mapped_to, is_task, job_row, mapped_registration, task_row}
 use Rattle.sw_rules.specs.State.{State, Registration, Worker, AddAll, Handler, of_job, value}
 use Rattle.sw_rules.specs.Told.{Told, Outcome, followed, quiet}
 use Rattle.sw_laws.specs.Coherent.{is_there}
@@ -134,7 +134,7 @@ module _ (Law : State → Told → Type 0) where
   HoldsIf state outcome = IfSome outcome (Holds state)
 
   registered-law : (state : State) (test : JobPhase → Bool) (act : JobRow → ℕ → Option Outcome) (row : JobRow) (registration : Option ℕ) → row.registration ≡ registration
-      → job_row state row.job.number ≡ Some row → in_phase test row ≡ true
+      → job_row state row.job.number ≡ Some row → is_in_phase test row ≡ true
       → ((registration : ℕ) → IsAt state test row registration → HoldsIf state (act row registration))
       → HoldsIf state (option_and_then (act row) registration)
   registered-law state test act row None is found here acts = tt
@@ -143,10 +143,10 @@ module _ (Law : State → Told → Type 0) where
   -- what happens to a job in a phase, with its registration
   at_phase-law : (state : State) (number : ℕ) (test : JobPhase → Bool) (act : JobRow → ℕ → Option Outcome) (found : Option JobRow) → job_row state number ≡ found
       → ((row : JobRow) (registration : ℕ) → row.job.number ≡ number → IsAt state test row registration → HoldsIf state (act row registration))
-      → HoldsIf state (option_and_then (λ row. option_and_then (act row) row.registration) (option_and_then (λ row. if in_phase test row then Some row else None) found))
+      → HoldsIf state (option_and_then (λ row. option_and_then (act row) row.registration) (option_and_then (λ row. if is_in_phase test row then Some row else None) found))
   at_phase-law state number test act None is acts = tt
   at_phase-law state number test act (Some row) is acts =
-      by_test (λ o. HoldsIf state (option_and_then (λ (row : JobRow). option_and_then (act row) row.registration) o)) (in_phase test row) _ _
+      by_test (λ o. HoldsIf state (option_and_then (λ (row : JobRow). option_and_then (act row) row.registration) o)) (is_in_phase test row) _ _
       (λ here. registered-law state test act row row.registration refl (found_by_own state number row is) here (λ registration. acts row registration (own_number state number row is)))
       (λ no_phase. tt)
 

@@ -5,7 +5,7 @@ use Rattle.std.specs.Prelude.{find, is_some}
 use Rattle.std.proofs.lemmas.Bool.Decides.{nat_tests}
 use Rattle.sw_data.specs.declared.rows.Job.{Job}
 use Rattle.sw_data.specs.declared.rows.JobRow.{JobRow}
-use Rattle.sw_rules.specs.Rows.{in_phase, is_installing, is_job, is_number, is_waiting}
+use Rattle.sw_rules.specs.Rows.{is_in_phase, is_installing, is_job, is_number, is_waiting}
 use Rattle.sw_rules.specs.State.{Registration, Worker, Awaited, AddAll, value, of_job, of_task}
 use Rattle.sw_laws.specs.Coherent.{ArePlaces, HasLeadersValue, HasValueOf, SoundJobs, SoundWork, apart, has_its_worker, has_own_registration, has_worker_row, is_being_installed, is_early, is_settled_phase, is_there, share_worker}
 use Rattle.sw_laws.proofs.Lists.{all_weaker, find_changed, find_passes}
@@ -70,7 +70,7 @@ module _ (g : JobRow → JobRow) (keeps : KeepsJob g) (known : JobRow → Bool) 
       → ((x : JobRow) → known x ≡ true → has_own_registration registrations x ≡ true → has_own_registration registrations (g x) ≡ true)
       → ((x : JobRow) → known x ≡ true → has_worker_row workers x ≡ true → has_worker_row workers (g x) ≡ true)
       → ((x : JobRow) → known x ≡ true → has_its_worker workers x ≡ true → has_its_worker workers (g x) ≡ true)
-      → ((x : JobRow) (worker registration : ℕ) → known x ≡ true → (in_phase is_installing x && is_number x.worker worker && is_number x.registration registration) ≡ true → (in_phase is_installing (g x) && is_number (g x).worker worker && is_number (g x).registration registration) ≡ true)
+      → ((x : JobRow) (worker registration : ℕ) → known x ≡ true → (is_in_phase is_installing x && is_number x.worker worker && is_number x.registration registration) ≡ true → (is_in_phase is_installing (g x) && is_number (g x).worker worker && is_number (g x).registration registration) ≡ true)
       → SoundWork registrations workers rows → SoundWork registrations workers (map g rows)
   work-of-jobs registrations workers keys made phases installs sound = record {
     keys = all_known known _ _ g keys rows knows sound.keys;

@@ -19,7 +19,8 @@ use Rattle.sw_data.specs.declared.storage.KeptCache.{KeptCache}
 use Rattle.sw_data.specs.declared.workers.Mode.{Mode}
 use Rattle.sw_rules.specs.Activating.{become_activated}
 use Rattle.sw_rules.specs.Batch.{batch}
-use Rattle.sw_rules.specs.Caching.{add_cache, add_task, carry_out, drop_cache, forget_key, pairs_of, settle_task, with_pairs}
+use Rattle.sw_rules.specs.Caching.{add_cache, add_task, carry_out, drop_cache, pairs_of, settle_task, with_pairs}
+use Rattle.sw_rules.specs.Forgetting.{forget_key}
 use Rattle.sw_rules.specs.Calls.{note_call}
 use Rattle.sw_rules.specs.Clients.{add_client, add_event, claim_client, claim_clients, claims, leave, remove_client, remove_event, take_control}
 use Rattle.sw_rules.specs.Installing.{begin_install, become_waiting, kept_worker, discard, end_handler, fail_install, finish_install, make_worker, reject_and_drop, tell_update, throw}

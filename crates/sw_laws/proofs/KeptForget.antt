@@ -5,7 +5,8 @@ use Rattle.std.specs.Prelude.{bytes_eq, option_and_then}
 use Rattle.std.proofs.lemmas.Bool.Decides.{nat_tests}
 use Rattle.sw_data.specs.Sameness.{same_truth}
 use Rattle.sw_data.specs.declared.storage.KeptRegistration.{KeptRegistration}
-use Rattle.sw_rules.specs.Caching.{forget_key, is_mapped_of, is_worker_of_any}
+use Rattle.sw_rules.specs.Caching.{is_worker_of_any}
+use Rattle.sw_rules.specs.Forgetting.{forget_key, is_mapped_of}
 use Rattle.sw_rules.specs.Registrations.{clear_state}
 use Rattle.sw_rules.specs.State.{State, Registration, Worker}
 use Rattle.sw_laws.specs.Coherent.{SoundRegistrations, apart}

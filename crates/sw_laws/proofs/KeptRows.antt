@@ -20,7 +20,7 @@ use Rattle.sw_rules.specs.Installing.{first_counter}
 use Rattle.sw_rules.specs.Jobs.{same_mode}
 use Rattle.sw_rules.specs.Preloading.{has_preload, set_preload}
 use Rattle.sw_rules.specs.Registrations.{map_registration, new_registration, set_mode, unmap}
-use Rattle.sw_rules.specs.Rows.{active_worker, changed, in_slot, is_number, is_registration, registration_row}
+use Rattle.sw_rules.specs.Rows.{active_worker_number, changed, in_slot, is_number, is_registration, registration_row}
 use Rattle.sw_rules.specs.State.{State, Registration, Worker}
 use Rattle.sw_rules.specs.Storage.{applied, kept_after}
 use Rattle.sw_rules.specs.Told.{kept_change}
@@ -136,7 +136,7 @@ active_seen workers registration is = grind (arith, is)
 placed_fresh : (x : Registration) (on : Bool) (text : List ℕ) (worked : Bool) → (not x.mapped || same_truth (is_some x.first) worked) ≡ true → worked ≡ true → is_fresh (record x { preload = on; preload_value = text }) ≡ true
 placed_fresh x on text worked placed is = grind (arith, placed, is)
 
-pub preload_ordered : (state : State) (registration : ℕ) (on : Bool) (text : List ℕ) → is_some (active_worker state registration) ≡ true → SoundRegistrations (set_preload state registration on text).state.registrations → Ordered state.registrations state.workers → Ordered (set_preload state registration on text).state.registrations state.workers
+pub preload_ordered : (state : State) (registration : ℕ) (on : Bool) (text : List ℕ) → is_some (active_worker_number state registration) ≡ true → SoundRegistrations (set_preload state registration on text).state.registrations → Ordered state.registrations state.workers → Ordered (set_preload state registration on text).state.registrations state.workers
 unfolding set_preload
 preload_ordered state registration on text active sound order =
     let worked = active_seen state.workers registration active in

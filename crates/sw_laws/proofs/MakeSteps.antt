@@ -10,7 +10,7 @@ use Rattle.sw_data.specs.declared.recordings.Fetched.{Fetched}
 use Rattle.sw_data.specs.declared.rows.JobPhase.TheVariants as job_phase
 use Rattle.sw_data.specs.declared.rows.JobRow.{JobRow}
 use Rattle.sw_rules.specs.Installing.{made_worker, make_worker}
-use Rattle.sw_rules.specs.Rows.{has_worker, in_phase, is_activated, is_active, is_fetching, is_installing, is_job, is_number, is_unfinished, is_waiting, maker_worker}
+use Rattle.sw_rules.specs.Rows.{has_worker, is_in_phase, is_activated, is_active, is_fetching, is_installing, is_job, is_number, is_unfinished, is_waiting, maker_worker}
 use Rattle.sw_rules.specs.State.{State, Registration, Worker}
 use Rattle.sw_laws.specs.Coherent.{Coherent, SoundWork, has_its_worker, has_own_registration, has_worker_row, is_being_installed, is_early, is_of_key, is_parsed, is_place, is_running, is_settled_phase, share_slot, share_worker}
 use Rattle.sw_laws.proofs.JobMoves.{GoTogether, KeepsJob, jobs-moved, jobs_of_number, there_of_jobs, work-of-jobs}
@@ -173,7 +173,7 @@ module _ (state : State) (row : JobRow) (registration : ℕ) (script : Fetched) 
         (λ x a is. either_way (λ r. has_own_registration state.registrations r ≡ true) (is_job row.job.number x) _ x is is)
         (λ x a is. either_way (λ r. has_worker_row after r ≡ true) (is_job row.job.number x) _ x (place_new state.workers new) is)
         (λ x a is. by_test (λ r. has_its_worker after r ≡ true) (is_job row.job.number x) _ x (new_fits x a) (λ other. is))
-        (λ x worker number a is. by_test (λ r. (in_phase is_installing r && is_number r.worker worker && is_number r.registration number) ≡ true) (is_job row.job.number x) _ x (λ here. absurd (grind (arith, here, a, is))) (λ other. is))
+        (λ x worker number a is. by_test (λ r. (is_in_phase is_installing r && is_number r.worker worker && is_number r.registration number) ≡ true) (is_job row.job.number x) _ x (λ here. absurd (grind (arith, here, a, is))) (λ other. is))
         work_pushed;
     tasks = record {
       numbers = sound.tasks.numbers;

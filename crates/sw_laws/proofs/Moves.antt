@@ -5,7 +5,7 @@ use Rattle.std.specs.Prelude.{find, is_some}
 use Rattle.std.proofs.lemmas.Bool.Decides.{nat_tests}
 use Rattle.sw_data.specs.declared.rows.ClientRow.{ClientRow}
 use Rattle.sw_data.specs.declared.rows.JobRow.{JobRow}
-use Rattle.sw_rules.specs.Rows.{has_worker, in_phase, is_activated, is_active, is_evaluating, is_installing, is_number, is_unfinished, is_waiting, is_worker, maker_worker}
+use Rattle.sw_rules.specs.Rows.{has_worker, is_in_phase, is_activated, is_active, is_evaluating, is_installing, is_number, is_unfinished, is_waiting, is_worker, maker_worker}
 use Rattle.sw_rules.specs.State.{Registration, Worker, AddAll, FetchEvent}
 use Rattle.sw_laws.specs.Coherent.{SoundClients, SoundEvents, SoundTasks, SoundWork, SoundWorkers, ArePlaces, has_its_handler, has_its_job, has_made, is_being_installed, is_of_key, is_parsed, is_running, is_secured, share_slot}
 use Rattle.sw_laws.proofs.Lists.{all_weaker, where_there}
@@ -24,8 +24,8 @@ still_job jobs row new number registration back here = rw (number, registration)
 
 -- the worker of a job stays in its phase
 pub weaker_phases : (job : JobRow) (parsed installing now_parsed now_installing : Bool) → (parsed ≡ true → now_parsed ≡ true) → (installing ≡ true → now_installing ≡ true)
-    → ((not (is_unfinished job) || is_waiting job.phase || is_some job.registration) && (not (in_phase is_evaluating job) || parsed) && (not (in_phase is_installing job) || installing)) ≡ true
-    → ((not (is_unfinished job) || is_waiting job.phase || is_some job.registration) && (not (in_phase is_evaluating job) || now_parsed) && (not (in_phase is_installing job) || now_installing)) ≡ true
+    → ((not (is_unfinished job) || is_waiting job.phase || is_some job.registration) && (not (is_in_phase is_evaluating job) || parsed) && (not (is_in_phase is_installing job) || installing)) ≡ true
+    → ((not (is_unfinished job) || is_waiting job.phase || is_some job.registration) && (not (is_in_phase is_evaluating job) || now_parsed) && (not (is_in_phase is_installing job) || now_installing)) ≡ true
 weaker_phases job parsed installing now_parsed now_installing one other is = grind (arith, one, other, is)
 
 module _ (f : Worker → Worker) (keeps : Keeps f) (known : Worker → Bool) (rows : List Worker) (knows : list_all known rows ≡ true) where

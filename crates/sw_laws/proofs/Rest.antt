@@ -9,7 +9,7 @@ use Rattle.sw_data.specs.declared.histories.Task.{Task}
 use Rattle.sw_data.specs.declared.histories.Task.TheVariants as task
 use Rattle.sw_data.specs.declared.rows.JobRow.{JobRow}
 use Rattle.sw_rules.specs.Registering.{may_run}
-use Rattle.sw_rules.specs.Rows.{free_handler, has_worker, in_phase, is_evaluating, is_fetching, is_first, is_install, is_installing, is_number, is_unfinished, is_unsettled_of, worker_row}
+use Rattle.sw_rules.specs.Rows.{free_handler, has_worker, is_in_phase, is_evaluating, is_fetching, is_first, is_install, is_installing, is_number, is_unfinished, is_unsettled_of, worker_row}
 use Rattle.sw_rules.specs.State.{State, Registration, Worker, AddAll, Handler}
 use Rattle.sw_rules.specs.Tasks.{activates, add_all_fetches, evaluations, installs, may_activate, may_install, ready_tasks, runs, script_fetches, try_activates}
 use Rattle.sw_laws.specs.Coherent.{Coherent, apart, has_its_handler, has_its_job, has_its_worker, is_being_installed}
@@ -65,7 +65,7 @@ first_of_all jobs row is =
     grind (arith, nat_tests, found)
 
 none_unfinished : (state : State) (o : Option JobRow) → find is_unfinished state.jobs ≡ o
-    → list_any (may_run state) state.jobs ≡ false → list_any (in_phase is_fetching) state.jobs ≡ false → list_any (in_phase is_evaluating) state.jobs ≡ false → list_any (in_phase is_installing) state.jobs ≡ false
+    → list_any (may_run state) state.jobs ≡ false → list_any (is_in_phase is_fetching) state.jobs ≡ false → list_any (is_in_phase is_evaluating) state.jobs ≡ false → list_any (is_in_phase is_installing) state.jobs ≡ false
     → list_any is_unfinished state.jobs ≡ false
 none_unfinished state None is waiting fetching evaluating installing = any_from_find is_unfinished state.jobs is
 none_unfinished state (Some row) is waiting fetching evaluating installing =
@@ -74,9 +74,9 @@ none_unfinished state (Some row) is waiting fetching evaluating installing =
       first_of_all state.jobs row is,
       find_passes is_unfinished state.jobs row is,
       find_any is_unfinished (may_run state) state.jobs row is,
-      find_any is_unfinished (in_phase is_fetching) state.jobs row is,
-      find_any is_unfinished (in_phase is_evaluating) state.jobs row is,
-      find_any is_unfinished (in_phase is_installing) state.jobs row is,
+      find_any is_unfinished (is_in_phase is_fetching) state.jobs row is,
+      find_any is_unfinished (is_in_phase is_evaluating) state.jobs row is,
+      find_any is_unfinished (is_in_phase is_installing) state.jobs row is,
     )
 
 same_any : {X : Type 0} (known p q : X → Bool) → ((x : X) → known x ≡ true → p x ≡ true → q x ≡ true) → (xs : List X) → list_all known xs ≡ true → list_any p xs ≡ true → list_any q xs ≡ true
@@ -134,18 +134,18 @@ module _ (state : State) (sound : Coherent state) (empty : AreEmpty state) where
   unlisted p f is = none_of_all p state.jobs (all_unlisted p state.jobs (none_mapped (λ (row : JobRow). row.job.number) (filter p state.jobs) (none_mapped f (map (λ row. row.job.number) (filter p state.jobs)) is)))
 
   -- no job installs
-  job_idle : (row : JobRow) → has_its_worker state.workers row ≡ true → not (may_install state row) ≡ true → not (in_phase is_installing row) ≡ true
+  job_idle : (row : JobRow) → has_its_worker state.workers row ≡ true → not (may_install state row) ≡ true → not (is_in_phase is_installing row) ≡ true
   job_idle row fits none =
-      either_phase (in_phase is_installing row) (λ here. absurd (true≢false (sym (goes_on_by row.worker row.registration (grind (arith, fits, here))) ∙ not_both here none)))
+      either_phase (is_in_phase is_installing row) (λ here. absurd (true≢false (sym (goes_on_by row.worker row.registration (grind (arith, fits, here))) ∙ not_both here none)))
 
-  none_installing : list_any (in_phase is_installing) state.jobs ≡ false
+  none_installing : list_any (is_in_phase is_installing) state.jobs ≡ false
   none_installing =
-      none_of_all (in_phase is_installing) state.jobs
+      none_of_all (is_in_phase is_installing) state.jobs
       (all_weaker _ _ (λ row is. let parts = and_parts _ _ is in job_idle row parts.0 parts.1) state.jobs
       (all_both _ _ state.jobs sound.work.phases (all_unlisted (may_install state) state.jobs (none_mapped (λ (row : JobRow). row.job.number) (filter (may_install state) state.jobs) (none_mapped task.Install _ empty.installs)))))
 
   none_left : list_any is_unfinished state.jobs ≡ false
-  none_left = none_unfinished state (find is_unfinished state.jobs) refl (unlisted (may_run state) task.Run empty.runs) (unlisted (in_phase is_fetching) task.Fetch empty.fetches) (unlisted (in_phase is_evaluating) task.Evaluate empty.evaluations) none_installing
+  none_left = none_unfinished state (find is_unfinished state.jobs) refl (unlisted (may_run state) task.Run empty.runs) (unlisted (is_in_phase is_fetching) task.Fetch empty.fetches) (unlisted (is_in_phase is_evaluating) task.Evaluate empty.evaluations) none_installing
 
   abbrev runs_activate : Worker → Bool
   runs_activate w = option_map_or (λ (h : Handler). not (is_install h.phase)) w.handler false
@@ -161,7 +161,7 @@ module _ (state : State) (sound : Coherent state) (empty : AreEmpty state) where
   handler_idle w there none has job =
       no_handler w has
       (λ activate. true≢false (sym (goes_on (λ h. not (is_install h.phase)) w.number (worker_row state w.number) refl (grind (arith, there, activate))) ∙ false_of none))
-      (λ installing. true≢false (sym (any_weaker (λ row. in_phase is_installing row && is_number row.worker w.number && is_number row.registration w.registration) (in_phase is_installing) (λ row here. grind (arith, here)) state.jobs (grind (arith, job, installing))) ∙ none_installing))
+      (λ installing. true≢false (sym (any_weaker (λ row. is_in_phase is_installing row && is_number row.worker w.number && is_number row.registration w.registration) (is_in_phase is_installing) (λ row here. grind (arith, here)) state.jobs (grind (arith, job, installing))) ∙ none_installing))
 
   pub no_work : HasNoWork state
   no_work = record {

@@ -19,7 +19,7 @@ use Rattle.sw_rules.specs.Clients.{add_client, add_event, new_client, remove_cli
 use Rattle.sw_rules.specs.Jobs.{promise}
 use Rattle.sw_rules.specs.Matching.{Pair, Scope, holds_address, longer, longest}
 use Rattle.sw_rules.specs.Registrations.{left_by}
-use Rattle.sw_rules.specs.Rows.{active_worker, client_row, event_row, has_worker, in_slot, is_activated, is_activating, is_active, is_client, is_event, is_promise, is_worker, maker_worker, mapped_scopes, matched_registration, slot_worker, without, worker_row}
+use Rattle.sw_rules.specs.Rows.{active_worker_number, client_row, event_row, has_worker, in_slot, is_activated, is_activating, is_active, is_client, is_event, is_promise, is_worker, maker_worker, mapped_scopes, matched_registration_number, slot_worker, without, worker_row}
 use Rattle.sw_rules.specs.State.{State, Registration, Worker, Awaited, AddAll, value, of_job, of_task}
 use Rattle.sw_rules.specs.Storage.{is_cache}
 use Rattle.sw_laws.specs.Coherent.{Coherent, apart, is_controlled, is_of_key, is_running, is_secured, is_there, same_cache, same_client, same_event}
@@ -61,7 +61,7 @@ scope_key rows key url (Some scope) registration got is =
     (subst (λ n. list_any (λ (row : Registration). row.number == n && bytes_eq row.key scope.key) rows ≡ true) number parts.1)
 
 -- the registration that an address of a key matches has this key
-pub matched_key : (state : State) (key url : List ℕ) (registration : ℕ) → matched_registration state key url ≡ Some registration → list_any (λ row. row.number == registration && bytes_eq row.key key) state.registrations ≡ true
+pub matched_key : (state : State) (key url : List ℕ) (registration : ℕ) → matched_registration_number state key url ≡ Some registration → list_any (λ row. row.number == registration && bytes_eq row.key key) state.registrations ≡ true
 matched_key state key url registration is =
     scope_key state.registrations key url (longest (mapped_scopes state) key url) registration is
     (longest_passes (λ scope. holds_address key url scope && stands_for state.registrations scope) (filter (holds_address key url) (mapped_scopes state)) None
@@ -118,23 +118,23 @@ slot_controls state registration key (Some worker) number is got keyed =
           (and_from _ _ (grind (arith, nat_tests, same)) (subst (λ n. list_any (λ (row : Registration). row.number == n && bytes_eq row.key key) state.registrations ≡ true) (sym of) keyed)),
     )
 
-opened : (state : State) (key url : List ℕ) (matched : Option ℕ) (controller : Option ℕ) → matched_registration state key url ≡ matched → option_and_then (active_worker state) matched ≡ controller
+opened : (state : State) (key url : List ℕ) (matched : Option ℕ) (controller : Option ℕ) → matched_registration_number state key url ≡ matched → option_and_then (active_worker_number state) matched ≡ controller
     → (option_map_or (has_worker (λ row. is_active row.state) state.workers) controller true ≡ true) × (option_map_or (has_worker (is_of_key state.registrations key) state.workers) controller true ≡ true)
 opened state key url matched None is got = (refl, refl)
 opened state key url None (Some number) is got = absurd cc
 opened state key url (Some registration) (Some number) is got =
     slot_controls state registration key (slot_worker state slot.Active registration) number refl got (matched_key state key url registration is)
 
-new_controlled : (state : State) (key url : List ℕ) (trusted : Bool) → option_map_or (has_worker (λ row. is_active row.state) state.workers) (if trusted then option_and_then (active_worker state) (matched_registration state key url) else None) true ≡ true
-new_controlled state key url true = (opened state key url (matched_registration state key url) (option_and_then (active_worker state) (matched_registration state key url)) refl refl).0
+new_controlled : (state : State) (key url : List ℕ) (trusted : Bool) → option_map_or (has_worker (λ row. is_active row.state) state.workers) (if trusted then option_and_then (active_worker_number state) (matched_registration_number state key url) else None) true ≡ true
+new_controlled state key url true = (opened state key url (matched_registration_number state key url) (option_and_then (active_worker_number state) (matched_registration_number state key url)) refl refl).0
 new_controlled state key url false = refl
 
 both_there : {A : Type 0} (p : A → Bool) (o : Option A) → option_map_or p o true ≡ true → option_map_or (λ a. true && p a) o true ≡ true
 both_there p None is = refl
 both_there p (Some a) is = is
 
-new_secured : (state : State) (key url : List ℕ) (trusted : Bool) → option_map_or (λ number. trusted && has_worker (is_of_key state.registrations key) state.workers number) (if trusted then option_and_then (active_worker state) (matched_registration state key url) else None) true ≡ true
-new_secured state key url true = both_there (has_worker (is_of_key state.registrations key) state.workers) (option_and_then (active_worker state) (matched_registration state key url)) (opened state key url (matched_registration state key url) (option_and_then (active_worker state) (matched_registration state key url)) refl refl).1
+new_secured : (state : State) (key url : List ℕ) (trusted : Bool) → option_map_or (λ number. trusted && has_worker (is_of_key state.registrations key) state.workers number) (if trusted then option_and_then (active_worker_number state) (matched_registration_number state key url) else None) true ≡ true
+new_secured state key url true = both_there (has_worker (is_of_key state.registrations key) state.workers) (option_and_then (active_worker_number state) (matched_registration_number state key url)) (opened state key url (matched_registration_number state key url) (option_and_then (active_worker_number state) (matched_registration_number state key url)) refl refl).1
 new_secured state key url false = refl
 
 pub no_option : {A : Type 0} (o : Option A) → is_some o ≡ false → o ≡ None

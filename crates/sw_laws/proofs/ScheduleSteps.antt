@@ -9,7 +9,7 @@ use Rattle.std.proofs.lemmas.List.Folds.{find-append, list_any-append}
 use Rattle.sw_data.specs.declared.rows.Job.{Job}
 use Rattle.sw_data.specs.declared.rows.JobRow.{JobRow}
 use Rattle.sw_rules.specs.Jobs.{is_equivalent, joined_job, new_job_row, schedule}
-use Rattle.sw_rules.specs.Rows.{in_phase, is_installing, is_job, is_number, is_unfinished, is_waiting, last_job}
+use Rattle.sw_rules.specs.Rows.{is_in_phase, is_installing, is_job, is_number, is_unfinished, is_waiting, last_job}
 use Rattle.sw_rules.specs.State.{State, Worker, Awaited, AddAll, value, of_job, of_task}
 use Rattle.sw_laws.specs.Coherent.{Coherent, HasLeadersValue, HasValueOf, apart, has_its_job, has_its_worker, is_early, is_there, share_worker}
 use Rattle.sw_laws.proofs.Lists.{all_weaker, by_test, found_clear}
@@ -119,7 +119,7 @@ there_pushed jobs new tasks (of_task task) is = is
 
 its_job_pushed : (jobs : List JobRow) (new : JobRow) (worker : Worker) → has_its_job jobs worker ≡ true → has_its_job (jobs ++ new ∷ []) worker ≡ true
 its_job_pushed jobs new worker is =
-    grind (arith, is, list_any-append (λ row. in_phase is_installing row && is_number row.worker worker.number && is_number row.registration worker.registration) jobs (new ∷ []))
+    grind (arith, is, list_any-append (λ row. is_in_phase is_installing row && is_number row.worker worker.number && is_number row.registration worker.registration) jobs (new ∷ []))
 
 never_early : (job : Job) (leader : Option ℕ) (row : JobRow) → not (is_early row (new_job_row job leader)) ≡ true
 never_early job leader row = grind arith

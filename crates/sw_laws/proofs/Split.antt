@@ -20,7 +20,8 @@ use Rattle.sw_data.specs.declared.rows.JobRow.{JobRow}
 use Rattle.sw_data.specs.declared.workers.Mode.{Mode}
 use Rattle.sw_rules.specs.Activating.{activated, become_activated, is_owed, paid}
 use Rattle.sw_rules.specs.Batch.{batch}
-use Rattle.sw_rules.specs.Caching.{add_cache, add_task, added, carry_out, drop_cache, forget_key, is_busy, pairs_of, settle_task}
+use Rattle.sw_rules.specs.Caching.{add_cache, add_task, added, carry_out, drop_cache, pairs_of, settle_task}
+use Rattle.sw_rules.specs.Forgetting.{forget_key, is_busy}
 use Rattle.sw_rules.specs.Calls.{note_call}
 use Rattle.sw_rules.specs.Clients.{add_client, add_event, claim_clients, flagged, leave, new_client, remove_event}
 use Rattle.sw_rules.specs.Installing.{begin_install, end_handler, ended_handler, evaluated, fail_install, fetched, finish_install, installed, job_worker, make_worker, reject_and_drop, tell_update, throw}
@@ -29,7 +30,7 @@ use Rattle.sw_rules.specs.Matching.{Pair}
 use Rattle.sw_rules.specs.Preloading.{set_preload}
 use Rattle.sw_rules.specs.Registering.{fetch_script, may_run, run}
 use Rattle.sw_rules.specs.Registrations.{activate, chosen, clear, left_by, map_registration, recheck, release, set_mode, try_activate, try_clear, unload, unmap}
-use Rattle.sw_rules.specs.Rows.{active_worker, client_row, event_row, has_pending_worker, has_worker, in_phase, is_activating, is_active, is_evaluating, is_fetching, is_install, is_installing, is_mapped, is_used, job_row, maker_worker, mapped_registration, task_row, worker_row}
+use Rattle.sw_rules.specs.Rows.{active_worker_number, client_row, event_row, has_pending_worker, has_worker, is_in_phase, is_activating, is_active, is_evaluating, is_fetching, is_install, is_installing, is_mapped, is_used, job_row, maker_worker, mapped_registration, task_row, worker_row}
 use Rattle.sw_rules.specs.State.{State, Registration, Worker, Awaited, Handler}
 use Rattle.sw_rules.specs.Told.{Told, followed, quiet}
 use Rattle.sw_laws.specs.Coherent.{is_running, is_settled_phase, is_there}
@@ -56,7 +57,7 @@ may_settle state task = option_map_or (λ row. is_none row.settled) (task_row st
 -- the row of a job in a phase, with its registration
 pub record IsAt (state : State) (test : JobPhase → Bool) (row : JobRow) (registration : ℕ) : Type 0 where
   pub found : job_row state row.job.number ≡ Some row
-  pub phase : in_phase test row ≡ true
+  pub phase : is_in_phase test row ≡ true
   pub registered : row.registration ≡ Some registration
 
 -- the worker that such a job made, with its handler at its end
@@ -113,7 +114,7 @@ LeavesMap false Law = IsLeavingLaw Law
 -- a law of a registration that gets a preload: anywhere, or only where it has an active worker
 abbrev pub GetsPreload : Bool → (State → Told → Type 0) → Type 0
 GetsPreload true Law = (state : State) (registration : ℕ) (on : Bool) (text : List ℕ) → Law state (set_preload state registration on text)
-GetsPreload false Law = (state : State) (registration : ℕ) (on : Bool) (text : List ℕ) → is_some (active_worker state registration) ≡ true → Law state (set_preload state registration on text)
+GetsPreload false Law = (state : State) (registration : ℕ) (on : Bool) (text : List ℕ) → is_some (active_worker_number state registration) ≡ true → Law state (set_preload state registration on text)
 
 -- a law of all events: it holds of each least step, under the tests under which the step is taken; what gives a client
 -- a controller that it hadn't is asked for only where that counts, a registration leaves the map and gets a preload

@@ -10,7 +10,7 @@ use Rattle.sw_data.specs.declared.answers.Settlement.{Settlement}
 use Rattle.sw_data.specs.declared.rows.Job.{Job}
 use Rattle.sw_data.specs.declared.rows.JobRow.{JobRow}
 use Rattle.sw_data.specs.declared.rows.JobPhase.TheVariants as job_phase
-use Rattle.sw_rules.specs.Caching.{is_busy, is_mapped_of, is_worker_of_key}
+use Rattle.sw_rules.specs.Forgetting.{is_busy, is_mapped_of, is_worker_of_key}
 use Rattle.sw_rules.specs.Jobs.{new_job_row}
 use Rattle.sw_rules.specs.Registering.{may_run}
 use Rattle.sw_rules.specs.Rows.{changed, first_job, is_job, is_mapped_to, is_number, is_registration, is_unfinished, is_waiting, job_row, mapped_registration}

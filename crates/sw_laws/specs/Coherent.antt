@@ -9,7 +9,7 @@ use Rattle.sw_data.specs.declared.rows.JobRow.{JobRow}
 use Rattle.sw_data.specs.declared.storage.KeptCache.{KeptCache}
 use Rattle.sw_data.specs.declared.workers.WorkerState.{WorkerState}
 use Rattle.sw_data.specs.declared.workers.WorkerState.TheVariants as worker_state
-use Rattle.sw_rules.specs.Rows.{has_worker, in_phase, is_activated, is_activating, is_active, is_evaluating, is_install, is_installing, is_job, is_number, is_unfinished, is_waiting, maker_worker}
+use Rattle.sw_rules.specs.Rows.{has_worker, is_in_phase, is_activated, is_activating, is_active, is_evaluating, is_install, is_installing, is_job, is_number, is_unfinished, is_waiting, maker_worker}
 use Rattle.sw_rules.specs.State.{State, Registration, Worker, Awaited, AddAll, FetchEvent, value, of_job, of_task}
 use Rattle.sw_rules.specs.Storage.{is_cache}
 
@@ -134,15 +134,15 @@ has_made test workers row =
 abbrev pub has_its_worker : List Worker → JobRow → Bool
 has_its_worker workers row =
     (not (is_unfinished row) || is_waiting row.phase || is_some row.registration)
-    && (not (in_phase is_evaluating row) || has_made is_parsed workers row)
-    && (not (in_phase is_installing row) || has_made is_being_installed workers row)
+    && (not (is_in_phase is_evaluating row) || has_made is_parsed workers row)
+    && (not (is_in_phase is_installing row) || has_made is_being_installed workers row)
 
 -- a worker that installs is the one of a job that installs
 abbrev pub has_its_job : List JobRow → Worker → Bool
 has_its_job jobs worker =
     not (is_being_installed worker)
     || list_any
-    (λ row. in_phase is_installing row && is_number row.worker worker.number && is_number row.registration worker.registration)
+    (λ row. is_in_phase is_installing row && is_number row.worker worker.number && is_number row.registration worker.registration)
     jobs
 
 -- the worker of a job is there

@@ -19,7 +19,7 @@ use Rattle.sw_rules.specs.Durable as kept
 use Rattle.sw_rules.specs.History.{Controlled, Legal, after, moved}
 use Rattle.sw_rules.specs.Jobs.{awaited_value}
 use Rattle.sw_rules.specs.Restart.{restart}
-use Rattle.sw_rules.specs.Rows.{in_phase, is_fetching, is_unfinished, is_worker, job_row, mapped_registration, registration_row, worker_row}
+use Rattle.sw_rules.specs.Rows.{is_in_phase, is_fetching, is_unfinished, is_worker, job_row, mapped_registration, registration_row, worker_row}
 use Rattle.sw_rules.specs.State.{State, Worker, Awaited, of_job}
 use Rattle.sw_rules.specs.Step.{Step, changes_of, state_after}
 use Rattle.sw_rules.specs.Storage.{IsMade, applied, kept_after}
@@ -110,7 +110,7 @@ ends_add_all task _ = false
 
 -- a job of this number fetches
 abbrev pub is_fetching_job : State → ℕ → Bool
-is_fetching_job state job = list_any (λ row. row.job.number == job && in_phase is_fetching row) state.jobs
+is_fetching_job state job = list_any (λ row. row.job.number == job && is_in_phase is_fetching row) state.jobs
 
 -- an addAll of this number has not settled
 abbrev pub is_open_task : State → ℕ → Bool

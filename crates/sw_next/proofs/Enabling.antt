@@ -23,7 +23,7 @@ use Rattle.sw_rules.specs.Caching.{added, task_ended}
 use Rattle.sw_rules.specs.Clients.{await, begin}
 use Rattle.sw_rules.specs.Installing.{ended_handler, evaluated, evaluated_worker, fetch_ended, fetched, fetched_of, install_ended, installed, job_worker}
 use Rattle.sw_rules.specs.Registering.{may_run, run, run_job}
-use Rattle.sw_rules.specs.Rows.{in_phase, is_evaluating, is_fetching, is_install, is_installing, is_registration, job_row, registration_row, task_row, worker_row}
+use Rattle.sw_rules.specs.Rows.{is_in_phase, is_evaluating, is_fetching, is_install, is_installing, is_registration, job_row, registration_row, task_row, worker_row}
 use Rattle.sw_rules.specs.State.{State, AddAll, Registration, Worker}
 use Rattle.sw_rules.specs.Step.{by_lane, enabled, step}
 use Rattle.sw_rules.specs.Told.{Outcome}
@@ -71,22 +71,22 @@ runs_where state job = by (job_row state job)
 
 -- the fetch of a job ends where it is in flight
 pub fetched_where : (state : State) (job : ℕ) (line : Option FetchLine)
-    → option_map_or (λ row. in_phase is_fetching row && is_some row.registration) (job_row state job) false ≡ is_some (fetched state job line)
+    → option_map_or (λ row. is_in_phase is_fetching row && is_some row.registration) (job_row state job) false ≡ is_some (fetched state job line)
 fetched_where state job line = by (job_row state job)
   where
     ended : JobRow → Option Outcome
     ended row = option_map (fetch_ended state row (fetched_of line)) row.registration
 
-    by : (o : Option JobRow) → option_map_or (λ row. in_phase is_fetching row && is_some row.registration) o false
-        ≡ is_some (option_and_then ended (option_and_then (λ row. if in_phase is_fetching row then Some row else None) o))
+    by : (o : Option JobRow) → option_map_or (λ row. is_in_phase is_fetching row && is_some row.registration) o false
+        ≡ is_some (option_and_then ended (option_and_then (λ row. if is_in_phase is_fetching row then Some row else None) o))
     by None = refl
     by (Some row) =
-        ap (λ b. in_phase is_fetching row && b) (some_mapped (fetch_ended state row (fetched_of line)) row.registration)
-        ∙ some_taken (in_phase is_fetching row) ended row
+        ap (λ b. is_in_phase is_fetching row && b) (some_mapped (fetch_ended state row (fetched_of line)) row.registration)
+        ∙ some_taken (is_in_phase is_fetching row) ended row
 
 -- own: a job's script may be evaluated: the job has its registration and its worker
 abbrev pub may_evaluate : State → JobRow → Bool
-may_evaluate state row = in_phase is_evaluating row && (is_some row.registration && is_some (job_worker state row))
+may_evaluate state row = is_in_phase is_evaluating row && (is_some row.registration && is_some (job_worker state row))
 
 pub evaluated_where : (state : State) (job : ℕ) → option_map_or (may_evaluate state) (job_row state job) false ≡ is_some (evaluated state job)
 evaluated_where state job = by (job_row state job)
@@ -95,16 +95,16 @@ evaluated_where state job = by (job_row state job)
     next row = option_and_then (λ registration. option_map (evaluated_worker state row.job registration) (job_worker state row)) row.registration
 
     by : (o : Option JobRow) → option_map_or (may_evaluate state) o false
-        ≡ is_some (option_and_then next (option_and_then (λ row. if in_phase is_evaluating row then Some row else None) o))
+        ≡ is_some (option_and_then next (option_and_then (λ row. if is_in_phase is_evaluating row then Some row else None) o))
     by None = refl
     by (Some row) =
-        ap (λ b. in_phase is_evaluating row && b) (some_both row.registration (job_worker state row) (evaluated_worker state row.job))
-        ∙ some_taken (in_phase is_evaluating row) next row
+        ap (λ b. is_in_phase is_evaluating row && b) (some_both row.registration (job_worker state row) (evaluated_worker state row.job))
+        ∙ some_taken (is_in_phase is_evaluating row) next row
 
 -- own: the install handler of a job's worker may end: the job has its registration, and the handler has made its calls
 abbrev pub may_end_install : State → JobRow → Bool
 may_end_install state row =
-    in_phase is_installing row && (is_some row.registration && is_some (option_and_then (ended_handler state is_install) (job_worker state row)))
+    is_in_phase is_installing row && (is_some row.registration && is_some (option_and_then (ended_handler state is_install) (job_worker state row)))
 
 pub installed_where : (state : State) (job : ℕ) → option_map_or (may_end_install state) (job_row state job) false ≡ is_some (installed state job)
 installed_where state job = by (job_row state job)
@@ -122,11 +122,11 @@ installed_where state job = by (job_row state job)
     follows row (Some number) worker = some_then (ended_handler state is_install) (install_ended state row number) worker
 
     by : (o : Option JobRow) → option_map_or (may_end_install state) o false
-        ≡ is_some (option_and_then next (option_and_then (λ row. if in_phase is_installing row then Some row else None) o))
+        ≡ is_some (option_and_then next (option_and_then (λ row. if is_in_phase is_installing row then Some row else None) o))
     by None = refl
     by (Some row) =
-        ap (λ b. in_phase is_installing row && b) (follows row row.registration (job_worker state row))
-        ∙ some_taken (in_phase is_installing row) next row
+        ap (λ b. is_in_phase is_installing row && b) (follows row row.registration (job_worker state row))
+        ∙ some_taken (is_in_phase is_installing row) next row
 
 -- a Try Activate happens where it is owed
 pub tried_where : (state : State) (registration : ℕ) → is_owed state registration ≡ is_some (tryactivate state registration)

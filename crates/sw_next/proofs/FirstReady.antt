@@ -11,7 +11,7 @@ use Rattle.sw_ledgers.specs.declared.tasks.TaskRow.{TaskRow}
 use Rattle.sw_ledgers.specs.Tasks.{row_of}
 use Rattle.sw_queue.proofs.Places.{find-filter}
 use Rattle.sw_rules.specs.Registering.{may_run}
-use Rattle.sw_rules.specs.Rows.{in_phase, is_evaluating}
+use Rattle.sw_rules.specs.Rows.{is_in_phase, is_evaluating}
 use Rattle.sw_rules.specs.State.{AddAll, Registration, Worker}
 use Rattle.sw_rules.specs.Tasks.{activates, evaluations, installs, may_activate, may_install, runs, try_activates}
 use Rattle.sw_tables.proofs.Rows.{find_map}
@@ -48,8 +48,8 @@ pub first_run : (host : Hosted) → slice_get (runs (state_of host)) 0
 first_run host = first_job task.Run (may_run (state_of host)) host.queues.rows
 
 pub first_evaluate : (host : Hosted) → slice_get (evaluations (state_of host)) 0
-    ≡ option_map (λ (row : JobRow). task.Evaluate row.job.number) (find (in_phase is_evaluating) host.queues.rows)
-first_evaluate host = first_job task.Evaluate (in_phase is_evaluating) host.queues.rows
+    ≡ option_map (λ (row : JobRow). task.Evaluate row.job.number) (find (is_in_phase is_evaluating) host.queues.rows)
+first_evaluate host = first_job task.Evaluate (is_in_phase is_evaluating) host.queues.rows
 
 pub first_install : (host : Hosted) → slice_get (installs (state_of host)) 0
     ≡ option_map (λ (row : JobRow). task.Install row.job.number) (find (λ row. may_install (state_of host) row) host.queues.rows)

@@ -12,7 +12,7 @@ use Rattle.sw_data.specs.declared.rows.JobRow.{JobRow}
 use Rattle.sw_lane.proofs.Finding.{find_first}
 use Rattle.sw_lane.specs.Picked.{is_fetch, is_task, task_left}
 use Rattle.sw_rules.specs.Registering.{may_run}
-use Rattle.sw_rules.specs.Rows.{in_phase, is_evaluating, is_fetching}
+use Rattle.sw_rules.specs.Rows.{is_in_phase, is_evaluating, is_fetching}
 use Rattle.sw_rules.specs.State.{State, AddAll, Registration, Worker}
 use Rattle.sw_rules.specs.Tasks.{activates, add_all_fetches, evaluations, installs, jobs_where, may_activate, may_install, runs, script_fetches, try_activates}
 use Rattle.sw_tables.proofs.Rows.{find_map}
@@ -29,12 +29,12 @@ left_row p f test xs = find_map p f (filter test xs) ∙ ap (option_map f) (find
 
 pub job_left : (flying : List Task) (rows : List JobRow)
     → option_map (λ (row : JobRow). task.Fetch row.job.number) (find (fetch_left flying) rows)
-    ≡ left_of flying (map task.Fetch (map (λ (row : JobRow). row.job.number) (filter (in_phase is_fetching) rows)))
+    ≡ left_of flying (map task.Fetch (map (λ (row : JobRow). row.job.number) (filter (is_in_phase is_fetching) rows)))
 job_left flying rows =
-    sym (find_map (is_left flying) task.Fetch (map (λ (row : JobRow). row.job.number) (filter (in_phase is_fetching) rows))
-    ∙ (ap (option_map task.Fetch) (find_map (λ n. is_left flying (task.Fetch n)) (λ (row : JobRow). row.job.number) (filter (in_phase is_fetching) rows))
-    ∙ (twice task.Fetch (λ (row : JobRow). row.job.number) (find (λ (row : JobRow). is_left flying (task.Fetch row.job.number)) (filter (in_phase is_fetching) rows))
-    ∙ ap (option_map (λ (row : JobRow). task.Fetch row.job.number)) (find_filter (λ (row : JobRow). is_left flying (task.Fetch row.job.number)) (in_phase is_fetching) rows))))
+    sym (find_map (is_left flying) task.Fetch (map (λ (row : JobRow). row.job.number) (filter (is_in_phase is_fetching) rows))
+    ∙ (ap (option_map task.Fetch) (find_map (λ n. is_left flying (task.Fetch n)) (λ (row : JobRow). row.job.number) (filter (is_in_phase is_fetching) rows))
+    ∙ (twice task.Fetch (λ (row : JobRow). row.job.number) (find (λ (row : JobRow). is_left flying (task.Fetch row.job.number)) (filter (is_in_phase is_fetching) rows))
+    ∙ ap (option_map (λ (row : JobRow). task.Fetch row.job.number)) (find_filter (λ (row : JobRow). is_left flying (task.Fetch row.job.number)) (is_in_phase is_fetching) rows))))
 
 pub task_left_of : (flying : List Task) (rows : List AddAll)
     → option_map (λ (row : AddAll). task.FetchAll row.number) (find (add_all_left flying) rows)
@@ -106,7 +106,7 @@ module _ (state : State) (flying : List Task) (fetches : list_all is_fetch flyin
       let second = behind p (runs state) (script_fetches state) _ _ first refl in
       let third = behind p (runs state ++ script_fetches state) (add_all_fetches state) _ _ second refl in
       let fourth = behind p (runs state ++ script_fetches state ++ add_all_fetches state) (evaluations state) _ _ third
-      (kind_left task.Evaluate (λ n. refl) (jobs_where (in_phase is_evaluating) state)) in
+      (kind_left task.Evaluate (λ n. refl) (jobs_where (is_in_phase is_evaluating) state)) in
       let fifth = behind p (runs state ++ script_fetches state ++ add_all_fetches state ++ evaluations state) (installs state) _ _ fourth
       (kind_left task.Install (λ n. refl) (jobs_where (may_install state) state)) in
       let sixth = behind p (runs state ++ script_fetches state ++ add_all_fetches state ++ evaluations state ++ installs state) (try_activates state) _ _ fifth

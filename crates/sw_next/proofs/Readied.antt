@@ -15,7 +15,7 @@ use Rattle.sw_data.specs.declared.rows.WorkerRow.{WorkerRow}
 use Rattle.sw_lane.specs.Picked.{is_task}
 use Rattle.sw_rules.specs.Activating.{is_owed}
 use Rattle.sw_rules.specs.Registering.{may_run, run}
-use Rattle.sw_rules.specs.Rows.{in_phase, is_evaluating, is_fetching, job_row, task_row, worker_row}
+use Rattle.sw_rules.specs.Rows.{is_in_phase, is_evaluating, is_fetching, job_row, task_row, worker_row}
 use Rattle.sw_rules.specs.State.{State, AddAll, Registration, Worker}
 use Rattle.sw_rules.specs.Tasks.{activates, add_all_fetches, evaluations, installs, jobs_where, may_activate, may_install, ready_tasks, runs, script_fetches, try_activates}
 use Rattle.sw_tables.proofs.Lookups.{worker_shown}
@@ -37,13 +37,13 @@ module _ (p : Task → Bool) (state : State) where
   no_runs never = none_mapped p task.Run never (jobs_where (may_run state) state)
 
   no_fetches : ((n : ℕ) → p (task.Fetch n) ≡ false) → list_any p (script_fetches state) ≡ false
-  no_fetches never = none_mapped p task.Fetch never (jobs_where (in_phase is_fetching) state)
+  no_fetches never = none_mapped p task.Fetch never (jobs_where (is_in_phase is_fetching) state)
 
   no_add_alls : ((n : ℕ) → p (task.FetchAll n) ≡ false) → list_any p (add_all_fetches state) ≡ false
   no_add_alls never = none_mapped p (λ (row : AddAll). task.FetchAll row.number) (λ row. never row.number) (filter (λ (row : AddAll). is_none row.settled) state.tasks)
 
   no_evaluations : ((n : ℕ) → p (task.Evaluate n) ≡ false) → list_any p (evaluations state) ≡ false
-  no_evaluations never = none_mapped p task.Evaluate never (jobs_where (in_phase is_evaluating) state)
+  no_evaluations never = none_mapped p task.Evaluate never (jobs_where (is_in_phase is_evaluating) state)
 
   no_installs : ((n : ℕ) → p (task.Install n) ≡ false) → list_any p (installs state) ≡ false
   no_installs never = none_mapped p task.Install never (jobs_where (may_install state) state)
@@ -62,12 +62,12 @@ module _ (state : State) (n : ℕ) where
       grind (arith, each_kind p state, no_fetches p state (λ m. refl), no_add_alls p state (λ m. refl), no_evaluations p state (λ m. refl), no_installs p state (λ m. refl), no_tries p state (λ m. refl), no_activates p state (λ m. refl)) in
       kind ∙ any_job p task.Run (may_run state) state.jobs
 
-  ready_fetch : list_any (is_task (task.Fetch n)) (ready_tasks state) ≡ list_any (λ (row : JobRow). n == row.job.number && in_phase is_fetching row) state.jobs
+  ready_fetch : list_any (is_task (task.Fetch n)) (ready_tasks state) ≡ list_any (λ (row : JobRow). n == row.job.number && is_in_phase is_fetching row) state.jobs
   ready_fetch =
       let p = is_task (task.Fetch n) in
       let kind : list_any p (ready_tasks state) ≡ list_any p (script_fetches state) =
       grind (arith, each_kind p state, no_runs p state (λ m. refl), no_add_alls p state (λ m. refl), no_evaluations p state (λ m. refl), no_installs p state (λ m. refl), no_tries p state (λ m. refl), no_activates p state (λ m. refl)) in
-      kind ∙ any_job p task.Fetch (in_phase is_fetching) state.jobs
+      kind ∙ any_job p task.Fetch (is_in_phase is_fetching) state.jobs
 
   ready_fetch_all : list_any (is_task (task.FetchAll n)) (ready_tasks state) ≡ list_any (λ (row : AddAll). n == row.number && is_none row.settled) state.tasks
   ready_fetch_all =
@@ -78,12 +78,12 @@ module _ (state : State) (n : ℕ) where
       ∙ (any_map p (λ (row : AddAll). task.FetchAll row.number) (filter (λ (row : AddAll). is_none row.settled) state.tasks)
       ∙ any_filter (λ (row : AddAll). n == row.number) (λ (row : AddAll). is_none row.settled) state.tasks)
 
-  ready_evaluate : list_any (is_task (task.Evaluate n)) (ready_tasks state) ≡ list_any (λ (row : JobRow). n == row.job.number && in_phase is_evaluating row) state.jobs
+  ready_evaluate : list_any (is_task (task.Evaluate n)) (ready_tasks state) ≡ list_any (λ (row : JobRow). n == row.job.number && is_in_phase is_evaluating row) state.jobs
   ready_evaluate =
       let p = is_task (task.Evaluate n) in
       let kind : list_any p (ready_tasks state) ≡ list_any p (evaluations state) =
       grind (arith, each_kind p state, no_runs p state (λ m. refl), no_fetches p state (λ m. refl), no_add_alls p state (λ m. refl), no_installs p state (λ m. refl), no_tries p state (λ m. refl), no_activates p state (λ m. refl)) in
-      kind ∙ any_job p task.Evaluate (in_phase is_evaluating) state.jobs
+      kind ∙ any_job p task.Evaluate (is_in_phase is_evaluating) state.jobs
 
   ready_try : list_any (is_task (task.TryActivate n)) (ready_tasks state) ≡ list_any (λ (row : Registration). n == row.number && row.owed) state.registrations
   ready_try =
@@ -115,11 +115,11 @@ module _ (state : State) (n : ℕ) (of : Task) where
     pub run_ready : of ≡ task.Run n → is_some (run state n) ≡ list_any (is_task of) (ready_tasks state)
     run_ready is = tells state of (task.Run n) _ is (ready_run state n ∙ (its_job (may_run state) ∙ runs_where state n))
 
-    pub fetch_ready : of ≡ task.Fetch n → option_map_or (in_phase is_fetching) (job_row state n) false ≡ list_any (is_task of) (ready_tasks state)
-    fetch_ready is = tells state of (task.Fetch n) _ is (ready_fetch state n ∙ its_job (in_phase is_fetching))
+    pub fetch_ready : of ≡ task.Fetch n → option_map_or (is_in_phase is_fetching) (job_row state n) false ≡ list_any (is_task of) (ready_tasks state)
+    fetch_ready is = tells state of (task.Fetch n) _ is (ready_fetch state n ∙ its_job (is_in_phase is_fetching))
 
-    pub evaluate_ready : of ≡ task.Evaluate n → option_map_or (in_phase is_evaluating) (job_row state n) false ≡ list_any (is_task of) (ready_tasks state)
-    evaluate_ready is = tells state of (task.Evaluate n) _ is (ready_evaluate state n ∙ its_job (in_phase is_evaluating))
+    pub evaluate_ready : of ≡ task.Evaluate n → option_map_or (is_in_phase is_evaluating) (job_row state n) false ≡ list_any (is_task of) (ready_tasks state)
+    evaluate_ready is = tells state of (task.Evaluate n) _ is (ready_evaluate state n ∙ its_job (is_in_phase is_evaluating))
 
     pub install_ready : of ≡ task.Install n → option_map_or (may_install state) (job_row state n) false ≡ list_any (is_task of) (ready_tasks state)
     install_ready is = tells state of (task.Install n) _ is (ready_install state n ∙ its_job (may_install state))

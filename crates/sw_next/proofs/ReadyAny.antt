@@ -8,7 +8,7 @@ use Rattle.sw_data.specs.declared.histories.Task.TheVariants as task
 use Rattle.sw_data.specs.declared.rows.JobRow.{JobRow}
 use Rattle.sw_lane.specs.Picked.{is_task}
 use Rattle.sw_rules.specs.Registering.{may_run}
-use Rattle.sw_rules.specs.Rows.{in_phase, is_evaluating, is_fetching}
+use Rattle.sw_rules.specs.Rows.{is_in_phase, is_evaluating, is_fetching}
 use Rattle.sw_rules.specs.State.{State, AddAll, Registration, Worker}
 use Rattle.sw_rules.specs.Tasks.{activates, add_all_fetches, evaluations, installs, jobs_where, may_activate, may_install, ready_tasks, runs, script_fetches, try_activates}
 use Rattle.sw_tables.proofs.Rows.{any_map}
@@ -67,9 +67,9 @@ module _ (state : State) (n : ℕ) where
       (none_both p (runs state ++ script_fetches state) (add_all_fetches state)
       (none_both p (runs state) (script_fetches state)
       (none_mapped p task.Run run (jobs_where (may_run state) state))
-      (none_mapped p task.Fetch fetch (jobs_where (in_phase is_fetching) state)))
+      (none_mapped p task.Fetch fetch (jobs_where (is_in_phase is_fetching) state)))
       (none_mapped p (λ (row : AddAll). task.FetchAll row.number) (λ row. fetch_all row.number) (filter (λ (row : AddAll). is_none row.settled) state.tasks)))
-      (none_mapped p task.Evaluate evaluate (jobs_where (in_phase is_evaluating) state))
+      (none_mapped p task.Evaluate evaluate (jobs_where (is_in_phase is_evaluating) state))
 
   none_tried : (p : Task → Bool) → ((m : ℕ) → p (task.TryActivate m) ≡ false) → list_any p (try_activates state) ≡ false
   none_tried p fails =

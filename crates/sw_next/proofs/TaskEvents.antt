@@ -18,7 +18,7 @@ use Rattle.sw_data.specs.declared.rows.JobRow.{JobRow}
 use Rattle.sw_data.specs.declared.rows.WorkerRow.{WorkerRow}
 use Rattle.sw_lane.specs.Picked.{is_task}
 use Rattle.sw_rules.specs.Installing.{calls_of}
-use Rattle.sw_rules.specs.Rows.{free_handler, in_phase, is_install, is_installing, job_row}
+use Rattle.sw_rules.specs.Rows.{free_handler, is_in_phase, is_install, is_installing, job_row}
 use Rattle.sw_rules.specs.State.{State, Handler, Worker}
 use Rattle.sw_rules.specs.Tasks.{call_or, event_of, handler_event, may_install, next_call, ready_tasks}
 use Rattle.sw_tables.proofs.Lookups.{worker_shown}
@@ -84,7 +84,7 @@ its_row state job places ready =
 install_event : (state : State) (end : Event) (o : Option JobRow) → option_map_or (may_install state) o false ≡ true
     → is_some (option_and_then (handler_event state end) (option_and_then (λ row. row.worker) o)) ≡ true
 install_event state end None is = absurd cc
-install_event state end (Some row) is = by row.worker (in_phase is_installing row) is
+install_event state end (Some row) is = by row.worker (is_in_phase is_installing row) is
   where
     by : (w : Option ℕ) (b : Bool) → (b && option_map_or (λ handler. is_install handler.phase) (option_and_then (free_handler state) w) false) ≡ true
         → is_some (option_and_then (handler_event state end) w) ≡ true

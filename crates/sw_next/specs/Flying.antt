@@ -5,7 +5,7 @@ use Rattle.sw_data.specs.declared.histories.Task.{Task}
 use Rattle.sw_data.specs.declared.histories.Task.TheVariants as task
 use Rattle.sw_data.specs.declared.rows.JobRow.{JobRow}
 use Rattle.sw_lane.specs.Picked.{is_task}
-use Rattle.sw_rules.specs.Rows.{in_phase, is_fetching}
+use Rattle.sw_rules.specs.Rows.{is_in_phase, is_fetching}
 use Rattle.sw_rules.specs.State.{AddAll}
 
 -- own: a task isn't in flight
@@ -18,7 +18,7 @@ left_of in_flight tasks = find (is_left in_flight) tasks
 
 -- own: a job fetches, and its fetch isn't in flight
 abbrev pub fetch_left : List Task → JobRow → Bool
-fetch_left in_flight row = in_phase is_fetching row && is_left in_flight (task.Fetch row.job.number)
+fetch_left in_flight row = is_in_phase is_fetching row && is_left in_flight (task.Fetch row.job.number)
 
 -- own: an addAll has not settled, and its fetches aren't in flight
 abbrev pub add_all_left : List Task → AddAll → Bool

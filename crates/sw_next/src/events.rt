@@ -13,7 +13,7 @@ ghost use Rattle.sw_rules.specs.Activating as activating;
 ghost use Rattle.sw_rules.specs.Calls as calls;
 ghost use Rattle.sw_rules.specs.Installing as installing;
 ghost use Rattle.sw_rules.specs.Registering as registering;
-ghost use Rattle.sw_rules.specs.Rows.{in_phase, is_evaluating, is_fetching, is_installing, job_row, registration_row, worker_row};
+ghost use Rattle.sw_rules.specs.Rows.{is_in_phase, is_evaluating, is_fetching, is_installing, job_row, registration_row, worker_row};
 ghost use Rattle.sw_rules.specs.Step.{enabled};
 ghost use Rattle.sw_rules.specs.Tasks as tasks;
 ghost use Rattle.sw_tables.specs.Ends.{is_in};
@@ -31,21 +31,21 @@ use sw_work::HostTables;
 
 // Whether a job joined no other, and its fetch is in flight.
 fn fetches(row: &JobRow) -> bool
-    ensures { result ≡ in_phase is_fetching row.now }
+    ensures { result ≡ is_in_phase is_fetching row.now }
 {
     row.leader.is_none() && row.phase == JobPhase::Fetching
 }
 
 // Whether a job joined no other, and its script is to be evaluated.
 fn evaluates(row: &JobRow) -> bool
-    ensures { result ≡ in_phase is_evaluating row.now }
+    ensures { result ≡ is_in_phase is_evaluating row.now }
 {
     row.leader.is_none() && row.phase == JobPhase::Evaluating
 }
 
 // Whether a job joined no other, and its worker installs.
 fn installs(row: &JobRow) -> bool
-    ensures { result ≡ in_phase is_installing row.now }
+    ensures { result ≡ is_in_phase is_installing row.now }
 {
     row.leader.is_none() && row.phase == JobPhase::Installing
 }
@@ -266,7 +266,7 @@ pub fn enabled(host: &HostTables, event: &Event) -> bool
 
 // Whether the fetch of a job is in flight.
 fn has_fetch(host: &HostTables, job: u32) -> bool
-    ensures { result ≡ has_job (in_phase is_fetching) job (state_of host.now).jobs }
+    ensures { result ≡ has_job (is_in_phase is_fetching) job (state_of host.now).jobs }
 {
     match row_of_job(host, job) {
         Some(row) => fetches(row),
@@ -276,7 +276,7 @@ fn has_fetch(host: &HostTables, job: u32) -> bool
 
 // Whether the script of a job's worker is to be evaluated.
 fn has_evaluation(host: &HostTables, job: u32) -> bool
-    ensures { result ≡ has_job (in_phase is_evaluating) job (state_of host.now).jobs }
+    ensures { result ≡ has_job (is_in_phase is_evaluating) job (state_of host.now).jobs }
 {
     match row_of_job(host, job) {
         Some(row) => evaluates(row),

@@ -3,7 +3,7 @@
 ghost use Rattle.std.specs.Prelude.{◌≡◌, option_map};
 ghost use Rattle.std.specs.Option.{option_copied};
 ghost use Rattle.sw_work.specs.Hosted.{state_of};
-ghost use Rattle.sw_rules.specs.Caching.{is_busy};
+ghost use Rattle.sw_rules.specs.Forgetting.{is_busy};
 ghost use Rattle.sw_rules.specs.Rows.{task_row};
 
 use sw_cachestorage::is_busy;

@@ -7,7 +7,7 @@ use Rattle.sw_data.specs.declared.workers.Slot.TheVariants as slot
 use Rattle.sw_reg.specs.Table as registrations
 use Rattle.sw_reg.specs.Table.{slot_of}
 use Rattle.sw_rules.specs.Clients.{ready, ready_registration, registration_at, registration_or_undefined}
-use Rattle.sw_rules.specs.Rows.{active_worker, client_row, matched_registration}
+use Rattle.sw_rules.specs.Rows.{active_worker_number, client_row, matched_registration_number}
 use Rattle.sw_rules.specs.State.{State}
 use Rattle.sw_rules.specs.Told.{Outcome, answered}
 use Rattle.sw_tables.proofs.Rows.{within}
@@ -77,7 +77,7 @@ module _ (state : State) (n : ℕ) (row : ClientRow) (here : Some row ≡ client
   ready_here address found own is =
       let one : Some found.1 ≡ ready_registration state row =
       ap (option_map second) (is ∙ ap (active_match state row.key) own)
-      ∙ seconds (active_worker state) (matched_registration state row.key row.url) in
+      ∙ seconds (active_worker_number state) (matched_registration_number state row.key row.url) in
       ap (option_map (λ registration. answered state (answer.Registration registration))) one ∙ ap (by_client state) here
 
   -- it isn't yet
@@ -85,10 +85,10 @@ module _ (state : State) (n : ℕ) (row : ClientRow) (here : Some row ≡ client
   not_ready address own is =
       let none : None ≡ ready_registration state row =
       ap (option_map second) (is ∙ ap (active_match state row.key) own)
-      ∙ seconds (active_worker state) (matched_registration state row.key row.url) in
+      ∙ seconds (active_worker_number state) (matched_registration_number state row.key row.url) in
       ap (option_map (λ registration. answered state (answer.Registration registration))) none ∙ ap (by_client state) here
 
 -- the registration of an address of a client's origin
 pub matched_here : (state : State) (row : ClientRow) (url address : List ℕ) (found : Option ℕ) → same_origin url row.url ≡ true → address ≡ url
-    → found ≡ matched_registration state row.key address → registration_at state row url ≡ answered state (registration_or_undefined found)
+    → found ≡ matched_registration_number state row.key address → registration_at state row url ≡ answered state (registration_or_undefined found)
 matched_here state row url address found same own is = grind (arith, same, own, is)

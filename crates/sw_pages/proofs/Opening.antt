@@ -9,14 +9,14 @@ use Rattle.url.specs.Parts.{Parts, serialize}
 use Rattle.sw_data.specs.declared.answers.Answer.{Answer}
 use Rattle.sw_rules.specs.Activating.{worker_or_none}
 use Rattle.sw_rules.specs.Clients.{add_client, open_at, open_client, open_new, opening_controller}
-use Rattle.sw_rules.specs.Rows.{active_worker, client_row, matched_registration}
+use Rattle.sw_rules.specs.Rows.{active_worker_number, client_row, matched_registration_number}
 use Rattle.sw_rules.specs.State.{State}
 use Rattle.sw_rules.specs.Told.{Outcome, answered, refused, type_error}
 use Rattle.sw_pages.proofs.Active.{first, firsts, second}
 use Rattle.sw_pages.specs.Active.{active_match}
 
 by_trust : State → List ℕ → List ℕ → Bool → Option ℕ
-by_trust state key url trusted = if trusted then option_and_then (active_worker state) (matched_registration state key url) else None
+by_trust state key url trusted = if trusted then option_and_then (active_worker_number state) (matched_registration_number state key url) else None
 
 -- the controller that a client gets where its address is trustworthy
 pub opening : (state : State) (key url address : List ℕ) (found : Option (ℕ × ℕ)) → true ≡ is_trustworthy url → address ≡ url → found ≡ active_match state key address
@@ -24,7 +24,7 @@ pub opening : (state : State) (key url address : List ℕ) (found : Option (ℕ 
 unfolding by_trust
 opening state key url address found trusted own is =
     ap (option_map first) (is ∙ ap (active_match state key) own)
-    ∙ firsts (active_worker state) (matched_registration state key url) ∙ ap (by_trust state key url) trusted
+    ∙ firsts (active_worker_number state) (matched_registration_number state key url) ∙ ap (by_trust state key url) trusted
 
 -- the row of a client that opens
 abbrev pub opened : ℕ → List ℕ → List ℕ → Bool → Option (ℕ × ℕ) → OpenClient

@@ -5,7 +5,7 @@ use Rattle.sw_data.specs.declared.answers.Fault.TheVariants as fault
 use Rattle.sw_data.specs.declared.answers.StateCause.TheVariants as state_cause
 use Rattle.sw_data.specs.declared.rows.WorkerRow.{WorkerRow}
 use Rattle.sw_rules.specs.Preloading.{preload_set, set_preload}
-use Rattle.sw_rules.specs.Rows.{active_worker}
+use Rattle.sw_rules.specs.Rows.{active_worker_number}
 use Rattle.sw_rules.specs.State.{State, Registration}
 use Rattle.sw_rules.specs.Told.{Outcome, refused}
 use Rattle.sw_tables.specs.Lent.{shown_worker}
@@ -21,6 +21,6 @@ by_active state row on text active =
     if active then record { answer = answer.Ok; told = set_preload state row.number on text }
     else refused state (fault.InvalidState state_cause.NotActive)
 
-pub set_by : (state : State) (row : Registration) (on : Bool) (text : List ℕ) (active : Bool) → is_some (active_worker state row.number) ≡ active
+pub set_by : (state : State) (row : Registration) (on : Bool) (text : List ℕ) (active : Bool) → is_some (active_worker_number state row.number) ≡ active
     → preload_set state row on text ≡ by_active state row on text active
 set_by state row on text active is = ap (by_active state row on text) is

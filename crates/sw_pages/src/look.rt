@@ -14,7 +14,7 @@ ghost use Rattle.sw_reg.specs.Table as registrations;
 ghost use Rattle.sw_reg.specs.Table.{registration_at};
 ghost use Rattle.sw_rules.specs.Clients as rules;
 ghost use Rattle.sw_rules.specs.Jobs.{awaited_value};
-ghost use Rattle.sw_rules.specs.Rows.{active_worker};
+ghost use Rattle.sw_rules.specs.Rows.{active_worker_number};
 ghost use Rattle.sw_scope.specs.Scopes.{Scopes};
 ghost use Rattle.sw_tables.specs.Lent.{Rest, lent};
 ghost use Rattle.sw_tables.specs.Linked.{ArePlaces, HasScopes, HasSlots};
@@ -56,7 +56,7 @@ fn active_of(
     requires { HasSlots workers.now registrations.now }
     ensures found { (scopes : Scopes) (of_clients : clients.Table) (rest : Rest) → result
         ≡ option_map (λ worker. (worker, registration))
-        (active_worker (lent scopes workers.now registrations.now of_clients rest) registration) }
+        (active_worker_number (lent scopes workers.now registrations.now of_clients rest) registration) }
     ensures owner { IfSome result (IsOwned workers.now registrations.now) }
 {
     match slot_row(Slot::Active, registration, workers, registrations) {

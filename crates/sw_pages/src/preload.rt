@@ -8,7 +8,7 @@ ghost use Rattle.sw_pages.specs.Named.{FitsSlots};
 ghost use Rattle.sw_pages.specs.Preload.{PreloadsGive};
 ghost use Rattle.sw_reg.specs.Table.{is_there};
 ghost use Rattle.sw_rules.specs.Preloading as rules;
-ghost use Rattle.sw_rules.specs.Rows.{active_worker};
+ghost use Rattle.sw_rules.specs.Rows.{active_worker_number};
 ghost use Rattle.sw_scope.specs.Scopes.{Scopes};
 ghost use Rattle.sw_tables.specs.Lent.{Rest, lent, shown_registration};
 ghost use Rattle.sw_tables.specs.Linked.{HasScopes, HasSlots};
@@ -28,7 +28,7 @@ use sw_worker::Workers;
 fn is_active(registration: u32, workers: &Workers, registrations: &Registrations) -> bool
     requires { HasSlots workers.now registrations.now }
     ensures { (scopes : Scopes) (of_clients : clients_of.Table) (rest : Rest)
-        → result ≡ is_some (active_worker
+        → result ≡ is_some (active_worker_number
         (lent scopes workers.now registrations.now of_clients rest) registration) }
 {
     slot_row(Slot::Active, registration, workers, registrations).is_some()

@@ -5,7 +5,8 @@ use Rattle.sw_data.specs.declared.answers.Answer.TheVariants as answer
 use Rattle.sw_data.specs.declared.answers.Fault.{Fault}
 use Rattle.sw_data.specs.declared.recordings.Place.{Place}
 use Rattle.sw_pages.specs.declared.worked.PageAct.TheVariants as page
-use Rattle.sw_rules.specs.Caching.{forget, forget_key, is_busy, place_key, with_key}
+use Rattle.sw_rules.specs.Caching.{place_key, with_key}
+use Rattle.sw_rules.specs.Forgetting.{forget, forget_key, is_busy}
 use Rattle.sw_rules.specs.State.{State}
 use Rattle.sw_rules.specs.Told.{Outcome, answered, refused}
 use Rattle.sw_work.specs.Plans.{IsAsked}

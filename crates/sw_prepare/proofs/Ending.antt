@@ -26,7 +26,7 @@ use Rattle.sw_reg.specs.Table.{registration_at}
 use Rattle.sw_rules.specs.Installing.{discard, end_handler, ended_handler, fail_install, finish_install, become_waiting, install_ended, installed, is_over, job_worker, kept_worker}
 use Rattle.sw_rules.specs.Jobs.{finish}
 use Rattle.sw_rules.specs.Registrations.{unmap}
-use Rattle.sw_rules.specs.Rows.{free_handler, in_phase, in_slot, is_install, is_installing, is_job, is_registration, is_unsettled_of, is_worker, registration_row, slot_worker, worker_row}
+use Rattle.sw_rules.specs.Rows.{free_handler, is_in_phase, in_slot, is_install, is_installing, is_job, is_registration, is_unsettled_of, is_worker, registration_row, slot_worker, worker_row}
 use Rattle.sw_rules.specs.State.{State, Registration, Worker, Handler}
 use Rattle.sw_rules.specs.Told.{Outcome, Told, followed, is_kept, quiet}
 use Rattle.sw_scope.specs.Scopes.{Scopes}
@@ -173,7 +173,7 @@ module _ (scopes : Scopes) (of_workers : workers.Table) (of : registrations.Tabl
   state = lent scopes of_workers of of_clients (with_jobs jobs rest)
 
   -- the worker installs
-  made_so : (row : JobRow) (n w : ℕ) → find (is_job job) jobs ≡ Some row → in_phase is_installing row ≡ true → row.registration ≡ Some n → row.worker ≡ Some w
+  made_so : (row : JobRow) (n w : ℕ) → find (is_job job) jobs ≡ Some row → is_in_phase is_installing row ≡ true → row.registration ≡ Some n → row.worker ≡ Some w
       → has_worker (parts.is_of_in parts.is_installing n) w of_workers.rows ≡ true
   made_so row n w is installing of_it by =
       let parts_of = and_parts (is_none row.leader) (is_installing row.phase) installing in
@@ -184,7 +184,7 @@ module _ (scopes : Scopes) (of_workers : workers.Table) (of : registrations.Tabl
       (if_some (λ (registration : ℕ). IfSome row.worker (λ (worker : ℕ). IsMade row.phase registration worker of_workers of)) row.registration n of_it way.made) in
       subst (λ p. IsMade p n w of_workers of) phase made
 
-  ended : (row : JobRow) (n : ℕ) (worker : Worker) (handler : Handler) → find (is_job job) jobs ≡ Some row → in_phase is_installing row ≡ true → row.registration ≡ Some n
+  ended : (row : JobRow) (n : ℕ) (worker : Worker) (handler : Handler) → find (is_job job) jobs ≡ Some row → is_in_phase is_installing row ≡ true → row.registration ≡ Some n
       → job_worker state row ≡ Some worker → worker.handler ≡ Some handler → (b : Bool)
       → (if b then failure_changes state job n else waiting_changes state n worker)
       ≡ (if b then fail_install state row n worker.number else finish_install state row.job.number n worker).changes
@@ -222,7 +222,7 @@ module _ (scopes : Scopes) (of_workers : workers.Table) (of : registrations.Tabl
   pub install_told : Tells (installed state job) (install_changes state job)
   install_told = by (find (is_job job) jobs) refl
     where
-      handled : (row : JobRow) (n : ℕ) (worker : Worker) → find (is_job job) jobs ≡ Some row → in_phase is_installing row ≡ true → row.registration ≡ Some n → job_worker state row ≡ Some worker
+      handled : (row : JobRow) (n : ℕ) (worker : Worker) → find (is_job job) jobs ≡ Some row → is_in_phase is_installing row ≡ true → row.registration ≡ Some n → job_worker state row ≡ Some worker
           → (h : Option Handler) → ended_handler state is_install worker ≡ h → Tells (option_map (install_ended state row n worker) h) (install_changes state job)
       handled row n worker is installing of_it made None over = tt
       handled row n worker is installing of_it made (Some handler) over =
@@ -237,22 +237,22 @@ module _ (scopes : Scopes) (of_workers : workers.Table) (of : registrations.Tabl
           at_number (Some w) there =
               ap (worker_row state) (found_number (λ (x : Worker). x.number) w state.workers worker there) ∙ there
 
-      worked : (row : JobRow) (n : ℕ) → find (is_job job) jobs ≡ Some row → in_phase is_installing row ≡ true → row.registration ≡ Some n → (w : Option Worker) → job_worker state row ≡ w
+      worked : (row : JobRow) (n : ℕ) → find (is_job job) jobs ≡ Some row → is_in_phase is_installing row ≡ true → row.registration ≡ Some n → (w : Option Worker) → job_worker state row ≡ w
           → Tells (option_and_then (λ (worker : Worker). option_map (install_ended state row n worker) (ended_handler state is_install worker)) w) (install_changes state job)
       worked row n is installing of_it None made = tt
       worked row n is installing of_it (Some worker) made = handled row n worker is installing of_it made (ended_handler state is_install worker) refl
 
-      registered : (row : JobRow) → find (is_job job) jobs ≡ Some row → in_phase is_installing row ≡ true → (r : Option ℕ) → row.registration ≡ r
+      registered : (row : JobRow) → find (is_job job) jobs ≡ Some row → is_in_phase is_installing row ≡ true → (r : Option ℕ) → row.registration ≡ r
           → Tells (option_and_then (λ (n : ℕ). option_and_then (λ (worker : Worker). option_map (install_ended state row n worker) (ended_handler state is_install worker)) (job_worker state row)) r) (install_changes state job)
       registered row is installing None of_it = tt
       registered row is installing (Some n) of_it = worked row n is installing of_it (job_worker state row) refl
 
-      phased : (row : JobRow) → find (is_job job) jobs ≡ Some row → (b : Bool) → in_phase is_installing row ≡ b
+      phased : (row : JobRow) → find (is_job job) jobs ≡ Some row → (b : Bool) → is_in_phase is_installing row ≡ b
           → Tells (option_and_then (λ (r : JobRow). option_and_then (λ (n : ℕ). option_and_then (λ (worker : Worker). option_map (install_ended state r n worker) (ended_handler state is_install worker)) (job_worker state r)) r.registration) (if b then Some row else None)) (install_changes state job)
       phased row is false installing = tt
       phased row is true installing = registered row is installing row.registration refl
 
       by : (o : Option JobRow) → find (is_job job) jobs ≡ o
-          → Tells (option_and_then (λ (r : JobRow). option_and_then (λ (n : ℕ). option_and_then (λ (worker : Worker). option_map (install_ended state r n worker) (ended_handler state is_install worker)) (job_worker state r)) r.registration) (option_and_then (λ (r : JobRow). if in_phase is_installing r then Some r else None) o)) (install_changes state job)
+          → Tells (option_and_then (λ (r : JobRow). option_and_then (λ (n : ℕ). option_and_then (λ (worker : Worker). option_map (install_ended state r n worker) (ended_handler state is_install worker)) (job_worker state r)) r.registration) (option_and_then (λ (r : JobRow). if is_in_phase is_installing r then Some r else None) o)) (install_changes state job)
       by None is = tt
-      by (Some row) is = phased row is (in_phase is_installing row) refl
+      by (Some row) is = phased row is (is_in_phase is_installing row) refl

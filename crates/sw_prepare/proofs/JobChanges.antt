@@ -36,7 +36,7 @@ use Rattle.sw_rules.specs.Installing.{begin_install, discard, evaluated, evaluat
 use Rattle.sw_rules.specs.Jobs.{finish, resolve_and_finish, settle}
 use Rattle.sw_rules.specs.Registering.{finished, may_run, run, run_job, run_register, run_unregister, run_update, unregister_mapped}
 use Rattle.sw_rules.specs.Registrations.{clear, drop_registration, set_mode, try_clear, unmap}
-use Rattle.sw_rules.specs.Rows.{has_pending_worker, in_phase, is_evaluating, is_fetching, is_job, is_used, job_row, mapped_registration, registration_row, slot_worker, worker_row}
+use Rattle.sw_rules.specs.Rows.{has_pending_worker, is_in_phase, is_evaluating, is_fetching, is_job, is_used, job_row, mapped_registration, registration_row, slot_worker, worker_row}
 use Rattle.sw_rules.specs.State.{State, Registration, Worker}
 use Rattle.sw_rules.specs.Told.{Outcome, followed, is_kept, quiet}
 use Rattle.sw_scope.specs.Scopes.{Scopes, maps}
@@ -201,9 +201,9 @@ pub fetch_told : (state : State) (job : ℕ) (line : Option FetchLine) (given : 
 fetch_told state job line given made = by (job_row state job) refl
   where
     IsSo : Option JobRow → Type 0
-    IsSo o = IfSome (option_and_then (λ (row : JobRow). if in_phase is_fetching row then Some row else None) o) (λ (row : JobRow). IfSome row.registration (IsOutcome given made state row (fetched_of line)))
+    IsSo o = IfSome (option_and_then (λ (row : JobRow). if is_in_phase is_fetching row then Some row else None) o) (λ (row : JobRow). IfSome row.registration (IsOutcome given made state row (fetched_of line)))
 
-    comes_to : (row : JobRow) (n : ℕ) → job_row state job ≡ Some row → in_phase is_fetching row ≡ true → row.registration ≡ Some n → (g : FetchOutcome)
+    comes_to : (row : JobRow) (n : ℕ) → job_row state job ≡ Some row → is_in_phase is_fetching row ≡ true → row.registration ≡ Some n → (g : FetchOutcome)
         → g ≡ fetch_outcome state row n (fetched_of line) → Tells (fetched state job line) (fetch_changes g state job)
     comes_to row n is fetches of (outcome.Rejected why) comes =
         some_if (λ (o : Outcome). [] ≡ o.told.changes) (fetched state job line) _ (rejected state job n row line is fetches of why comes) (sym (rejected_quietly state job n why))
@@ -214,29 +214,29 @@ fetch_told state job line given made = by (job_row state job) refl
         let new = script_changed state job n row line is fetches of comes in
         some_if (λ (o : Outcome). [] ≡ o.told.changes) (fetched state job line) _ new.2 (sym (made_quietly state row n new.0))
 
-    registered : (row : JobRow) → job_row state job ≡ Some row → in_phase is_fetching row ≡ true → (r : Option ℕ) → row.registration ≡ r
+    registered : (row : JobRow) → job_row state job ≡ Some row → is_in_phase is_fetching row ≡ true → (r : Option ℕ) → row.registration ≡ r
         → IfSome r (IsOutcome given made state row (fetched_of line)) → Tells (option_map (fetch_ended state row (fetched_of line)) r) (fetch_changes given state job)
     registered row is fetches None of comes = tt
     registered row is fetches (Some n) of comes = said
       where
         whole : fetched state job line ≡ Some (fetch_ended state row (fetched_of line) n)
         whole =
-            ap (λ (o : Option JobRow). option_and_then (λ (r : JobRow). option_map (fetch_ended state r (fetched_of line)) r.registration) (option_and_then (λ (r : JobRow). if in_phase is_fetching r then Some r else None) o)) is
+            ap (λ (o : Option JobRow). option_and_then (λ (r : JobRow). option_map (fetch_ended state r (fetched_of line)) r.registration) (option_and_then (λ (r : JobRow). if is_in_phase is_fetching r then Some r else None) o)) is
             ∙ (ap (λ (b : Bool). option_and_then (λ (r : JobRow). option_map (fetch_ended state r (fetched_of line)) r.registration) (if b then Some row else None)) fetches
             ∙ ap (option_map (fetch_ended state row (fetched_of line))) of)
 
         said : fetch_changes given state job ≡ (fetch_ended state row (fetched_of line) n).told.changes
         said = if_some (λ (o : Outcome). fetch_changes given state job ≡ o.told.changes) (fetched state job line) (fetch_ended state row (fetched_of line) n) whole (comes_to row n is fetches of given comes.comes)
 
-    fetching : (row : JobRow) → job_row state job ≡ Some row → (b : Bool) → in_phase is_fetching row ≡ b → IfSome (if b then Some row else None) (λ (r : JobRow). IfSome r.registration (IsOutcome given made state r (fetched_of line)))
+    fetching : (row : JobRow) → job_row state job ≡ Some row → (b : Bool) → is_in_phase is_fetching row ≡ b → IfSome (if b then Some row else None) (λ (r : JobRow). IfSome r.registration (IsOutcome given made state r (fetched_of line)))
         → Tells (option_and_then (λ (r : JobRow). option_map (fetch_ended state r (fetched_of line)) r.registration) (if b then Some row else None)) (fetch_changes given state job)
     fetching row is false fetches comes = tt
     fetching row is true fetches comes = registered row is fetches row.registration refl comes
 
     by : (o : Option JobRow) → job_row state job ≡ o → IsSo o
-        → Tells (option_and_then (λ (row : JobRow). option_map (fetch_ended state row (fetched_of line)) row.registration) (option_and_then (λ (row : JobRow). if in_phase is_fetching row then Some row else None) o)) (fetch_changes given state job)
+        → Tells (option_and_then (λ (row : JobRow). option_map (fetch_ended state row (fetched_of line)) row.registration) (option_and_then (λ (row : JobRow). if is_in_phase is_fetching row then Some row else None) o)) (fetch_changes given state job)
     by None is comes = tt
-    by (Some row) is comes = fetching row is (in_phase is_fetching row) refl comes
+    by (Some row) is comes = fetching row is (is_in_phase is_fetching row) refl comes
 
 -- ---- the evaluation
 
@@ -280,9 +280,9 @@ evaluation_told state job = by (job_row state job) refl
     evaluating row is true = registered row is row.registration refl
 
     by : (o : Option JobRow) → job_row state job ≡ o
-        → Tells (option_and_then (λ (r : JobRow). option_and_then (λ n. option_map (evaluated_worker state r.job n) (job_worker state r)) r.registration) (option_and_then (λ (r : JobRow). if in_phase is_evaluating r then Some r else None) o)) (evaluation_changes state job)
+        → Tells (option_and_then (λ (r : JobRow). option_and_then (λ n. option_map (evaluated_worker state r.job n) (job_worker state r)) r.registration) (option_and_then (λ (r : JobRow). if is_in_phase is_evaluating r then Some r else None) o)) (evaluation_changes state job)
     by None is = tt
-    by (Some row) is = evaluating row is (in_phase is_evaluating row)
+    by (Some row) is = evaluating row is (is_in_phase is_evaluating row)
 
 -- the worker of a job, as a row of the state
 pub made_shown : (scopes : Scopes) (of_workers : workers.Table) (of : registrations.Table) (of_clients : clients.Table) (jobs : List JobRow) (rest : Rest) (job : ℕ)

@@ -9,7 +9,7 @@ use Rattle.std.proofs.lemmas.List.{ext_get_or, get_or-map, get_or_default, get_o
 use Rattle.std.proofs.lemmas.Option.{slice_get-get_or}
 use Rattle.sw_data.specs.declared.rows.JobPhase.TheVariants as job_phase
 use Rattle.sw_data.specs.declared.rows.JobRow.{JobRow}
-use Rattle.sw_rules.specs.Rows.{first_job, in_phase, is_waiting}
+use Rattle.sw_rules.specs.Rows.{first_job, is_in_phase, is_waiting}
 use Rattle.sw_flags.proofs.Placing.{flags_set}
 use Rattle.sw_queue.specs.Kept.{AreFrom, IsKept, number}
 use Rattle.sw_queue.specs.Lines.{Keyed, line_in}
@@ -87,7 +87,7 @@ module _ (rows : List JobRow) (lines after : Keyed) (ready : Ready) (place : ℕ
           let own = get_or-set_other rows place i new new is_not in
           let numbered : number (get_or rows i new) ≡ i = number_at rows are 0 rows are i new within ∙ omega arith in
           let kept_head = other_head (get_or rows i new) (subst (λ n. n ≢ place) (sym numbered) is_not) (subst (λ n. is_at n next ≡ false) (sym numbered) not_next) in
-          ap (may_start after) own ∙ (λ j. in_phase is_waiting (get_or rows i new) && kept_head j) ∙ sym (ap (may_start lines) own)
+          ap (may_start after) own ∙ (λ j. is_in_phase is_waiting (get_or rows i new) && kept_head j) ∙ sym (ap (may_start lines) own)
 
       by : (i : ℕ) → i < length rows → (b : Bool) → is_at i next ≡ b → may_start after (get_or after_rows i new) ≡ get_or flags i false
       by i within true is = sym (here i within is)

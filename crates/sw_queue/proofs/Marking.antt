@@ -7,7 +7,7 @@ use Rattle.std.proofs.lemmas.List.{length-map, map-append}
 use Rattle.sw_data.specs.declared.rows.JobPhase.{JobPhase}
 use Rattle.sw_data.specs.declared.rows.JobPhase.TheVariants as job_phase
 use Rattle.sw_data.specs.declared.rows.JobRow.{JobRow}
-use Rattle.sw_rules.specs.Rows.{changed, first_job, in_phase, is_done, is_evaluating, is_fetching, is_first, is_installing, is_unfinished, is_waiting}
+use Rattle.sw_rules.specs.Rows.{changed, first_job, is_in_phase, is_done, is_evaluating, is_fetching, is_first, is_installing, is_unfinished, is_waiting}
 use Rattle.sw_flags.proofs.Placing.{flags_set}
 use Rattle.sw_queue.specs.Kept.{AreFrom, IsKept, number}
 use Rattle.sw_queue.specs.Lines.{Keyed, line_in}
@@ -25,8 +25,8 @@ is_at own head = option_map_or (λ n. n == own) head false
 
 -- the first of a line is the first of its queue
 pub starting_told : (rows : List JobRow) (lists : List (List ℕ)) (lines : Keyed) (ready : Ready) → IsKept rows lists lines → AreMarked rows lines ready
-    → map (λ row. in_phase is_waiting row && is_first rows row) rows ≡ ready.starting
-starting_told rows lists lines ready kept marked = (λ i. map (λ row. in_phase is_waiting row && head row i) rows) ∙ marked.starting
+    → map (λ row. is_in_phase is_waiting row && is_first rows row) rows ≡ ready.starting
+starting_told rows lists lines ready kept marked = (λ i. map (λ row. is_in_phase is_waiting row && head row i) rows) ∙ marked.starting
   where
     head : (row : JobRow) → is_first rows row ≡ is_head lines row.job
     head row =
@@ -37,9 +37,9 @@ starting_told rows lists lines ready kept marked = (λ i. map (λ row. in_phase 
 pub flags_there : (rows : List JobRow) (lines : Keyed) (ready : Ready) (place : ℕ) → AreMarked rows lines ready → place < length rows → HasFlags place ready
 flags_there rows lines ready place marked below = record {
   starting = many (may_start lines) ready.starting marked.starting;
-  fetching = many (in_phase is_fetching) ready.fetching marked.fetching;
-  evaluating = many (in_phase is_evaluating) ready.evaluating marked.evaluating;
-  installing = many (in_phase is_installing) ready.installing marked.installing;
+  fetching = many (is_in_phase is_fetching) ready.fetching marked.fetching;
+  evaluating = many (is_in_phase is_evaluating) ready.evaluating marked.evaluating;
+  installing = many (is_in_phase is_installing) ready.installing marked.installing;
 }
   where
     many : (test : JobRow → Bool) (flags : List Bool) → map test rows ≡ flags → place < length flags
@@ -54,7 +54,7 @@ starts_not lines row past = (λ i. is_none row.leader && past i && is_head lines
     by true = refl
     by false = refl
 
-in_phase_is : (test : JobPhase → Bool) (row : JobRow) → is_none row.leader ≡ true → test row.phase ≡ in_phase test row
+in_phase_is : (test : JobPhase → Bool) (row : JobRow) → is_none row.leader ≡ true → test row.phase ≡ is_in_phase test row
 in_phase_is test row alone = λ i. sym alone i && test row.phase
 
 -- the rest of the flags, once the row of a place is in another phase
@@ -62,9 +62,9 @@ pub marked_moved : (rows : List JobRow) (lines : Keyed) (ready : Ready) (place :
     → is_none new.leader ≡ true → is_waiting new.phase ≡ false → AreMarked (set rows place new) lines (moved place new.phase ready)
 marked_moved rows lines ready place new marked alone past = record {
   starting = flags_set (may_start lines) rows ready.starting place new false marked.starting (sym (starts_not lines new past));
-  fetching = flags_set (in_phase is_fetching) rows ready.fetching place new _ marked.fetching (in_phase_is is_fetching new alone);
-  evaluating = flags_set (in_phase is_evaluating) rows ready.evaluating place new _ marked.evaluating (in_phase_is is_evaluating new alone);
-  installing = flags_set (in_phase is_installing) rows ready.installing place new _ marked.installing (in_phase_is is_installing new alone);
+  fetching = flags_set (is_in_phase is_fetching) rows ready.fetching place new _ marked.fetching (in_phase_is is_fetching new alone);
+  evaluating = flags_set (is_in_phase is_evaluating) rows ready.evaluating place new _ marked.evaluating (in_phase_is is_evaluating new alone);
+  installing = flags_set (is_in_phase is_installing) rows ready.installing place new _ marked.installing (in_phase_is is_installing new alone);
 }
 
 -- what is under way doesn't wait
@@ -110,8 +110,8 @@ marked_changed rows lines ready passes f marked job leader phase = record {
   installing = in_same is_installing ∙ marked.installing;
 }
   where
-    in_same : (test : JobPhase → Bool) → map (in_phase test) (changed passes f rows) ≡ map (in_phase test) rows
-    in_same test = map_changed (in_phase test) passes f (λ row i. is_none (leader row i) && test (phase row i)) rows
+    in_same : (test : JobPhase → Bool) → map (is_in_phase test) (changed passes f rows) ≡ map (is_in_phase test) rows
+    in_same test = map_changed (is_in_phase test) passes f (λ row i. is_none (leader row i) && test (phase row i)) rows
 
 -- ---- one more job
 
@@ -137,7 +137,7 @@ pub starting_more : (rows : List JobRow) (lines after : Keyed) (new : JobRow) �
     → map (may_start after) rows ≡ map (may_start lines) rows
 starting_more rows lines after new are is added =
     map_from (may_start after) (may_start lines) 0 (length rows) rows are (omega arith)
-    (λ row below i. in_phase is_waiting row && head row below i)
+    (λ row below i. is_in_phase is_waiting row && head row below i)
   where
     by : (here : Bool) (numbers : List ℕ) (own : ℕ) → own < number new
         → is_at own (slice_get (if here then numbers ++ number new ∷ [] else numbers) 0) ≡ is_at own (slice_get numbers 0)
@@ -166,9 +166,9 @@ marked_more rows others lines after ready was more new starts marked same waits 
     (subst (AreMarked (rows ++ new ∷ []) after) (sym is)
     (record {
       starting = added (may_start after) was.starting starts (same ∙ marked.starting ∙ ap (λ (r : Ready). r.starting) (sym was_is)) (sym starts_is);
-      fetching = added (in_phase is_fetching) was.fetching false (marked.fetching ∙ ap (λ (r : Ready). r.fetching) (sym was_is)) (others_not new.phase waits (is_none new.leader)).0;
-      evaluating = added (in_phase is_evaluating) was.evaluating false (marked.evaluating ∙ ap (λ (r : Ready). r.evaluating) (sym was_is)) (others_not new.phase waits (is_none new.leader)).1;
-      installing = added (in_phase is_installing) was.installing false (marked.installing ∙ ap (λ (r : Ready). r.installing) (sym was_is)) (others_not new.phase waits (is_none new.leader)).2;
+      fetching = added (is_in_phase is_fetching) was.fetching false (marked.fetching ∙ ap (λ (r : Ready). r.fetching) (sym was_is)) (others_not new.phase waits (is_none new.leader)).0;
+      evaluating = added (is_in_phase is_evaluating) was.evaluating false (marked.evaluating ∙ ap (λ (r : Ready). r.evaluating) (sym was_is)) (others_not new.phase waits (is_none new.leader)).1;
+      installing = added (is_in_phase is_installing) was.installing false (marked.installing ∙ ap (λ (r : Ready). r.installing) (sym was_is)) (others_not new.phase waits (is_none new.leader)).2;
     }))
   where
     added : (test : JobRow → Bool) (flags : List Bool) (flag : Bool) → map test rows ≡ flags → test new ≡ flag

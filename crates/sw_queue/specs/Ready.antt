@@ -5,7 +5,7 @@ use Rattle.std.specs.Option.{option_map_or}
 use Rattle.sw_data.specs.declared.rows.Job.{Job}
 use Rattle.sw_data.specs.declared.rows.JobPhase.{JobPhase}
 use Rattle.sw_data.specs.declared.rows.JobRow.{JobRow}
-use Rattle.sw_rules.specs.Rows.{in_phase, is_evaluating, is_fetching, is_installing, is_waiting}
+use Rattle.sw_rules.specs.Rows.{is_in_phase, is_evaluating, is_fetching, is_installing, is_waiting}
 use Rattle.sw_queue.specs.Kept.{IsKept}
 use Rattle.sw_queue.specs.Lines.{Keyed, line_in}
 
@@ -39,7 +39,7 @@ is_head lines job = option_map_or (λ number. number == job.number) (slice_get (
 
 -- own: the job joined no other, waits, and stands first in its line
 abbrev pub may_start : Keyed → JobRow → Bool
-may_start lines row = in_phase is_waiting row && is_head lines row.job
+may_start lines row = is_in_phase is_waiting row && is_head lines row.job
 
 -- own: the job of a number has become the first of its line
 abbrev pub led_by : Option ℕ → Keyed → List JobRow → Ready → Ready
@@ -51,9 +51,9 @@ led_by (Some number) lines rows ready = record ready {
 -- own: the flags tell which jobs are ready
 pub record AreMarked (rows : List JobRow) (lines : Keyed) (ready : Ready) : Type 0 where
   pub starting : map (may_start lines) rows ≡ ready.starting
-  pub fetching : map (in_phase is_fetching) rows ≡ ready.fetching
-  pub evaluating : map (in_phase is_evaluating) rows ≡ ready.evaluating
-  pub installing : map (in_phase is_installing) rows ≡ ready.installing
+  pub fetching : map (is_in_phase is_fetching) rows ≡ ready.fetching
+  pub evaluating : map (is_in_phase is_evaluating) rows ≡ ready.evaluating
+  pub installing : map (is_in_phase is_installing) rows ≡ ready.installing
 
 -- own: what is kept of the rows, and which of them are ready
 pub record IsIndexed (rows : List JobRow) (lists : List (List ℕ)) (lines : Keyed) (ready : Ready) : Type 0 where

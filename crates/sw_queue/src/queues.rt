@@ -7,7 +7,7 @@ ghost use Rattle.std.specs.Result.{result_ok};
 ghost use Rattle.sw_data.specs.declared.answers.Notice.TheVariants as notice;
 ghost use Rattle.sw_data.specs.declared.rows.JobPhase.TheVariants as job_phase;
 ghost use Rattle.sw_rules.specs.Jobs.{gets_value, is_equivalent, new_job_row};
-ghost use Rattle.sw_rules.specs.Rows.{changed, first_job, in_phase, is_evaluating, is_fetching, is_first, is_installing, is_job, is_waiting, last_job};
+ghost use Rattle.sw_rules.specs.Rows.{changed, first_job, is_in_phase, is_evaluating, is_fetching, is_first, is_installing, is_job, is_waiting, last_job};
 ghost use Rattle.sw_queue.specs.Kept.{AreFrom, followers_of};
 ghost use Rattle.sw_queue.specs.Ready.{led_by, may_start};
 ghost use Rattle.sw_queue.specs.Tables.{FitsJob, FollowersStay, HasPlace, given, has_head, has_job, with_phase, is_under_way, joined_in, noted, ready_job, scheduled_as, settled_all, told_at, told_of};
@@ -229,28 +229,28 @@ impl Queues {
     /// in the number of the blocks of flags and in the length of two of them.
     pub fn first_waiting(&self) -> Option<&JobRow>
         ensures { option_copied result
-            ≡ find (λ row. in_phase is_waiting row && is_first self.now.rows row) self.now.rows }
+            ≡ find (λ row. is_in_phase is_waiting row && is_first self.now.rows row) self.now.rows }
     {
         self.ready.first_starting(&self.rows)
     }
 
     /// The first job at or behind a number whose fetch is in flight. It takes no memory, and time as `first_waiting` does.
     pub fn next_fetching(&self, from: u32) -> Option<&JobRow>
-        ensures { option_copied result ≡ find (in_phase is_fetching) (drop from self.now.rows) }
+        ensures { option_copied result ≡ find (is_in_phase is_fetching) (drop from self.now.rows) }
     {
         self.ready.next_fetching(&self.rows, from)
     }
 
     /// The first job whose worker is to be evaluated. It takes no memory, and time as `first_waiting` does.
     pub fn first_evaluating(&self) -> Option<&JobRow>
-        ensures { option_copied result ≡ find (in_phase is_evaluating) self.now.rows }
+        ensures { option_copied result ≡ find (is_in_phase is_evaluating) self.now.rows }
     {
         self.ready.first_evaluating(&self.rows)
     }
 
     /// The first job at or behind a number whose worker installs. It takes no memory, and time as `first_waiting` does.
     pub fn next_installing(&self, from: u32) -> Option<&JobRow>
-        ensures { option_copied result ≡ find (in_phase is_installing) (drop from self.now.rows) }
+        ensures { option_copied result ≡ find (is_in_phase is_installing) (drop from self.now.rows) }
     {
         self.ready.next_installing(&self.rows, from)
     }

@@ -25,7 +25,8 @@ use Rattle.sw_laws.proofs.Lists.{bound_holds, by_option, by_test, mapped_holds}
 use Rattle.sw_laws.proofs.Split.{IsLaw, IsRecheckLaw, unload-law}
 use Rattle.sw_roster.specs.Members.{has_closed, has_opened, opened}
 use Rattle.sw_rules.specs.Activating.{become_activated, worker_or_none}
-use Rattle.sw_rules.specs.Caching.{add_cache, add_task, carry_out, drop_cache, forget_key, settle_task}
+use Rattle.sw_rules.specs.Caching.{add_cache, add_task, carry_out, drop_cache, settle_task}
+use Rattle.sw_rules.specs.Forgetting.{forget_key}
 use Rattle.sw_rules.specs.Calls.{is_next_call, make_call, note_call, noted}
 use Rattle.sw_rules.specs.Clients.{add_client, add_event, claim_client, claim_clients, claim_of, claims, close, leave, new_client, open_at, open_client, opening_controller, remove_client, remove_event, take_control, with_slot}
 use Rattle.sw_rules.specs.Installing.{become_waiting, begin_install, discard, end_handler, fail_install, finish_install, make_worker, reject_and_drop, tell_update, throw}

@@ -1,6 +1,6 @@
--- Caches: the actions of pages and handlers on them, addAll with its fetches, and forgetting a key.
-use Rattle.std.specs.Prelude.{ℕ, ◌+◌, Bool, true, false, not, ◌&&◌, ◌||◌, ◌==◌, List, [], ◌∷◌, ◌++◌, filter, filter_map, find, map, fold, flat_map, length, bytes_eq, is_none, is_some, Option, Some, None, option_map, option_and_then, Result, Ok, Err, if◌then◌else◌}
-use Rattle.std.specs.List.{enumerate_from, list_any, zip}
+-- Caches: the actions of pages and handlers on them, and addAll with its fetches.
+use Rattle.std.specs.Prelude.{ℕ, ◌+◌, Bool, true, false, not, ◌&&◌, ◌||◌, ◌==◌, List, [], ◌∷◌, ◌++◌, filter, filter_map, find, map, fold, length, bytes_eq, is_none, is_some, Option, Some, None, option_map, option_and_then, Result, Ok, Err, if◌then◌else◌}
+use Rattle.std.specs.List.{enumerate_from, zip}
 use Rattle.std.specs.Option.{option_map_or}
 use Rattle.sw_data.specs.declared.answers.Answer.{Answer}
 use Rattle.sw_data.specs.declared.answers.Answer.TheVariants as answer
@@ -8,8 +8,6 @@ use Rattle.sw_data.specs.declared.answers.Cause.{Cause}
 use Rattle.sw_data.specs.declared.answers.Cause.TheVariants as cause
 use Rattle.sw_data.specs.declared.answers.Fault.{Fault}
 use Rattle.sw_data.specs.declared.answers.Fault.TheVariants as fault
-use Rattle.sw_data.specs.declared.answers.Notice.{Notice}
-use Rattle.sw_data.specs.declared.answers.Notice.TheVariants as notice
 use Rattle.sw_data.specs.declared.answers.SecurityCause.TheVariants as security
 use Rattle.sw_data.specs.declared.answers.Settlement.{Settlement}
 use Rattle.sw_data.specs.declared.answers.Settlement.TheVariants as settlement
@@ -36,24 +34,20 @@ use Rattle.sw_rules.specs.Installing.{fetched_of, is_ok_status}
 use Rattle.sw_rules.specs.Jobs.{next_draw, promise, with_draw}
 use Rattle.sw_rules.specs.Matching.{Pair, first_match, is_get, query_of, varies_on_all}
 use Rattle.sw_rules.specs.Registering.{rejected}
-use Rattle.sw_rules.specs.Registrations.{clear_notices, clear_state}
-use Rattle.sw_rules.specs.Rows.{changed, is_number, is_task, is_unfinished, key_of_worker, maker_worker, task_row}
-use Rattle.sw_rules.specs.State.{State, Registration, Worker, AddAll, Handler, Draws, of_task}
+use Rattle.sw_rules.specs.Rows.{changed, is_number, is_task, maker_worker, task_row}
+use Rattle.sw_rules.specs.State.{State, Worker, AddAll, Handler, Draws, of_task}
 use Rattle.sw_rules.specs.Storage.{is_cache, with_cache}
 use Rattle.sw_rules.specs.Told.{Told, Outcome, answered, followed, quiet, refused, type_error}
 
 -- ---- the storage key of a page (Storage, "obtain a storage key"; Service Workers, "SecureContext")
 
--- the key, or the first refusal: the address doesn't parse; it isn't http or https; it isn't trustworthy
-abbrev pub key_or_fault : Bool → Option (List ℕ) → Bool → Result (List ℕ) Fault
-key_or_fault false key trusted = Err (type_error cause.Unparsed)
-key_or_fault true None trusted = Err (type_error cause.Scheme)
-key_or_fault true (Some key) false = Err (fault.SecurityError security.Untrusted)
-key_or_fault true (Some key) true = Ok key
-
+-- the key of a page, or why it has none
 abbrev pub place_key : Place → Result (List ℕ) Fault
 place_key place =
-    key_or_fault (is_some (address_of place.at)) (key_of place.at place.partition) (is_trustworthy place.at)
+    elim (key_of place.at place.partition) [
+      | None ↦ Err (type_error (if is_some (address_of place.at) then cause.Scheme else cause.Unparsed))
+      | Some key ↦ if is_trustworthy place.at then Ok key else Err (fault.SecurityError security.Untrusted)
+    ]
 
 -- what an action does with the key of its place
 abbrev pub with_key : State → Place → (List ℕ → Outcome) → Outcome
@@ -179,17 +173,19 @@ run_batch state key name ops done fault_of pairs =
       | Err why ↦ refused state (fault_of why)
     ]
 
--- the fault of an operation alone, which has no index but that of a clash
-abbrev pub single_fault : BatchFault → Fault
-single_fault (TypeError at why) = type_error why
-single_fault (InvalidState at) = fault.InvalidStateAt at
-single_fault (Quota size) = fault.Quota
+-- the fault of a batch, a TypeError of which has this index of its operation
+abbrev pub fault_of : (ℕ → Option ℕ) → BatchFault → Fault
+fault_of index (TypeError at why) = fault.TypeError why (index at)
+fault_of index (InvalidState at) = fault.InvalidStateAt at
+fault_of index (Quota size) = fault.Quota
 
 -- the fault of a batch, with the index of its operation
 abbrev pub batch_fault : BatchFault → Fault
-batch_fault (TypeError at why) = fault.TypeError why (Some at)
-batch_fault (InvalidState at) = fault.InvalidStateAt at
-batch_fault (Quota size) = fault.Quota
+batch_fault why = fault_of Some why
+
+-- the fault of an operation alone, which has no index but that of a clash
+abbrev pub single_fault : BatchFault → Fault
+single_fault why = fault_of (λ at. None) why
 
 -- "put()", the request's address being parsed against a base
 abbrev pub put_response : State → List ℕ → CachePut → List ℕ → Outcome
@@ -214,13 +210,14 @@ parsed_op base (op.Delete request options) =
 parsed_op base (op.Put request response) =
     option_map (λ url. op.Put (record request { url = url }) response) (resolved request.url base)
 
--- the operations before the first whose address doesn't parse, and whether all parse
-abbrev pub parsed_ops : List ℕ → List Op → List Op × Bool
-parsed_ops base [] = ([], true)
+-- the operations with their addresses parsed, or those before the first whose address doesn't parse
+abbrev pub parsed_ops : List ℕ → List Op → Result (List Op) (List Op)
+parsed_ops base [] = Ok []
 parsed_ops base (first ∷ rest) =
     elim (parsed_op base first) [
-      | None ↦ ([], false)
-      | Some parsed ↦ let others = parsed_ops base rest in (parsed ∷ others.0, others.1)
+      | None ↦ Err []
+      | Some parsed ↦
+          elim (parsed_ops base rest) [ Ok others ↦ Ok (parsed ∷ others) | Err before ↦ Err (parsed ∷ before) ]
     ]
 
 -- the fault of a batch that has an operation whose address doesn't parse, behind these: what they throw, or else that fault
@@ -231,10 +228,9 @@ unparsed_fault pairs before =
       | Err why ↦ batch_fault why
     ]
 
-abbrev pub batch_parsed : State → List ℕ → List ℕ → List Op × Bool → List Pair → Outcome
-batch_parsed state key name parsed pairs =
-    if parsed.1 then run_batch state key name parsed.0 answer.Ok batch_fault pairs
-    else refused state (unparsed_fault pairs parsed.0)
+abbrev pub batch_parsed : State → List ℕ → List ℕ → Result (List Op) (List Op) → List Pair → Outcome
+batch_parsed state key name (Ok ops) pairs = run_batch state key name ops answer.Ok batch_fault pairs
+batch_parsed state key name (Err before) pairs = refused state (unparsed_fault pairs before)
 
 -- a batch of operations
 abbrev pub batch_ops : State → List ℕ → CacheBatch → List ℕ → Outcome
@@ -323,8 +319,8 @@ add_all_at state who place asked =
     elim (place_key place) [ Ok key ↦ add_all state who place.at asked key | Err why ↦ rejected state who why ]
 
 -- the fault of one response of an addAll
-abbrev pub fetched_fault : Option FetchLine → Option Cause
-fetched_fault line =
+abbrev pub response_fault : Option FetchLine → Option Cause
+response_fault line =
     elim (fetched_of line) [
       | None ↦ Some cause.Network
       | Some fetched ↦
@@ -339,18 +335,18 @@ abbrev pub responses_fault : ℕ → List Request → List (Option FetchLine) �
 responses_fault at [] lines = None
 responses_fault at (request ∷ rest) [] = Some (fault.TypeError cause.Network (Some at))
 responses_fault at (request ∷ rest) (line ∷ lines) =
-    elim (fetched_fault line) [
+    elim (response_fault line) [
       | Some why ↦ Some (fault.TypeError why (Some at))
       | None ↦ responses_fault (at + 1) rest lines
     ]
 
 -- the put of a request and its response
-abbrev pub fetched_put : Request × Option FetchLine → Option Op
-fetched_put item = option_map (λ fetched. op.Put item.0 fetched.response) (fetched_of item.1)
+abbrev pub put_of_response : Request × Option FetchLine → Option Op
+put_of_response item = option_map (λ fetched. op.Put item.0 fetched.response) (fetched_of item.1)
 
 -- the batch of an addAll
 abbrev pub puts_of : List Request → List (Option FetchLine) → List Op
-puts_of requests lines = filter_map fetched_put (zip requests lines)
+puts_of requests lines = filter_map put_of_response (zip requests lines)
 
 -- a handler notes whether an addAll of it settled with a fault
 abbrev pub noted_task : Bool → Handler → Handler
@@ -404,50 +400,3 @@ abbrev pub added : State → ℕ → List (Option FetchLine) → Option Outcome
 added state number lines =
     option_and_then (λ row. if is_none row.settled then Some (task_ended state lines row) else None)
     (task_row state number)
-
--- ---- forget (own)
-
--- a worker's registration has this key
-abbrev pub is_worker_of_key : State → List ℕ → ℕ → Bool
-is_worker_of_key state key worker = option_map_or (bytes_eq key) (key_of_worker state worker) false
-
--- a key has an open client, an unfinished job, a running handler, a pending fetch event or an unsettled addAll
-abbrev pub is_busy : State → List ℕ → Bool
-is_busy state key =
-    list_any (λ row. bytes_eq row.key key) state.clients
-    || list_any (λ row. is_unfinished row && bytes_eq row.job.key key) state.jobs
-    || list_any (λ row. is_some row.handler && is_worker_of_key state key row.number) state.workers
-    || list_any (λ row. is_worker_of_key state key row.worker) state.fetch_events
-    || list_any (λ row. is_none row.settled && bytes_eq row.key key) state.tasks
-
--- a mapped registration of a key
-abbrev pub is_mapped_of : List ℕ → Registration → Bool
-is_mapped_of key row = row.mapped && bytes_eq row.key key
-
--- a worker of one of these registrations
-abbrev pub is_worker_of_any : List Registration → Worker → Bool
-is_worker_of_any rows worker = list_any (λ row. row.number == worker.registration) rows
-
--- what is told where a registration leaves the map and is cleared
-abbrev pub forget_notices : State → Registration → List Notice
-forget_notices state row = notice.Unmapped row.number ∷ clear_notices state row.number
-
--- each mapped registration of a key leaves the map and is cleared, and the caches of the key are removed
-unfoldable pub forget_key : State → List ℕ → Told
-forget_key state key =
-    let rows = filter (is_mapped_of key) state.registrations in
-    record {
-      state = record state {
-        registrations = changed (is_mapped_of key) (λ row. record row { mapped = false }) state.registrations;
-        workers =
-            changed (is_worker_of_any rows) (λ worker. record worker { state = clear_state worker.state }) state.workers;
-        caches = filter (λ row. not (bytes_eq row.key key)) state.caches;
-      };
-      notices = flat_map (forget_notices state) rows;
-      changes = change.Forgot key ∷ [];
-    }
-
-abbrev pub forget : State → List ℕ → Outcome
-forget state key =
-    if is_busy state key then answered state answer.Busy
-    else record { answer = answer.Ok; told = forget_key state key }

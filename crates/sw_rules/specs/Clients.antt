@@ -22,7 +22,7 @@ use Rattle.sw_rules.specs.Activating.{worker_or_none}
 use Rattle.sw_rules.specs.Jobs.{promised_value}
 use Rattle.sw_rules.specs.Registering.{with_client}
 use Rattle.sw_rules.specs.Registrations.{controlled_by, recheck, try_activate, unload}
-use Rattle.sw_rules.specs.Rows.{active_worker, changed, client_row, event_row, is_activating, is_active, is_client, is_event, is_number, is_worker, mapped_registration, matched_registration, named_scope, registration_of, slot_worker, without, worker_row}
+use Rattle.sw_rules.specs.Rows.{active_worker_number, changed, client_row, event_row, is_activating, is_active, is_client, is_event, is_number, is_worker, mapped_registration, matched_registration_number, named_scope, registration_of, slot_worker, without, worker_row}
 use Rattle.sw_rules.specs.State.{State, Registration, Worker}
 use Rattle.sw_rules.specs.Told.{Told, Outcome, answered, followed, quiet, refused, type_error}
 
@@ -31,7 +31,7 @@ use Rattle.sw_rules.specs.Told.{Told, Outcome, answered, followed, quiet, refuse
 -- the controller that a client of a key gets where it opens: the active worker of the matched registration (Service Workers, Appendix A, "Match Service Worker Registration")
 abbrev pub opening_controller : State → List ℕ → List ℕ → Option ℕ
 opening_controller state key url =
-    if is_trustworthy url then option_and_then (active_worker state) (matched_registration state key url) else None
+    if is_trustworthy url then option_and_then (active_worker_number state) (matched_registration_number state key url) else None
 
 -- a client
 abbrev pub new_client : State → ℕ → List ℕ → List ℕ → ClientRow
@@ -96,8 +96,8 @@ await state _ of = None
 -- the registration that a client's address matches, where it has an active worker (Service Workers, ServiceWorkerContainer, "ready")
 abbrev pub ready_registration : State → ClientRow → Option ℕ
 ready_registration state client =
-    option_and_then (λ registration. option_map (λ worker. registration) (active_worker state registration))
-    (matched_registration state client.key client.url)
+    option_and_then (λ registration. option_map (λ worker. registration) (active_worker_number state registration))
+    (matched_registration_number state client.key client.url)
 
 abbrev pub ready : State → ℕ → Option Outcome
 ready state number =
@@ -115,7 +115,7 @@ registration_or_undefined None = answer.Undefined
 abbrev pub registration_at : State → ClientRow → List ℕ → Outcome
 registration_at state client url =
     if same_origin url client.url
-    then answered state (registration_or_undefined (matched_registration state client.key url))
+    then answered state (registration_or_undefined (matched_registration_number state client.key url))
     else refused state (fault.SecurityError security.Origin)
 
 abbrev pub get_registration : State → ℕ → List ℕ → Outcome
@@ -187,7 +187,7 @@ take_control state worker client = record {
 abbrev pub claims : State → ℕ → ℕ → ClientRow → Bool
 claims state worker registration client =
     client.secure
-    && is_number (matched_registration state client.key client.url) registration
+    && is_number (matched_registration_number state client.key client.url) registration
     && not (is_number client.controller worker)
 
 -- one client is claimed, where it is to be

@@ -14,7 +14,7 @@ use Rattle.sw_data.specs.declared.rows.ClientRow.{ClientRow}
 use Rattle.sw_data.specs.declared.storage.Kept.{Kept}
 use Rattle.sw_data.specs.Events.{who_of}
 use Rattle.sw_rules.specs.State.{State, Worker}
-use Rattle.sw_rules.specs.Rows.{active_worker, named_registration, registration_of, slot_worker, worker_row}
+use Rattle.sw_rules.specs.Rows.{active_worker_number, named_registration, registration_of, slot_worker, worker_row}
 use Rattle.sw_rules.specs.Step.{Step, changes_of, state_after}
 use Rattle.sw_rules.specs.Restart.{restart}
 use Rattle.sw_rules.specs.Storage.{IsMade}
@@ -141,7 +141,7 @@ IsSomeWorker (Some worker) controller = controller ≡ Some worker
 abbrev pub HasGiven : State → ClientRow → Option ℕ → Type 0
 HasGiven state client None = client.controller ≡ None
 HasGiven state client (Some registration) =
-    IsSomeWorker (active_worker state registration) client.controller
+    IsSomeWorker (active_worker_number state registration) client.controller
 
 -- in a state each client has what it was given
 abbrev pub ControlledIn : State → (ℕ → Option ℕ) → Type 0

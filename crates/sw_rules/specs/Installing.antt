@@ -1,5 +1,5 @@
 -- Installing: what follows the fetch of a job's script, its evaluation, and the end of its install handler.
-use Rattle.std.specs.Prelude.{ℕ, Bool, true, false, not, ◌&&◌, ◌||◌, nat_le, List, [], ◌∷◌, ◌++◌, codes, filter, length, bytes_eq, is_none, is_some, Option, Some, None, option_map, option_and_then, if◌then◌else◌}
+use Rattle.std.specs.Prelude.{ℕ, Bool, true, false, not, ◌&&◌, ◌||◌, nat_le, List, [], ◌∷◌, ◌++◌, codes, filter, length, bytes_eq, is_none, is_some, Option, Some, None, option_map, option_and_then, Result, Ok, Err, if◌then◌else◌}
 use Rattle.std.specs.Option.{option_map_or, option_or}
 use Rattle.sw_data.specs.declared.answers.Answer.TheVariants as answer
 use Rattle.sw_data.specs.declared.answers.Cause.TheVariants as cause
@@ -27,7 +27,7 @@ use Rattle.sw_data.specs.Headers.{first_value}
 use Rattle.sw_data.specs.Media.{is_javascript}
 use Rattle.sw_rules.specs.Jobs.{finish, resolve_and_finish, same_kind, settle}
 use Rattle.sw_rules.specs.Registrations.{new_handler, drop_registration, set_mode, shift, tell_redundant, unmap}
-use Rattle.sw_rules.specs.Rows.{changed, free_handler, in_phase, is_evaluating, is_fetching, is_install, is_installing, is_job, is_registration, is_worker, job_row, newest_worker, registration_row, slot_worker, worker_row}
+use Rattle.sw_rules.specs.Rows.{changed, free_handler, is_in_phase, is_evaluating, is_fetching, is_install, is_installing, is_job, is_registration, is_worker, job_row, newest_worker, registration_row, slot_worker, worker_row}
 use Rattle.sw_rules.specs.State.{State, Registration, Worker, Handler}
 use Rattle.sw_rules.specs.Told.{Told, Outcome, followed, quiet, type_error}
 
@@ -47,13 +47,14 @@ is_scope_allowed job headers =
     option_map_or (is_within_bound job.scope)
     (scope_bound job.script (first_value (codes "service-worker-allowed") headers)) false
 
--- the first fault of a response to a job's script (that a network error is tested first is own)
-abbrev pub script_fault : Job → Fetched → Option Fault
-script_fault job fetched =
-    if not (is_javascript fetched.response.headers) then Some (fault.SecurityError security.Mime)
-    else if not (is_scope_allowed job fetched.response.headers) then Some (fault.SecurityError security.Scope)
-    else if not (is_ok_status fetched.response.status) then Some (type_error cause.Status)
-    else None
+-- the script that a fetch gave, or its first fault (that a network error is tested first is own)
+abbrev pub script_of : Job → Option Fetched → Result Fetched Fault
+script_of job None = Err (type_error cause.Network)
+script_of job (Some fetched) =
+    if not (is_javascript fetched.response.headers) then Err (fault.SecurityError security.Mime)
+    else if not (is_scope_allowed job fetched.response.headers) then Err (fault.SecurityError security.Scope)
+    else if not (is_ok_status fetched.response.status) then Err (type_error cause.Status)
+    else Ok fetched
 
 -- a job's promise is rejected, its registration leaves the map where it has no worker, and the job is over
 unfoldable pub reject_and_drop : State → ℕ → ℕ → Fault → Told
@@ -103,25 +104,17 @@ make_worker state row registration fetched = record {
   changes = [];
 }
 
--- the fetch of a job's script gave this
-unfoldable pub fetched_script : State → JobRow → ℕ → Fetched → Outcome
-fetched_script state row registration fetched =
-    elim (script_fault row.job fetched) [
-      | Some why ↦
+-- the fetch of a job's script has ended, and gave this
+unfoldable pub fetch_ended : State → JobRow → Option Fetched → ℕ → Outcome
+fetch_ended state row given registration =
+    elim (script_of row.job given) [
+      | Err why ↦
           record { answer = answer.Rejected; told = reject_and_drop state row.job.number registration why }
-      | None ↦
-          if is_same_script state row.job registration fetched.response.body
+      | Ok script ↦
+          if is_same_script state row.job registration script.response.body
           then record { answer = answer.Unchanged; told = keep_script state row.job registration }
-          else record { answer = answer.Changed; told = make_worker state row registration fetched }
+          else record { answer = answer.Changed; told = make_worker state row registration script }
     ]
-
--- the fetch of a job's script has ended
-abbrev pub fetch_ended : State → JobRow → Option Fetched → ℕ → Outcome
-fetch_ended state row None registration = record {
-  answer = answer.Rejected;
-  told = reject_and_drop state row.job.number registration (type_error cause.Network);
-}
-fetch_ended state row (Some fetched) registration = fetched_script state row registration fetched
 
 -- a job that joined no other, in this phase
 abbrev pub job_in : (JobRow → Bool) → State → ℕ → Option JobRow
@@ -132,7 +125,7 @@ job_in test state number =
 abbrev pub fetched : State → ℕ → Option FetchLine → Option Outcome
 fetched state number line =
     option_and_then (λ row. option_map (fetch_ended state row (fetched_of line)) row.registration)
-    (job_in (in_phase is_fetching) state number)
+    (job_in (is_in_phase is_fetching) state number)
 
 -- ---- the evaluation of a script (Service Workers, Appendix A, "Update" and "Install")
 
@@ -205,7 +198,7 @@ evaluated state number =
     option_and_then (λ registration.
     option_map (evaluated_worker state row.job registration) (job_worker state row))
     row.registration)
-    (job_in (in_phase is_evaluating) state number)
+    (job_in (is_in_phase is_evaluating) state number)
 
 -- ---- the end of an install handler (Service Workers, Appendix A, "Install", from the install event on)
 
@@ -292,4 +285,4 @@ installed state number =
     option_map (install_ended state row registration worker) (ended_handler state is_install worker))
     (job_worker state row))
     row.registration)
-    (job_in (in_phase is_installing) state number)
+    (job_in (is_in_phase is_installing) state number)

@@ -15,11 +15,13 @@ pub mod Caching
 pub mod Calls
 pub mod Clients
 pub mod Durable
+pub mod Forgetting
 pub mod History
 pub mod Installing
 pub mod Jobs
 pub mod Laws
 pub mod Matching
+pub mod Noticing
 pub mod Picks
 pub mod Preloading
 pub mod Recordings
@@ -33,4 +35,3 @@ pub mod Step
 pub mod Storage
 pub mod Tasks
 pub mod Told
-pub mod Noticing

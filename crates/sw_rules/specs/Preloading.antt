@@ -8,7 +8,7 @@ use Rattle.sw_data.specs.declared.recordings.ClientScope.{ClientScope}
 use Rattle.sw_data.specs.declared.storage.Change.TheVariants as change
 use Rattle.sw_data.specs.Sameness.{same_truth}
 use Rattle.sw_rules.specs.Clients.{with_named}
-use Rattle.sw_rules.specs.Rows.{active_worker, changed, is_registration, registration_row}
+use Rattle.sw_rules.specs.Rows.{active_worker_number, changed, is_registration, registration_row}
 use Rattle.sw_rules.specs.State.{State, Registration}
 use Rattle.sw_rules.specs.Told.{Told, Outcome, answered, kept_change, refused}
 
@@ -33,7 +33,7 @@ set_preload state registration on text = record {
 -- a registration with an active worker gets a preload flag and value
 abbrev pub preload_set : State → Registration → Bool → List ℕ → Outcome
 preload_set state row on text =
-    if is_some (active_worker state row.number)
+    if is_some (active_worker_number state row.number)
     then record { answer = answer.Ok; told = set_preload state row.number on text }
     else refused state (fault.InvalidState state_cause.NotActive)
 

@@ -23,7 +23,7 @@ use Rattle.sw_data.specs.declared.workers.Mode.TheVariants as mode
 use Rattle.sw_data.specs.Addresses.{AddressFault, Unparsed, Scheme, EscapedSlash, is_trustworthy, same_origin, scope_address, script_address}
 use Rattle.sw_rules.specs.Jobs.{finish, next_draw, promise, resolve_and_finish, same_kind, same_mode, schedule, scheduled, settle, with_draw}
 use Rattle.sw_rules.specs.Registrations.{map_registration, try_clear, unmap}
-use Rattle.sw_rules.specs.Rows.{changed, client_row, in_phase, is_first, is_job, is_waiting, job_row, mapped_registration, named_scope, newest_worker}
+use Rattle.sw_rules.specs.Rows.{changed, client_row, is_in_phase, is_first, is_job, is_waiting, job_row, mapped_registration, named_scope, newest_worker}
 use Rattle.sw_rules.specs.State.{State, Registration, Worker, of_job, value}
 use Rattle.sw_rules.specs.Told.{Told, Outcome, answered, followed, quiet, type_error}
 
@@ -257,7 +257,7 @@ run_job state job =
 
 -- a job may run: it is waiting, and stands first in its queue
 abbrev pub may_run : State → JobRow → Bool
-may_run state row = in_phase is_waiting row && is_first state.jobs row
+may_run state row = is_in_phase is_waiting row && is_first state.jobs row
 
 -- a job runs, where it may
 abbrev pub run : State → ℕ → Option Outcome

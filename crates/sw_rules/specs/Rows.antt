@@ -66,17 +66,20 @@ abbrev pub is_unfinished : JobRow → Bool
 is_unfinished row = is_none row.leader && not (is_done row.phase)
 
 -- a job that joined no other is in this phase
-abbrev pub in_phase : (JobPhase → Bool) → JobRow → Bool
-in_phase test row = is_none row.leader && test row.phase
+abbrev pub is_in_phase : (JobPhase → Bool) → JobRow → Bool
+is_in_phase test row = is_none row.leader && test row.phase
 
--- the queue of a key and a scope (Service Workers, Appendix A, "job queue"; that a key has its own is own)
+-- a job stands in the queue of a key and a scope (Service Workers, Appendix A, "job queue"; that a key has its own is own)
+abbrev pub in_queue : List ℕ → List ℕ → JobRow → Bool
+in_queue key scope row = is_unfinished row && bytes_eq row.job.key key && bytes_eq row.job.scope scope
+
+-- the queue of a key and a scope
 abbrev pub queue : List ℕ → List ℕ → List JobRow → List JobRow
-queue key scope jobs =
-    filter (λ row. is_unfinished row && bytes_eq row.job.key key && bytes_eq row.job.scope scope) jobs
+queue key scope jobs = filter (in_queue key scope) jobs
 
 -- the first job of a queue
 abbrev pub first_job : List ℕ → List ℕ → List JobRow → Option JobRow
-first_job key scope jobs = find (λ row. is_unfinished row && bytes_eq row.job.key key && bytes_eq row.job.scope scope) jobs
+first_job key scope jobs = find (in_queue key scope) jobs
 
 -- the last job of a queue
 abbrev pub last_job : List ℕ → List ℕ → List JobRow → Option JobRow
@@ -125,8 +128,8 @@ slot_worker state place registration =
     find (λ row. row.registration == registration && in_slot place row.state) state.workers
 
 -- the number of the active worker of a registration
-abbrev pub active_worker : State → ℕ → Option ℕ
-active_worker state registration = option_map (λ row. row.number) (slot_worker state slot.Active registration)
+abbrev pub active_worker_number : State → ℕ → Option ℕ
+active_worker_number state registration = option_map (λ row. row.number) (slot_worker state slot.Active registration)
 
 -- the newest worker of a registration (Service Workers, Appendix A, "Get Newest Worker")
 abbrev pub newest_worker : State → ℕ → Option Worker
@@ -161,8 +164,8 @@ mapped_scopes state =
     (filter (λ row. row.mapped) state.registrations)
 
 -- the registration that an address of a key matches (Service Workers, Appendix A, "Match Service Worker Registration")
-abbrev pub matched_registration : State → List ℕ → List ℕ → Option ℕ
-matched_registration state key address = option_map (λ row. row.number) (longest (mapped_scopes state) key address)
+abbrev pub matched_registration_number : State → List ℕ → List ℕ → Option ℕ
+matched_registration_number state key address = option_map (λ row. row.number) (longest (mapped_scopes state) key address)
 
 -- the key of a worker's registration
 abbrev pub key_of_worker : State → ℕ → Option (List ℕ)

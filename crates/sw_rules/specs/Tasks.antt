@@ -14,7 +14,7 @@ use Rattle.sw_data.specs.Addresses.{without_fragment}
 use Rattle.sw_rules.specs.Installing.{calls_of}
 use Rattle.sw_rules.specs.Recordings.{line_of}
 use Rattle.sw_rules.specs.Registering.{may_run}
-use Rattle.sw_rules.specs.Rows.{free_handler, in_phase, is_evaluating, is_fetching, is_install, is_installing, job_row, task_row, worker_row}
+use Rattle.sw_rules.specs.Rows.{free_handler, is_in_phase, is_evaluating, is_fetching, is_install, is_installing, job_row, task_row, worker_row}
 use Rattle.sw_rules.specs.State.{State, Worker, AddAll, Handler}
 
 -- ---- ready tasks, by kind and then by rising number (own: the order)
@@ -26,7 +26,7 @@ jobs_where test state = map (λ row. row.job.number) (filter test state.jobs)
 -- the install handler of the worker that a job made may go on
 abbrev pub may_install : State → JobRow → Bool
 may_install state row =
-    in_phase is_installing row
+    is_in_phase is_installing row
     && option_map_or (λ handler. is_install handler.phase) (option_and_then (free_handler state) row.worker) false
 
 -- the activate handler of a worker may go on
@@ -38,13 +38,13 @@ abbrev pub runs : State → List Task
 runs state = map task.Run (jobs_where (may_run state) state)
 
 abbrev pub script_fetches : State → List Task
-script_fetches state = map task.Fetch (jobs_where (in_phase is_fetching) state)
+script_fetches state = map task.Fetch (jobs_where (is_in_phase is_fetching) state)
 
 abbrev pub add_all_fetches : State → List Task
 add_all_fetches state = map (λ row. task.FetchAll row.number) (filter (λ row. is_none row.settled) state.tasks)
 
 abbrev pub evaluations : State → List Task
-evaluations state = map task.Evaluate (jobs_where (in_phase is_evaluating) state)
+evaluations state = map task.Evaluate (jobs_where (is_in_phase is_evaluating) state)
 
 abbrev pub installs : State → List Task
 installs state = map task.Install (jobs_where (may_install state) state)

@@ -1,7 +1,7 @@
 -- Laws of the map of scopes, each proved by the public call of `sw_scope::laws` that has its name.
 use Rattle.std.specs.Prelude.{◌≡◌, ◌↔◌, ◌≤◌, ℕ, true, List, length, IsSome, option_map}
 use Rattle.sw_rules.specs.Matching.{Scope, longest}
-use Rattle.sw_rules.specs.Rows.{mapped_registration, matched_registration}
+use Rattle.sw_rules.specs.Rows.{mapped_registration, matched_registration_number}
 use Rattle.sw_rules.specs.State.{State}
 use Rattle.sw_scope.specs.Scopes.{Scopes, maps, own_scopes, has_length, lengths_to, longest_front, number_in}
 
@@ -15,7 +15,7 @@ LongestIsTheStandards =
 abbrev pub MatchIsTheLongestFront : Type 0
 MatchIsTheLongestFront =
     (state : State) (key address : List ℕ)
-    → matched_registration state key address
+    → matched_registration_number state key address
     ≡ longest_front (λ scope. option_map (λ row. row.number) (mapped_registration state key scope)) address
 
 -- the counted lengths are those of the scopes that map to a registration

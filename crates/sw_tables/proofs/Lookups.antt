@@ -233,7 +233,7 @@ module _ (scopes : Scopes) (of : registrations.Table) (are : ArePlaces number_of
 
     -- the registration that an address matches is that of its longest front in the map
     pub matched_shown : MatchIsTheLongestFront → (key address : List ℕ) (of_workers : workers.Table) (of_clients : clients.Table) (rest : Rest)
-        → rules.matched_registration (lent scopes of_workers of of_clients rest) key address ≡ longest_front (maps scopes key) address
+        → rules.matched_registration_number (lent scopes of_workers of of_clients rest) key address ≡ longest_front (maps scopes key) address
     matched_shown law key address of_workers of_clients rest =
         let state = lent scopes of_workers of of_clients rest in
         law state key address

@@ -142,7 +142,7 @@ pub fn matched(
     requires places { ArePlaces (λ row. row.number) registrations.now.rows }
     ensures { (of_workers : workers.Table) (of_clients : clients.Table) (rest : Rest)
         → result
-        ≡ rules.matched_registration (lent map.now of_workers registrations.now of_clients rest)
+        ≡ rules.matched_registration_number (lent map.now of_workers registrations.now of_clients rest)
         key.now address.now }
 {
     match_is_the_longest_front();

@@ -4,7 +4,7 @@ ghost use Rattle.std.specs.Prelude.{◌≡◌, ◌+◌, ◌<◌, ◌≤◌, true
 ghost use Rattle.sw_queue.specs.Kept.{followers_of};
 ghost use Rattle.sw_queue.specs.Tables.{FollowersStay, has_head, has_job};
 ghost use Rattle.sw_rules.specs.Jobs as rules;
-ghost use Rattle.sw_rules.specs.Rows.{in_phase, is_first, is_waiting};
+ghost use Rattle.sw_rules.specs.Rows.{is_in_phase, is_first, is_waiting};
 ghost use Rattle.sw_tables.specs.Happened.{JobsBecome, JobsDid};
 
 use sw_data::{JobPhase, JobRow, Settlement};
@@ -13,7 +13,7 @@ use sw_rules::Notices;
 
 // Whether a job joined no other and waits.
 fn waits(row: &JobRow) -> bool
-    ensures { result ≡ in_phase is_waiting row.now }
+    ensures { result ≡ is_in_phase is_waiting row.now }
 {
     row.leader.is_none() && row.phase == JobPhase::Waiting
 }
@@ -31,7 +31,7 @@ fn is_first(row: &JobRow, queues: &Queues) -> bool
 /// Whether a job may run: it waits, and stands first in its queue. It takes no memory.
 pub fn may_run(job: u32, queues: &Queues) -> bool
     ensures { result ≡ has_job
-        (λ row. in_phase is_waiting row && is_first queues.now.rows row) job queues.now.rows }
+        (λ row. is_in_phase is_waiting row && is_first queues.now.rows row) job queues.now.rows }
 {
     match queues.row(job) {
         Some(row) => waits(row) && is_first(row, queues),

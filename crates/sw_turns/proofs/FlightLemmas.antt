@@ -26,7 +26,7 @@ use Rattle.sw_laws.specs.Coherent.{Coherent}
 use Rattle.sw_laws.specs.Laws.{ends_add_all, ends_fetch, is_fetching_job}
 use Rattle.sw_laws.proofs.FetchesStay.{fetches_stay}
 use Rattle.sw_laws.proofs.Lists.{by_truth, find_passes}
-use Rattle.sw_rules.specs.Rows.{free_handler, in_phase, is_fetching, job_row, task_row}
+use Rattle.sw_rules.specs.Rows.{free_handler, is_in_phase, is_fetching, job_row, task_row}
 use Rattle.sw_rules.specs.State.{State, AddAll, Handler}
 use Rattle.sw_rules.specs.Step.{state_after}
 use Rattle.sw_rules.specs.Tasks.{add_all_lines, call_or, event_of, handler_event, job_line, next_call, ready_tasks}
@@ -217,7 +217,7 @@ ends_fetches _ number = refl
 ready_stays : (state : State) (happened : Event) (flown : Task) → Coherent state → is_fetch flown ≡ true → ends happened flown ≡ false
     → list_any (is_task flown) (ready_tasks state) ≡ true → list_any (is_task flown) (ready_tasks (state_after state happened)) ≡ true
 ready_stays state happened (task.Fetch job) sound fetch spares is =
-    let fetching : is_fetching_job state job ≡ true = any_job task.Fetch (in_phase is_fetching) state job (λ n. refl) (script_fetch_ready state job is) in
+    let fetching : is_fetching_job state job ≡ true = any_job task.Fetch (is_in_phase is_fetching) state job (λ n. refl) (script_fetch_ready state job is) in
     script_is_ready (state_after state happened) job (fetches_stay.jobs state happened job sound (sym (ends_script happened job) ∙ spares) fetching)
 ready_stays state happened (task.FetchAll number) sound fetch spares is =
     add_all_is_ready (state_after state happened) number

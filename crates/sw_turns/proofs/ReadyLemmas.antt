@@ -9,7 +9,7 @@ use Rattle.sw_data.specs.declared.histories.Task.TheVariants as task
 use Rattle.sw_data.specs.declared.rows.JobRow.{JobRow}
 use Rattle.sw_lane.specs.Picked.{is_task}
 use Rattle.sw_laws.proofs.Lists.{find_any}
-use Rattle.sw_rules.specs.Rows.{in_phase, is_fetching}
+use Rattle.sw_rules.specs.Rows.{is_in_phase, is_fetching}
 use Rattle.sw_rules.specs.State.{State, AddAll}
 use Rattle.sw_rules.specs.Tasks.{add_all_fetches, ready_tasks, script_fetches}
 
@@ -31,12 +31,12 @@ mapped_any p f q test same [] is = is
 mapped_any p f q test same (x ∷ xs) is = grind (arith, is, same x, mapped_any p f q test same xs)
 
 -- a job that fetches is a ready fetch
-pub script_is_ready : (state : State) (job : ℕ) → list_any (λ (row : JobRow). row.job.number == job && in_phase is_fetching row) state.jobs ≡ true → list_any (is_task (task.Fetch job)) (ready_tasks state) ≡ true
+pub script_is_ready : (state : State) (job : ℕ) → list_any (λ (row : JobRow). row.job.number == job && is_in_phase is_fetching row) state.jobs ≡ true → list_any (is_task (task.Fetch job)) (ready_tasks state) ≡ true
 script_is_ready state job is =
     let p = is_task (task.Fetch job) in
     let kind : list_any p (script_fetches state) ≡ true =
-    subst (λ (all : List Task). list_any p all ≡ true) (sym (map_twice task.Fetch (λ (row : JobRow). row.job.number) (filter (in_phase is_fetching) state.jobs)))
-    (mapped_any p (λ (row : JobRow). task.Fetch row.job.number) (λ row. row.job.number == job) (in_phase is_fetching) (λ row. turned job row.job.number) state.jobs is) in
+    subst (λ (all : List Task). list_any p all ≡ true) (sym (map_twice task.Fetch (λ (row : JobRow). row.job.number) (filter (is_in_phase is_fetching) state.jobs)))
+    (mapped_any p (λ (row : JobRow). task.Fetch row.job.number) (λ row. row.job.number == job) (is_in_phase is_fetching) (λ row. turned job row.job.number) state.jobs is) in
     grind (arith, each_kind p state, kind)
 
 -- an addAll that has not settled is a ready fetch

@@ -3,7 +3,7 @@ use Rattle.std.specs.Prelude.{ℕ, List, [], ◌∷◌, Option, None, option_map
 use Rattle.sw_data.specs.declared.histories.Entry.{Entry}
 use Rattle.sw_data.specs.declared.storage.Kept.{Kept}
 use Rattle.sw_rules.specs.History.{after}
-use Rattle.sw_rules.specs.Rows.{mapped_registration, matched_registration}
+use Rattle.sw_rules.specs.Rows.{mapped_registration, matched_registration_number}
 use Rattle.sw_view.specs.Found.{Found}
 use Rattle.sw_view.specs.Moves.{nothing}
 
@@ -17,4 +17,4 @@ mapped_after base (opening ∷ entries) =
 -- Appendix A, "Match Service Worker Registration"); before the first one it matches none
 unfoldable pub matched_after : Kept → List Entry → List ℕ → List ℕ → Option ℕ
 matched_after base [] key address = None
-matched_after base (opening ∷ entries) key address = matched_registration (after base (opening ∷ entries)) key address
+matched_after base (opening ∷ entries) key address = matched_registration_number (after base (opening ∷ entries)) key address

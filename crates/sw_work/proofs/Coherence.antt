@@ -26,7 +26,7 @@ use Rattle.sw_queue.specs.Tables.{is_under_way}
 use Rattle.sw_reg.specs.Table as registrations
 use Rattle.sw_reg.specs.Table.{slot_of}
 use Rattle.sw_rules.specs.Rows as rules
-use Rattle.sw_rules.specs.Rows.{in_phase, in_slot, is_evaluating, is_first, is_installing, is_job, is_number, is_unfinished}
+use Rattle.sw_rules.specs.Rows.{is_in_phase, in_slot, is_evaluating, is_first, is_installing, is_job, is_number, is_unfinished}
 use Rattle.sw_rules.specs.State.{State, Registration, Worker}
 use Rattle.sw_scope.specs.Scopes.{Scopes}
 use Rattle.sw_tables.proofs.Lookups.{worker_shown}
@@ -53,17 +53,17 @@ being_installed : (worker : Worker) → in_slot slot.Installing worker.state ≡
 being_installed worker stands = grind (arith, stands)
 
 its_job : (jobs : List JobRow) (worker : Worker) → has_its_job jobs worker ≡ true → is_being_installed worker ≡ true
-    → list_any (λ row. in_phase is_installing row && is_number row.worker worker.number && is_number row.registration worker.registration) jobs ≡ true
+    → list_any (λ row. is_in_phase is_installing row && is_number row.worker worker.number && is_number row.registration worker.registration) jobs ≡ true
 its_job jobs worker has installs = grind (arith, has, installs)
 
-same_job : (row job : JobRow) (worker of registration : ℕ) → (in_phase is_installing job && is_number job.worker worker && is_number job.registration of) ≡ true
-    → (is_job row.job.number job || is_free registration job) ≡ true → (of == registration) ≡ true → (job.job.number == row.job.number && in_phase is_installing job) ≡ true
+same_job : (row job : JobRow) (worker of registration : ℕ) → (is_in_phase is_installing job && is_number job.worker worker && is_number job.registration of) ≡ true
+    → (is_job row.job.number job || is_free registration job) ≡ true → (of == registration) ≡ true → (job.job.number == row.job.number && is_in_phase is_installing job) ≡ true
 same_job row job worker of registration passes free same = grind (arith, nat_tests, passes, free, same)
 
-past_waiting : (row : JobRow) → in_phase is_evaluating row ≡ true → is_underway row ≡ true
+past_waiting : (row : JobRow) → is_in_phase is_evaluating row ≡ true → is_underway row ≡ true
 past_waiting row evaluates = grind (arith, evaluates)
 
-one_phase : (row : JobRow) → in_phase is_evaluating row ≡ true → in_phase is_installing row ≡ true → ⊥
+one_phase : (row : JobRow) → is_in_phase is_evaluating row ≡ true → is_in_phase is_installing row ≡ true → ⊥
 one_phase row evaluates installs = grind (arith, evaluates, installs)
 
 -- ---- what the state shows
@@ -128,21 +128,21 @@ module _ (scopes : Scopes) (of_workers : workers.Table) (of_registrations : regi
 
   -- no worker installs whose registration is that of a job which evaluates
   none_installs : (row : JobRow) (registration worker : ℕ) (installing : WorkerRow) → Coherent shown → find (is_job row.job.number) rest.jobs ≡ Some row
-      → in_phase is_evaluating row ≡ true → row.registration ≡ Some registration → worker_at worker of_workers.rows ≡ Some installing → (installing.registration == registration && in_slot slot.Installing installing.state) ≡ true → ⊥
+      → is_in_phase is_evaluating row ≡ true → row.registration ≡ Some registration → worker_at worker of_workers.rows ≡ Some installing → (installing.registration == registration && in_slot slot.Installing installing.state) ≡ true → ⊥
   none_installs row registration worker installing sound found evaluates own at_it stands =
-      let of_it = λ (job : JobRow). in_phase is_installing job && is_number job.worker installing.number && is_number job.registration installing.registration in
+      let of_it = λ (job : JobRow). is_in_phase is_installing job && is_number job.worker installing.number && is_number job.registration installing.registration in
       let has = of_row (has_its_job rest.jobs) worker installing sound.work.installing at_it in
       let parts = and_parts (installing.registration == registration) (in_slot slot.Installing installing.state) stands in
       let job = found_any of_it rest.jobs (its_job rest.jobs (shown_worker installing) has (being_installed (shown_worker installing) parts.1)) in
       let passes = find_passes of_it rest.jobs job.0 job.1 in
       let others = others_free shown row registration found (past_waiting row evaluates) own sound in
       let free = all_at_found of_it (λ x. is_job row.job.number x || is_free registration x) rest.jobs job.0 job.1 others in
-      let mine = find_any of_it (λ x. x.job.number == row.job.number && in_phase is_installing x) rest.jobs job.0 job.1 (same_job row job.0 installing.number installing.registration registration passes free parts.0) in
-      let installs = found_numbered (λ (x : JobRow). x.job.number) (in_phase is_installing) rest.jobs row.job.number row (places_apart (λ (x : JobRow). x.job.number) rest.jobs sound.jobs.numbers) found mine in
+      let mine = find_any of_it (λ x. x.job.number == row.job.number && is_in_phase is_installing x) rest.jobs job.0 job.1 (same_job row job.0 installing.number installing.registration registration passes free parts.0) in
+      let installs = found_numbered (λ (x : JobRow). x.job.number) (is_in_phase is_installing) rest.jobs row.job.number row (places_apart (λ (x : JobRow). x.job.number) rest.jobs sound.jobs.numbers) found mine in
       one_phase row evaluates installs
 
   empty_slot : (row : JobRow) (registration : ℕ) → Coherent shown → HasSlots of_workers of_registrations → find (is_job row.job.number) rest.jobs ≡ Some row
-      → in_phase is_evaluating row ≡ true → row.registration ≡ Some registration → slot_of slot.Installing registration of_registrations.rows ≡ None
+      → is_in_phase is_evaluating row ≡ true → row.registration ≡ Some registration → slot_of slot.Installing registration of_registrations.rows ≡ None
   empty_slot row registration sound slots found evaluates own = by (slot_of slot.Installing registration of_registrations.rows) refl
     where
       by : (o : Option ℕ) → slot_of slot.Installing registration of_registrations.rows ≡ o → slot_of slot.Installing registration of_registrations.rows ≡ None
@@ -159,14 +159,14 @@ module _ (scopes : Scopes) (of_workers : workers.Table) (of_registrations : regi
   made_in row registration worker job_phase.Fetching is own of alone sound slots found = tt
   made_in row registration worker job_phase.Done is own of alone sound slots found = tt
   made_in row registration worker job_phase.Evaluating is own of alone sound slots found =
-      let evaluates : in_phase is_evaluating row ≡ true = grind (arith, is, alone) in
+      let evaluates : is_in_phase is_evaluating row ≡ true = grind (arith, is, alone) in
       let phases = all_at_found (is_job row.job.number) (has_its_worker (map shown_worker of_workers.rows)) rest.jobs row found sound.work.phases in
       let has : has_made coherent.is_parsed (map shown_worker of_workers.rows) row ≡ true = grind (arith, phases, evaluates) in (
         made_row coherent.is_parsed (parts.is_of_in parts.is_parsed registration) registration worker (λ w passes. grind (arith, nat_tests, passes)) slots.worker_places (rw (own, of) at has),
         empty_slot row registration sound slots found evaluates own,
       )
   made_in row registration worker job_phase.Installing is own of alone sound slots found =
-      let installs : in_phase is_installing row ≡ true = grind (arith, is, alone) in
+      let installs : is_in_phase is_installing row ≡ true = grind (arith, is, alone) in
       let phases = all_at_found (is_job row.job.number) (has_its_worker (map shown_worker of_workers.rows)) rest.jobs row found sound.work.phases in
       let has : has_made is_being_installed (map shown_worker of_workers.rows) row ≡ true = grind (arith, phases, installs) in
       made_row is_being_installed (parts.is_of_in parts.is_installing registration) registration worker (λ w passes. grind (arith, nat_tests, passes)) slots.worker_places (rw (own, of) at has)

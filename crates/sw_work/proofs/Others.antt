@@ -9,7 +9,8 @@ use Rattle.sw_data.specs.declared.recordings.Place.{Place}
 use Rattle.sw_data.specs.Events.{who_of}
 use Rattle.sw_rules.specs.State.{State}
 use Rattle.sw_rules.specs.Activating.{activated, tryactivate}
-use Rattle.sw_rules.specs.Caching.{added, forget, with_key}
+use Rattle.sw_rules.specs.Caching.{added, with_key}
+use Rattle.sw_rules.specs.Forgetting.{forget}
 use Rattle.sw_rules.specs.Installing.{evaluated, fetched, installed}
 use Rattle.sw_rules.specs.Registering.{run}
 use Rattle.sw_rules.specs.Step.{by_host, by_page, step}

@@ -28,7 +28,7 @@ use Rattle.sw_reg.specs.Table as registrations
 use Rattle.sw_rules.specs.Installing.{fetched, fetched_of, is_same_script, job_in, made_worker, script_fault}
 use Rattle.sw_rules.specs.Jobs.{next_draw}
 use Rattle.sw_rules.specs.Registering.{run}
-use Rattle.sw_rules.specs.Rows.{in_phase, is_fetching, is_job}
+use Rattle.sw_rules.specs.Rows.{is_in_phase, is_fetching, is_job}
 use Rattle.sw_rules.specs.State.{State}
 use Rattle.sw_rules.specs.Told.{Outcome}
 use Rattle.sw_scope.specs.Scopes.{Scopes, maps}
@@ -133,12 +133,12 @@ module _ (job : ℕ) (line : Option FetchLine) where
   comes_to : (given : FetchOutcome) (made : Option WorkerRow) (state : State) (row : JobRow) (registration : ℕ)
       → find (is_job job) state.jobs ≡ Some row → row.registration ≡ Some registration → IsOutcome given made state row (fetched_of line) registration
       → ComesTo given made state job line
-  comes_to given made state row registration found of is = by (job_in (in_phase is_fetching) state job) refl
+  comes_to given made state row registration found of is = by (job_in (is_in_phase is_fetching) state job) refl
     where
-      by : (o : Option JobRow) → job_in (in_phase is_fetching) state job ≡ o → IfSome o (λ r. IfSome r.registration (IsOutcome given made state r (fetched_of line)))
+      by : (o : Option JobRow) → job_in (is_in_phase is_fetching) state job ≡ o → IfSome o (λ r. IfSome r.registration (IsOutcome given made state r (fetched_of line)))
       by None none = tt
       by (Some r) there =
-          let here = both (in_phase is_fetching) (find (is_job job) state.jobs) r there in
+          let here = both (is_in_phase is_fetching) (find (is_job job) state.jobs) r there in
           let one : row ≡ r = cc (found, here.0) in
           subst (λ (r : JobRow). IfSome r.registration (IsOutcome given made state r (fetched_of line))) one
           (some_if (IsOutcome given made state row (fetched_of line)) row.registration registration of is)

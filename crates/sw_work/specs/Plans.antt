@@ -32,7 +32,8 @@ use Rattle.sw_pages.specs.declared.worked.PageAct.TheVariants as page
 use Rattle.sw_queue.specs.Kept.{followers_of}
 use Rattle.sw_rules.specs.Activating as activating
 use Rattle.sw_rules.specs.Calls.{note_call}
-use Rattle.sw_rules.specs.Caching.{add_task, forget_key}
+use Rattle.sw_rules.specs.Caching.{add_task}
+use Rattle.sw_rules.specs.Forgetting.{forget_key}
 use Rattle.sw_rules.specs.Installing as installing
 use Rattle.sw_rules.specs.Installing.{calls_of}
 use Rattle.sw_rules.specs.Noticing.{Did, NoticeList}

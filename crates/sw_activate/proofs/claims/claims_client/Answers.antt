@@ -17,7 +17,7 @@ returns-in-Some c = λ of_workers rest.
     (c.claims_row.ensures
     ∙ ap (λ (m : Option ℕ). c.in-Some.row.now.secure && rows_of.is_number m c.args.registration && not (rows_of.is_number c.in-Some.row.now.controller c.args.worker))
     (c.matched-found.ensures of_workers c.args.clients.now rest
-    ∙ ap (λ (u : List ℕ). rows_of.matched_registration state c.in-Some.row.now.key u) c.as_bytes.ensures))
+    ∙ ap (λ (u : List ℕ). rows_of.matched_registration_number state c.in-Some.row.now.key u) c.as_bytes.ensures))
 
 pub returns-in-None : goal.returns-in-None
 returns-in-None c = λ of_workers rest.

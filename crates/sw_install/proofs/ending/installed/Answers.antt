@@ -5,7 +5,7 @@ use Rattle.sw_data.specs.declared.workers.Phase.TheVariants as phase
 use Rattle.sw_install.proofs.Enabled.{both, happened, not_now, shown_at}
 use Rattle.sw_install.proofs.Ended.{failed, not_ended, succeeded}
 use Rattle.sw_rules.specs.Installing as rules
-use Rattle.sw_rules.specs.Rows.{in_phase, is_installing, is_job}
+use Rattle.sw_rules.specs.Rows.{is_in_phase, is_installing, is_job}
 use Rattle.sw_rules.specs.State.{State}
 use Rattle.sw_tables.proofs.Counting.{settled_counts}
 use Rattle.sw_tables.proofs.Rows.{found_number}
@@ -22,7 +22,7 @@ returns-in_default-ended_handler-clause-did c = λ rest counts.
     let worker = c.in-Some-worker.worker in
     let rows = c.args.workers.now.rows in
     let old : State = lent c.args.map.now c.args.workers.now c.args.registrations.now c.args.clients.now (with_jobs c.args.queues.now.rows rest) in
-    let is = both (in_phase is_installing) (find (is_job c.args.job) c.args.queues.now.rows) row (grind (arith, c.job_in.ensures, c.in-Some.is)) in
+    let is = both (is_in_phase is_installing) (find (is_job c.args.job) c.args.queues.now.rows) row (grind (arith, c.job_in.ensures, c.in-Some.is)) in
     let found : worker_at worker rows ≡ Some made = grind (arith, c.row.ensures, c.in-Some-row.is) in
     let own = found_number (λ (r : WorkerRow). r.number) worker rows made found in
     let ended = c.ended_handler.ensures.ended c.args.map.now c.args.workers.now c.args.registrations.now c.args.clients.now (with_jobs c.args.queues.now.rows rest) (cc (own, found)) counts in
@@ -39,7 +39,7 @@ returns-then-has_failed-clause-did c = λ rest counts.
     let handler = c.in-Some-ended_handler.handler in
     let rows = c.args.workers.now.rows in
     let old : State = lent c.args.map.now c.args.workers.now c.args.registrations.now c.args.clients.now (with_jobs c.args.queues.now.rows rest) in
-    let is = both (in_phase is_installing) (find (is_job c.args.job) c.args.queues.now.rows) row (grind (arith, c.job_in.ensures, c.in-Some.is)) in
+    let is = both (is_in_phase is_installing) (find (is_job c.args.job) c.args.queues.now.rows) row (grind (arith, c.job_in.ensures, c.in-Some.is)) in
     let found : worker_at worker rows ≡ Some made = grind (arith, c.row.ensures, c.in-Some-row.is) in
     let own = found_number (λ (r : WorkerRow). r.number) worker rows made found in
     let ended = c.ended_handler.ensures.ended c.args.map.now c.args.workers.now c.args.registrations.now c.args.clients.now (with_jobs c.args.queues.now.rows rest) (cc (own, found)) counts in
@@ -57,7 +57,7 @@ returns-clause-did c = λ rest counts.
     let handler = c.in-Some-ended_handler.handler in
     let rows = c.args.workers.now.rows in
     let old : State = lent c.args.map.now c.args.workers.now c.args.registrations.now c.args.clients.now (with_jobs c.args.queues.now.rows rest) in
-    let is = both (in_phase is_installing) (find (is_job c.args.job) c.args.queues.now.rows) row (grind (arith, c.job_in.ensures, c.in-Some.is)) in
+    let is = both (is_in_phase is_installing) (find (is_job c.args.job) c.args.queues.now.rows) row (grind (arith, c.job_in.ensures, c.in-Some.is)) in
     let found : worker_at worker rows ≡ Some made = grind (arith, c.row.ensures, c.in-Some-row.is) in
     let own = found_number (λ (r : WorkerRow). r.number) worker rows made found in
     let ended = c.ended_handler.ensures.ended c.args.map.now c.args.workers.now c.args.registrations.now c.args.clients.now (with_jobs c.args.queues.now.rows rest) (cc (own, found)) counts in

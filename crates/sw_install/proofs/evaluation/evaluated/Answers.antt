@@ -3,7 +3,7 @@ use Rattle.sw_data.specs.declared.rows.JobRow.{JobRow}
 use Rattle.sw_install.proofs.Enabled.{both, happened, shown_at}
 use Rattle.sw_install.proofs.Evaluating.{installs, thrown}
 use Rattle.sw_rules.specs.Installing as rules
-use Rattle.sw_rules.specs.Rows.{in_phase, is_evaluating, is_job}
+use Rattle.sw_rules.specs.Rows.{is_in_phase, is_evaluating, is_job}
 use Rattle.sw_rules.specs.State.{State}
 use Rattle.sw_tables.proofs.Rows.{found_number}
 use Rattle.sw_tables.specs.Happened.{with_jobs}
@@ -17,7 +17,7 @@ returns-then-throws-clause-did c = λ rest.
     let registration = c.in-Some-registration.registration in
     let worker = c.in-Some-worker.worker in
     let old : State = lent c.args.map.now c.args.workers.now c.args.registrations.now c.args.clients.now (with_jobs c.args.queues.now.rows rest) in
-    let is = both (in_phase is_evaluating) (find (is_job c.args.job) c.args.queues.now.rows) row (grind (arith, c.job_in.ensures, c.in-Some.is)) in
+    let is = both (is_in_phase is_evaluating) (find (is_job c.args.job) c.args.queues.now.rows) row (grind (arith, c.job_in.ensures, c.in-Some.is)) in
     let there = shown_at worker c.args.workers.now.rows made (grind (arith, c.row.ensures, c.in-Some-row.is)) in
     happened (rules.evaluated old c.args.job) _ _ c.args.notices.now c.throw.new.notices old _
     (thrown old c.args.job registration worker row (shown_worker made) is.0 is.1 c.in-Some-registration.is c.in-Some-worker.is there c.if-throws.true)
@@ -30,7 +30,7 @@ returns-clause-did c = λ rest.
     let registration = c.in-Some-registration.registration in
     let worker = c.in-Some-worker.worker in
     let old : State = lent c.args.map.now c.args.workers.now c.args.registrations.now c.args.clients.now (with_jobs c.args.queues.now.rows rest) in
-    let is = both (in_phase is_evaluating) (find (is_job c.args.job) c.args.queues.now.rows) row (grind (arith, c.job_in.ensures, c.in-Some.is)) in
+    let is = both (is_in_phase is_evaluating) (find (is_job c.args.job) c.args.queues.now.rows) row (grind (arith, c.job_in.ensures, c.in-Some.is)) in
     let there = shown_at worker c.args.workers.now.rows made (grind (arith, c.row.ensures, c.in-Some-row.is)) in
     happened (rules.evaluated old c.args.job) _ _ c.args.notices.now c.install.new.notices old _
     (installs old c.args.job registration worker row (shown_worker made) is.0 is.1 c.in-Some-registration.is c.in-Some-worker.is there c.if-throws.false)

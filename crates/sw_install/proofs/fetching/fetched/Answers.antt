@@ -3,7 +3,7 @@ use Rattle.sw_data.specs.declared.rows.JobRow.{JobRow}
 use Rattle.sw_install.proofs.Enabled.{both, happened, if_some}
 use Rattle.sw_install.proofs.FetchEnds.{outcome_of, rejected, script_changed, unchanged}
 use Rattle.sw_rules.specs.Installing as rules
-use Rattle.sw_rules.specs.Rows.{in_phase, is_fetching, is_job}
+use Rattle.sw_rules.specs.Rows.{is_in_phase, is_fetching, is_job}
 use Rattle.sw_rules.specs.State.{State}
 use Rattle.sw_tables.proofs.Rows.{found_number}
 use Rattle.sw_tables.specs.Happened.{with_jobs}
@@ -15,8 +15,8 @@ returns-in-Rejected-clause-did c = λ rest line comes.
     let row = c.in-Some.row.now in
     let registration = c.in-Some-registration.registration in
     let old : State = lent c.args.map.now c.args.workers.now c.args.registrations.now c.args.clients.now (with_jobs c.args.queues.now.rows rest) in
-    let found : rules.job_in (in_phase is_fetching) old c.args.job ≡ Some row = grind (arith, c.job_in.ensures, c.in-Some.is) in
-    let is = both (in_phase is_fetching) (find (is_job c.args.job) c.args.queues.now.rows) row found in
+    let found : rules.job_in (is_in_phase is_fetching) old c.args.job ≡ Some row = grind (arith, c.job_in.ensures, c.in-Some.is) in
+    let is = both (is_in_phase is_fetching) (find (is_job c.args.job) c.args.queues.now.rows) row found in
     let outcome = outcome_of c.args.outcome c.args.rows.now.worker old c.args.job registration row line found c.in-Some-registration.is comes in
     happened (rules.fetched old c.args.job line) _ _ c.args.notices.now c.reject_and_drop.new.notices old _
     (rejected old c.args.job registration row line is.0 is.1 c.in-Some-registration.is c.in-Rejected.why (sym c.in-Rejected.is ∙ outcome.comes))
@@ -27,8 +27,8 @@ returns-in-Unchanged-clause-did c = λ rest line comes.
     let row = c.in-Some.row.now in
     let registration = c.in-Some-registration.registration in
     let old : State = lent c.args.map.now c.args.workers.now c.args.registrations.now c.args.clients.now (with_jobs c.args.queues.now.rows rest) in
-    let found : rules.job_in (in_phase is_fetching) old c.args.job ≡ Some row = grind (arith, c.job_in.ensures, c.in-Some.is) in
-    let is = both (in_phase is_fetching) (find (is_job c.args.job) c.args.queues.now.rows) row found in
+    let found : rules.job_in (is_in_phase is_fetching) old c.args.job ≡ Some row = grind (arith, c.job_in.ensures, c.in-Some.is) in
+    let is = both (is_in_phase is_fetching) (find (is_job c.args.job) c.args.queues.now.rows) row found in
     let outcome = outcome_of c.args.outcome c.args.rows.now.worker old c.args.job registration row line found c.in-Some-registration.is comes in
     happened (rules.fetched old c.args.job line) _ _ c.args.notices.now c.keep_script.new.notices old _
     (unchanged old c.args.job registration row line is.0 is.1 c.in-Some-registration.is (sym c.in-Unchanged.is ∙ outcome.comes))
@@ -39,8 +39,8 @@ returns-in-Some-take-clause-did c = λ rest line comes.
     let row = c.in-Some.row.now in
     let registration = c.in-Some-registration.registration in
     let old : State = lent c.args.map.now c.args.workers.now c.args.registrations.now c.args.clients.now (with_jobs c.args.queues.now.rows rest) in
-    let found : rules.job_in (in_phase is_fetching) old c.args.job ≡ Some row = grind (arith, c.job_in.ensures, c.in-Some.is) in
-    let is = both (in_phase is_fetching) (find (is_job c.args.job) c.args.queues.now.rows) row found in
+    let found : rules.job_in (is_in_phase is_fetching) old c.args.job ≡ Some row = grind (arith, c.job_in.ensures, c.in-Some.is) in
+    let is = both (is_in_phase is_fetching) (find (is_job c.args.job) c.args.queues.now.rows) row found in
     let outcome = outcome_of c.args.outcome c.args.rows.now.worker old c.args.job registration row line found c.in-Some-registration.is comes in
     let changed = script_changed old c.args.job registration row line is.0 is.1 c.in-Some-registration.is (sym c.in-Changed.is ∙ outcome.comes) in
     let made = if_some (λ f. option_map shown_worker c.args.rows.now.worker ≡ Some (rules.made_worker old row registration f)) (rules.fetched_of line) changed.0 changed.1

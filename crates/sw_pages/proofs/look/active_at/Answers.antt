@@ -1,12 +1,12 @@
 use Rattle.std.proofs.Common.{◌∙◌, ℕ, Option, option_map, option_and_then, ap}
-use Rattle.sw_rules.specs.Rows.{active_worker}
+use Rattle.sw_rules.specs.Rows.{active_worker_number}
 use Rattle.sw_rules.specs.State.{State}
 use Rattle.sw_tables.specs.Lent.{lent}
 use Rattle.sw_pages.proofs.look.active_at.Goals as goal
 
 abbrev matching : State → Option ℕ → Option (ℕ × ℕ)
 matching state o =
-    option_and_then (λ registration. option_map (λ worker. (worker, registration)) (active_worker state registration)) o
+    option_and_then (λ registration. option_map (λ worker. (worker, registration)) (active_worker_number state registration)) o
 
 pub returns-in-Some-clause-found : goal.returns-in-Some-clause-found
 returns-in-Some-clause-found c = λ of_clients rest.
