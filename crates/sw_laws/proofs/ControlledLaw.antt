@@ -23,6 +23,7 @@ use Rattle.sw_data.specs.declared.storage.Change.{Change}
 use Rattle.sw_data.specs.declared.workers.Phase.{Phase}
 use Rattle.sw_data.specs.declared.workers.Slot.{Slot}
 use Rattle.sw_data.specs.Addresses.{address_of}
+use Rattle.sw_data.specs.Events.{who_of}
 use Rattle.sw_data.specs.Keys.{key_of}
 use Rattle.sw_rules.specs.Activating.{worker_or_none}
 use Rattle.sw_rules.specs.Calls.{call_by, counted_call, is_fault, is_next_call, note_call, noted}
@@ -197,7 +198,7 @@ call_gives state number in_phase at (Some row) is sound reply notices new change
     next_gives state row number is sound (is_next_call state row in_phase at call.Claim) (registration_row state row.registration) reply notices new changes made given holds
 
 gives : (state : State) (entry : Entry) (happened : Event) → Gives state entry happened
-unfolding step
+unfolding step who_of
 gives state entry (event.Open who.Host client url partition) sound made given holds = absurd cc
 gives state entry (event.Open (who.Lane lane at) client url partition) sound made given holds =
     said (λ reply notices new. HoldsBut nobody (given_at_open state client reply given) new.workers new.clients) (open_client state client url partition) entry.answer entry.notices _ made.0 made.1 (open_gives state client url partition given holds)

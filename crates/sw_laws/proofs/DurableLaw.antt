@@ -1,5 +1,5 @@
 -- The changes of each event make the durable part of the state after it of that of the state before it.
-use Rattle.std.proofs.Common.{◌≡◌, ◌∙◌, ℕ, Bool, true, false, List, [], ◌∷◌, map, None, option_map, refl, sym, ap}
+use Rattle.std.proofs.Common.{◌≡◌, ◌∙◌, ℕ, Bool, true, false, List, [], ◌∷◌, map, None, option_map, refl, sym, ap, subst}
 use Rattle.std.specs.List.{list_all, list_any}
 use Rattle.std.specs.Prelude.{is_some, option_and_then}
 use Rattle.sw_data.specs.declared.answers.Settlement.{Settlement}
@@ -22,7 +22,7 @@ use Rattle.sw_rules.specs.Matching.{Pair}
 use Rattle.sw_rules.specs.Preloading.{set_preload}
 use Rattle.sw_rules.specs.Registrations.{map_registration, set_mode, unmap}
 use Rattle.sw_rules.specs.Rows.{active_worker_number, in_slot, is_activated, is_registration, is_worker, maker_worker, mapped_registration, task_row}
-use Rattle.sw_rules.specs.State.{State, Worker, AddAll, Awaited}
+use Rattle.sw_rules.specs.State.{State, Registration, Worker, AddAll, Awaited}
 use Rattle.sw_rules.specs.Storage.{applied, is_cache, kept_after}
 use Rattle.sw_rules.specs.Told.{Told, followed, quiet}
 use Rattle.sw_laws.specs.Coherent.{Coherent}
@@ -30,12 +30,14 @@ use Rattle.sw_laws.proofs.ClaimSteps.{StaysCoherent, rechecks_coherently}
 use Rattle.sw_laws.proofs.CoherentLaw.{coherent_law}
 use Rattle.sw_laws.proofs.Contents.{slots_in}
 use Rattle.sw_laws.proofs.DurableSteps.{activated_then, begin_keeps, fail_keeps, fetch_keeps, install_keeps, make_keeps, reject_keeps, still_keeps, throw_keeps, unmap_placed}
+use Rattle.sw_laws.proofs.Forgotten.{forgotten_together}
 use Rattle.sw_laws.proofs.HandlerSteps.{activated_from}
 use Rattle.sw_laws.proofs.JobEvents.{leaving}
 use Rattle.sw_laws.proofs.KeptForget.{forget_ordered, forget_rows}
 use Rattle.sw_laws.proofs.KeptRechecks.{KeepsOrder, Orderly, activate_keeps, claims_keep, clear_keeps, further, leave_keeps, nothing_keeps}
 use Rattle.sw_laws.proofs.KeptRows.{mapped_keeps, mode_ordered, mode_rows, paid_ordered, paid_rows, preload_ordered, preload_rows}
 use Rattle.sw_laws.proofs.Lists.{by_test}
+use Rattle.sw_laws.proofs.Places.{places_apart}
 use Rattle.sw_laws.proofs.RegistrationSteps.{paid-coherent, unmap-coherent}
 use Rattle.sw_laws.proofs.SlotMoves.{LooksSame, slots_plain}
 use Rattle.sw_laws.proofs.Split.{IsLawWhere, IsLeavingLaw, IsRecheckLaw}
@@ -82,14 +84,12 @@ paid_orderly state registration sound orderly = record {
 }
 
 forget_keeps : (state : State) (key : List ℕ) → is_busy state key ≡ false → Coherent state → KeepsOrder state (forget_key state key)
-unfolding forget_key
-forget_keeps state key free sound orderly = (
-  record {
-    order = forget_ordered state key orderly.order (coherent_law.forgetting state key free sound).registrations;
-    jobs = mapped_forgotten state key free sound orderly.jobs;
-  },
-  forget_rows state key orderly.order,
-)
+forget_keeps state key free sound orderly =
+    let same = forgotten_together state key (places_apart (λ (row : Registration). row.number) state.registrations sound.registrations.numbers) in
+    (subst Orderly (sym same) (record {
+      order = forget_ordered state key orderly.order (subst Coherent same (coherent_law.forgetting state key free sound)).registrations;
+      jobs = mapped_forgotten state key free sound orderly.jobs;
+    }), forget_rows state key orderly.order)
 
 promise_keeps : (state : State) (maker : Who) (awaited : Awaited) → KeepsOrder state (promise state maker awaited)
 unfolding promise

@@ -1,5 +1,5 @@
 -- The split over the other events, and over all of them.
-use Rattle.std.proofs.Common.{◌≡◌, ◌∙◌, ℕ, Bool, true, false, not, ◌&&◌, ◌==◌, List, [], ◌∷◌, length, Option, Some, None, IfSome, refl, ap, arith}
+use Rattle.std.proofs.Common.{◌≡◌, ◌∙◌, ℕ, Bool, true, false, not, ◌&&◌, ◌==◌, List, [], ◌∷◌, length, Option, Some, None, Result, Ok, Err, IfSome, refl, ap, arith}
 use Rattle.std.specs.Prelude.{find, option_and_then, is_none, is_some}
 use Rattle.std.proofs.lemmas.Bool.Decides.{nat_tests}
 use Rattle.sw_data.specs.declared.answers.Answer.{Answer}
@@ -29,10 +29,11 @@ use Rattle.sw_data.specs.declared.workers.Phase.{Phase}
 use Rattle.sw_data.specs.declared.workers.Phase.TheVariants as phase
 use Rattle.sw_data.specs.declared.workers.Slot.{Slot}
 use Rattle.sw_data.specs.Addresses.{address_of, resolved, same_origin}
+use Rattle.sw_data.specs.Events.{is_lane, who_of}
 use Rattle.sw_data.specs.Keys.{key_of}
 use Rattle.sw_rules.specs.Activating.{activated, finish_activate, is_owed, paid, pay, tryactivate}
 use Rattle.sw_rules.specs.Batch.{BatchFault, batch}
-use Rattle.sw_rules.specs.Caching.{add_all, add_all_at, add_task, batch_fault, batch_ops, delete_cache, delete_request, fetchable_all, match_request, open_cache, pairs_of, parsed_ops, place_key, put_response, query_cache, query_places, run_batch, single_fault, start_task, with_cache_pairs, with_key, with_url}
+use Rattle.sw_rules.specs.Caching.{add_all, add_all_at, add_task, batch_fault, batch_ops, batch_parsed, delete_cache, delete_request, fetchable_all, match_request, open_cache, pairs_of, parsed_ops, place_key, put_response, query_cache, query_places, run_batch, single_fault, start_task, with_cache_pairs, with_key, with_url}
 use Rattle.sw_rules.specs.Forgetting.{forget, is_busy}
 use Rattle.sw_rules.specs.Calls.{called, is_next_call, make_call, noted, own_registration, update_own}
 use Rattle.sw_rules.specs.Clients.{await, begin, begin_on, claim_of, close, end, end_event, get_registration, get_registrations, open_at, open_client, ready, ready_registration, remove_event, skip_waiting, with_named, with_slot}
@@ -43,7 +44,7 @@ use Rattle.sw_rules.specs.Preloading.{preload_set}
 use Rattle.sw_rules.specs.Registering.{register, soft_update, soft_update_named, unregister, update, update_named, with_client}
 use Rattle.sw_rules.specs.Rows.{active_worker_number, client_row, event_row, is_active, is_install, is_activating, is_worker, maker_worker, mapped_registration, named_scope, newest_worker, registration_of, registration_row, slot_worker, worker_row}
 use Rattle.sw_rules.specs.State.{State, Registration, Worker, Handler, of_task}
-use Rattle.sw_rules.specs.Step.{by_host, by_lane, by_page, step}
+use Rattle.sw_rules.specs.Step.{case_of, has_its_maker, step}
 use Rattle.sw_rules.specs.Told.{Told, Outcome, followed, quiet}
 use Rattle.sw_laws.specs.Coherent.{is_running, is_there}
 use Rattle.sw_laws.proofs.JobEvents.{added-law, evaluated-law, fetched-law, installed-law, rejected-law, run-law, scheduled_by-law}
@@ -281,10 +282,13 @@ module _ (Law Own Ends : State → Told → Type 0) (controls : Bool) {anywhere 
       let request = record asked.request { url = url } in
       run_batch-law state key asked.name (op.Delete request asked.options ∷ []) (answer.Truth (is_some (first_match pairs request asked.options))) single_fault pairs there))
 
+  batch_parsed-law : (state : State) (key name : List ℕ) (parsed : Result (List Op) (List Op)) (pairs : List Pair) → pairs_of key name state.caches ≡ Some pairs → Holds state (batch_parsed state key name parsed pairs)
+  batch_parsed-law state key name (Ok ops) pairs there = run_batch-law state key name ops answer.Ok batch_fault pairs there
+  batch_parsed-law state key name (Err before) pairs there = nothing state
+
   batch_ops-law : (state : State) (base : List ℕ) (asked : CacheBatch) (key : List ℕ) → Holds state (batch_ops state base asked key)
   batch_ops-law state base asked key =
-      with_cache_pairs-law state key asked.name _ (λ pairs there.
-      by_test (Holds state) (parsed_ops base asked.operations).1 _ _ (λ parsed. run_batch-law state key asked.name (parsed_ops base asked.operations).0 answer.Ok batch_fault pairs there) (λ unparsed. nothing state))
+      with_cache_pairs-law state key asked.name _ (λ pairs there. batch_parsed-law state key asked.name (parsed_ops base asked.operations) pairs there)
 
   -- ---- addAll
 
@@ -298,9 +302,14 @@ module _ (Law Own Ends : State → Told → Type 0) (controls : Bool) {anywhere 
       by_test (Holds state) (is_none (pairs_of key asked.name state.caches)) _ _ (λ gone. rejected-law Law Own Ends controls law state maker _)
       (λ there. by_result (Holds state) (fetchable_all base asked.requests) _ _ (λ requests is. start_task-law state maker key asked.name requests runs) (λ why is. rejected-law Law Own Ends controls law state maker _))
 
-  add_all_at-law : (state : State) (lane at : ℕ) (place : Place) (asked : CacheAddAll) → Holds state (add_all_at state (who.Lane lane at) place asked)
-  add_all_at-law state lane at place asked =
-      by_result (Holds state) (place_key place) _ _ (λ key is. add_all-law state (who.Lane lane at) place.at asked key refl) (λ why is. rejected-law Law Own Ends controls law state (who.Lane lane at) why)
+  lane_runs : (state : State) (maker : Who) → is_lane maker ≡ true → is_running state.workers (maker_worker maker) ≡ true
+  lane_runs state who.Host is = absurd cc
+  lane_runs state (who.Lane lane at) is = refl
+  lane_runs state (who.Handler worker in_phase number) is = absurd cc
+
+  add_all_at-law : (state : State) (maker : Who) (place : Place) (asked : CacheAddAll) → is_lane maker ≡ true → Holds state (add_all_at state maker place asked)
+  add_all_at-law state maker place asked is =
+      by_result (Holds state) (place_key place) _ _ (λ key there. add_all-law state maker place.at asked key (lane_runs state maker is)) (λ why none. rejected-law Law Own Ends controls law state maker why)
 
   forget-law : (state : State) (key : List ℕ) → Holds state (forget state key)
   forget-law state key = by_test (Holds state) (is_busy state key) _ _ (λ busy. nothing state) (λ free. law.forgetting state key free)
@@ -347,67 +356,55 @@ module _ (Law Own Ends : State → Told → Type 0) (controls : Bool) {anywhere 
 
   -- ---- the step
 
-  by_lane-law : (state : State) (maker : Who) (outcome : Option Outcome) → ((lane at : ℕ) → maker ≡ who.Lane lane at → HoldsIf state outcome) → HoldsIf state (by_lane maker outcome)
-  by_lane-law state who.Host outcome holds = tt
-  by_lane-law state (who.Lane lane at) outcome holds = holds lane at refl
-  by_lane-law state (who.Handler worker in_phase number) outcome holds = tt
-
-  by_page-law : (state : State) (maker : Who) (outcome : Option Outcome) → HoldsIf state outcome → HoldsIf state (by_page maker outcome)
-  by_page-law state who.Host outcome holds = holds
-  by_page-law state (who.Lane lane at) outcome holds = holds
-  by_page-law state (who.Handler worker in_phase number) outcome holds = tt
-
-  by_host-law : (Held : State → Told → Type 0) (state : State) (maker : Who) (outcome : Option Outcome) → IfSome outcome (λ o. Held state o.told) → IfSome (by_host maker outcome) (λ o. Held state o.told)
-  by_host-law Held state who.Host outcome holds = holds
-  by_host-law Held state (who.Lane lane at) outcome holds = tt
-  by_host-law Held state (who.Handler worker in_phase number) outcome holds = tt
-
-  add_all_by-law : (state : State) (maker : Who) (place : Place) (asked : CacheAddAll) (lane at : ℕ) → maker ≡ who.Lane lane at → Holds state (add_all_at state maker place asked)
-  add_all_by-law state maker place asked lane at is = rw is (add_all_at-law state lane at place asked)
-
   -- a law of whole events that are allowed, where it follows of the other and holds of the events of the host that move
   -- something on
-  pub step-law-by : (Allowed : Event → Type 0) (Whole : State → Told → Type 0) → ((state : State) (told : Told) → Law state told → Whole state told) → IsHostLaw Allowed Whole → (state : State) (happened : Event) → (gives_control happened ≡ true → controls ≡ true) → Allowed happened → IfSome (step state happened) (λ outcome. Whole state outcome.told)
-  unfolding step
-  step-law-by Allowed Whole whole host state (event.Open maker client url partition) may allowed = whole-holds Law Whole whole state _ (by_lane-law state maker _ (λ lane at is. open_client-law (may refl) state client url partition))
-  step-law-by Allowed Whole whole host state (event.Close maker client) may allowed = whole-holds Law Whole whole state _ (by_lane-law state maker _ (λ lane at is. close-law state client))
-  step-law-by Allowed Whole whole host state (event.Register maker asked) may allowed = whole-holds Law Whole whole state _ (by_lane-law state maker _ (λ lane at is. register-law state maker asked))
-  step-law-by Allowed Whole whole host state (event.Update maker of) may allowed = whole-holds Law Whole whole state _ (by_lane-law state maker _ (λ lane at is. update-law state maker of))
-  step-law-by Allowed Whole whole host state (event.SoftUpdate maker of) may allowed = whole-holds Law Whole whole state _ (by_lane-law state maker _ (λ lane at is. soft_update-law state of))
-  step-law-by Allowed Whole whole host state (event.Unregister maker of) may allowed = whole-holds Law Whole whole state _ (by_lane-law state maker _ (λ lane at is. unregister-law state maker of))
-  step-law-by Allowed Whole whole host state (event.Await maker of) may allowed = whole-holds Law Whole whole state _ (await-law state maker of)
-  step-law-by Allowed Whole whole host state (event.Ready maker client) may allowed = whole-holds Law Whole whole state _ (by_lane-law state maker _ (λ lane at is. ready-law state client))
-  step-law-by Allowed Whole whole host state (event.Registration maker client url) may allowed = whole-holds Law Whole whole state _ (by_lane-law state maker _ (λ lane at is. get_registration-law state client url))
-  step-law-by Allowed Whole whole host state (event.Registrations maker client) may allowed = whole-holds Law Whole whole state _ (by_lane-law state maker _ (λ lane at is. get_registrations-law state client))
-  step-law-by Allowed Whole whole host state (event.SkipWaiting maker of place) may allowed = whole-holds Law Whole whole state _ (by_lane-law state maker _ (λ lane at is. with_slot-law state of place _ (λ registration worker found. skip_waiting-law state worker.registration worker.number)))
-  step-law-by Allowed Whole whole host state (event.Claim maker of place) may allowed = whole-holds Law Whole whole state _ (by_lane-law state maker _ (λ lane at is. with_slot-law state of place _ (λ registration worker found. claim_of-law (may refl) state _ worker found)))
-  step-law-by Allowed Whole whole host state (event.Begin maker client number) may allowed = whole-holds Law Whole whole state _ (by_lane-law state maker _ (λ lane at is. begin-law state client number))
-  step-law-by Allowed Whole whole host state (event.End maker number) may allowed = whole-holds Law Whole whole state _ (by_lane-law state maker _ (λ lane at is. end-law state number))
-  step-law-by Allowed Whole whole host state (event.CacheOpen maker place name) may allowed = whole-holds Law Whole whole state _ (by_lane-law state maker _ (λ lane at is. with_key-law state place _ (open_cache-law state name)))
-  step-law-by Allowed Whole whole host state (event.CacheHas maker place name) may allowed = whole-holds Law Whole whole state _ (by_lane-law state maker _ (λ lane at is. with_key-law state place _ (λ key. nothing state)))
-  step-law-by Allowed Whole whole host state (event.CacheDelete maker place name) may allowed = whole-holds Law Whole whole state _ (by_lane-law state maker _ (λ lane at is. with_key-law state place _ (delete_cache-law state name)))
-  step-law-by Allowed Whole whole host state (event.CacheKeys maker place) may allowed = whole-holds Law Whole whole state _ (by_lane-law state maker _ (λ lane at is. with_key-law state place _ (λ key. nothing state)))
-  step-law-by Allowed Whole whole host state (event.Forget maker place) may allowed = whole-holds Law Whole whole state _ (by_page-law state maker _ (with_key-law state place _ (forget-law state)))
-  step-law-by Allowed Whole whole host state (event.Match maker place asked) may allowed = whole-holds Law Whole whole state _ (by_lane-law state maker _ (λ lane at is. with_key-law state place _ (match_request-law state place.at asked)))
-  step-law-by Allowed Whole whole host state (event.MatchAll maker place asked) may allowed = whole-holds Law Whole whole state _ (by_lane-law state maker _ (λ lane at is. with_key-law state place _ (query_cache-law state place.at asked)))
-  step-law-by Allowed Whole whole host state (event.Keys maker place asked) may allowed = whole-holds Law Whole whole state _ (by_lane-law state maker _ (λ lane at is. with_key-law state place _ (query_cache-law state place.at asked)))
-  step-law-by Allowed Whole whole host state (event.Put maker place put) may allowed = whole-holds Law Whole whole state _ (by_lane-law state maker _ (λ lane at is. with_key-law state place _ (put_response-law state place.at put)))
-  step-law-by Allowed Whole whole host state (event.Delete maker place asked) may allowed = whole-holds Law Whole whole state _ (by_lane-law state maker _ (λ lane at is. with_key-law state place _ (delete_request-law state place.at asked)))
-  step-law-by Allowed Whole whole host state (event.Batch maker place asked) may allowed = whole-holds Law Whole whole state _ (by_lane-law state maker _ (λ lane at is. with_key-law state place _ (batch_ops-law state place.at asked)))
-  step-law-by Allowed Whole whole host state (event.AddAll maker place asked) may allowed = whole-holds Law Whole whole state _ (by_lane-law state maker _ (add_all_by-law state maker place asked))
-  step-law-by Allowed Whole whole host state (event.PreloadEnable maker of) may allowed = whole-holds Law Whole whole state _ (by_lane-law state maker _ (λ lane at is. with_named-law state of _ (λ row. preload_set-law state row true row.preload_value)))
-  step-law-by Allowed Whole whole host state (event.PreloadDisable maker of) may allowed = whole-holds Law Whole whole state _ (by_lane-law state maker _ (λ lane at is. with_named-law state of _ (λ row. preload_set-law state row false row.preload_value)))
-  step-law-by Allowed Whole whole host state (event.PreloadValue maker of text) may allowed = whole-holds Law Whole whole state _ (by_lane-law state maker _ (λ lane at is. with_named-law state of _ (λ row. preload_set-law state row row.preload text)))
-  step-law-by Allowed Whole whole host state (event.PreloadState maker of) may allowed = whole-holds Law Whole whole state _ (by_lane-law state maker _ (λ lane at is. with_named-law state of _ (λ row. nothing state)))
-  step-law-by Allowed Whole whole host state (event.Call maker asked) may allowed = whole-holds Law Whole whole state _ (make_call-law state maker asked may)
-  step-law-by Allowed Whole whole host state (event.Run maker job) may allowed = by_host-law Whole state maker _ (host.running state job)
-  step-law-by Allowed Whole whole host state (event.Fetched maker job line) may allowed = by_host-law Whole state maker _ (host.fetching state maker job line allowed)
-  step-law-by Allowed Whole whole host state (event.Evaluated maker job) may allowed = by_host-law Whole state maker _ (host.moves.evaluating state job)
-  step-law-by Allowed Whole whole host state (event.Installed maker job) may allowed = by_host-law Whole state maker _ (host.moves.installing state job)
-  step-law-by Allowed Whole whole host state (event.TryActivate maker registration) may allowed = whole-holds Law Whole whole state _ (by_host-law Law state maker _ (tryactivate-law state registration))
-  step-law-by Allowed Whole whole host state (event.Activated maker worker) may allowed = by_host-law Whole state maker _ (host.moves.activating state worker)
-  step-law-by Allowed Whole whole host state (event.Added maker task lines) may allowed = by_host-law Whole state maker _ (host.adding state maker task lines allowed)
-  step-law-by Allowed Whole whole host state (event.Restarted maker) may allowed = tt
+  module _ (Allowed : Event → Type 0) (Whole : State → Told → Type 0) (whole : (state : State) (told : Told) → Law state told → Whole state told) (host : IsHostLaw Allowed Whole) (state : State) where
+    case-law : (happened : Event) → has_its_maker happened ≡ true → (gives_control happened ≡ true → controls ≡ true) → Allowed happened → IfSome (case_of state happened) (λ outcome. Whole state outcome.told)
+    unfolding who_of
+    case-law (event.Open maker client url partition) is may allowed = whole state _ (open_client-law (may refl) state client url partition)
+    case-law (event.Close maker client) is may allowed = whole state _ (close-law state client)
+    case-law (event.Register maker asked) is may allowed = whole state _ (register-law state maker asked)
+    case-law (event.Update maker of) is may allowed = whole state _ (update-law state maker of)
+    case-law (event.SoftUpdate maker of) is may allowed = whole state _ (soft_update-law state of)
+    case-law (event.Unregister maker of) is may allowed = whole state _ (unregister-law state maker of)
+    case-law (event.Await maker of) is may allowed = whole-holds Law Whole whole state _ (await-law state maker of)
+    case-law (event.Ready maker client) is may allowed = whole-holds Law Whole whole state _ (ready-law state client)
+    case-law (event.Registration maker client url) is may allowed = whole state _ (get_registration-law state client url)
+    case-law (event.Registrations maker client) is may allowed = whole state _ (get_registrations-law state client)
+    case-law (event.SkipWaiting maker of place) is may allowed = whole state _ (with_slot-law state of place _ (λ registration worker found. skip_waiting-law state worker.registration worker.number))
+    case-law (event.Claim maker of place) is may allowed = whole state _ (with_slot-law state of place _ (λ registration worker found. claim_of-law (may refl) state _ worker found))
+    case-law (event.Begin maker client number) is may allowed = whole-holds Law Whole whole state _ (begin-law state client number)
+    case-law (event.End maker number) is may allowed = whole state _ (end-law state number)
+    case-law (event.CacheOpen maker place name) is may allowed = whole state _ (with_key-law state place _ (open_cache-law state name))
+    case-law (event.CacheHas maker place name) is may allowed = whole state _ (with_key-law state place _ (λ key. nothing state))
+    case-law (event.CacheDelete maker place name) is may allowed = whole state _ (with_key-law state place _ (delete_cache-law state name))
+    case-law (event.CacheKeys maker place) is may allowed = whole state _ (with_key-law state place _ (λ key. nothing state))
+    case-law (event.Forget maker place) is may allowed = whole state _ (with_key-law state place _ (forget-law state))
+    case-law (event.Match maker place asked) is may allowed = whole state _ (with_key-law state place _ (match_request-law state place.at asked))
+    case-law (event.MatchAll maker place asked) is may allowed = whole state _ (with_key-law state place _ (query_cache-law state place.at asked))
+    case-law (event.Keys maker place asked) is may allowed = whole state _ (with_key-law state place _ (query_cache-law state place.at asked))
+    case-law (event.Put maker place put) is may allowed = whole state _ (with_key-law state place _ (put_response-law state place.at put))
+    case-law (event.Delete maker place asked) is may allowed = whole state _ (with_key-law state place _ (delete_request-law state place.at asked))
+    case-law (event.Batch maker place asked) is may allowed = whole state _ (with_key-law state place _ (batch_ops-law state place.at asked))
+    case-law (event.AddAll maker place asked) is may allowed = whole state _ (add_all_at-law state maker place asked is)
+    case-law (event.PreloadEnable maker of) is may allowed = whole state _ (with_named-law state of _ (λ row. preload_set-law state row true row.preload_value))
+    case-law (event.PreloadDisable maker of) is may allowed = whole state _ (with_named-law state of _ (λ row. preload_set-law state row false row.preload_value))
+    case-law (event.PreloadValue maker of text) is may allowed = whole state _ (with_named-law state of _ (λ row. preload_set-law state row row.preload text))
+    case-law (event.PreloadState maker of) is may allowed = whole state _ (with_named-law state of _ (λ row. nothing state))
+    case-law (event.Call maker asked) is may allowed = whole-holds Law Whole whole state _ (make_call-law state maker asked may)
+    case-law (event.Run maker job) is may allowed = host.running state job
+    case-law (event.Fetched maker job line) is may allowed = host.fetching state maker job line allowed
+    case-law (event.Evaluated maker job) is may allowed = host.moves.evaluating state job
+    case-law (event.Installed maker job) is may allowed = host.moves.installing state job
+    case-law (event.TryActivate maker registration) is may allowed = whole-holds Law Whole whole state _ (tryactivate-law state registration)
+    case-law (event.Activated maker worker) is may allowed = host.moves.activating state worker
+    case-law (event.Added maker task lines) is may allowed = host.adding state maker task lines allowed
+    case-law (event.Restarted maker) is may allowed = tt
+
+    pub step-law-by : (happened : Event) → (gives_control happened ≡ true → controls ≡ true) → Allowed happened → IfSome (step state happened) (λ outcome. Whole state outcome.told)
+    unfolding step
+    step-law-by happened may allowed =
+        by_test (λ (o : Option Outcome). IfSome o (λ outcome. Whole state outcome.told)) (has_its_maker happened) _ _ (λ is. case-law happened is may allowed) (λ other. tt)
 
 module _ (Law Own : State → Told → Type 0) (controls : Bool) {anywhere : Bool} (law : IsLawBeside Law Own Law controls anywhere) where
   -- a law of whole events, where it follows of the other and holds of the events that move a worker on

@@ -1,5 +1,5 @@
 -- Jobs that fetch and addAlls that have not settled: what each part of a step leaves of them.
-use Rattle.std.proofs.Common.{◌≡◌, ℕ, Bool, true, false, not, ◌&&◌, ◌||◌, ◌==◌, List, [], ◌∷◌, ◌++◌, map, refl, arith}
+use Rattle.std.proofs.Common.{◌≡◌, ℕ, Bool, true, false, not, ◌&&◌, ◌||◌, ◌==◌, List, [], ◌∷◌, ◌++◌, map, filter, refl, ap, arith}
 use Rattle.std.specs.List.{list_any}
 use Rattle.std.specs.Prelude.{is_none}
 use Rattle.std.specs.Option.{option_map_or}
@@ -11,7 +11,7 @@ use Rattle.sw_data.specs.declared.events.Who.TheVariants as who
 use Rattle.sw_data.specs.declared.rows.Job.{Job}
 use Rattle.sw_data.specs.declared.rows.JobRow.{JobRow}
 use Rattle.sw_rules.specs.Caching.{add_cache, add_task, carry_out, drop_cache}
-use Rattle.sw_rules.specs.Forgetting.{forget_key}
+use Rattle.sw_rules.specs.Forgetting.{forget_key, is_mapped_of}
 use Rattle.sw_rules.specs.Calls.{note_call}
 use Rattle.sw_rules.specs.Clients.{add_client, add_event, claim_client, claim_clients, claims, leave, remove_client, remove_event, take_control}
 use Rattle.sw_rules.specs.Jobs.{gets_value, promise, schedule, settle}
@@ -21,6 +21,7 @@ use Rattle.sw_rules.specs.Registrations.{activate, clear, drop_registration, map
 use Rattle.sw_rules.specs.Rows.{changed, client_row, has_pending_worker, is_in_phase, is_fetching, is_job, is_task, is_used, newest_worker}
 use Rattle.sw_rules.specs.State.{State, AddAll, Awaited}
 use Rattle.sw_rules.specs.Told.{Told, followed}
+use Rattle.sw_laws.proofs.Forgotten.{all_forgotten}
 use Rattle.sw_laws.proofs.Lists.{any_changed, by_test}
 use Rattle.sw_laws.proofs.Split.{IsLawBeside, IsRecheckLaw, unload-law}
 
@@ -176,7 +177,7 @@ module _ (jobs tasks : ℕ → Bool) where
     caching = λ state key name free. unmoved state _ refl refl;
     dropping = λ state key name. unmoved state _ refl refl;
     carrying = λ state key name ops pairs new there is. unmoved state _ refl refl;
-    forgetting = λ state key free. unmoved state _ refl refl;
+    forgetting = λ state key free. let same = all_forgotten state (filter (is_mapped_of key) state.registrations) in unmoved state _ (ap (λ s. s.jobs) same) (ap (λ s. s.tasks) same);
     awaiting = λ state maker key name requests runs. record { fetching = λ job of is. is; unsettled = tasks_pushed tasks state.tasks _ };
     answering = λ state number result faulted may. tt;
     noting = λ state worker faulted. unmoved state _ refl refl;

@@ -7,13 +7,13 @@ use Rattle.std.proofs.lemmas.Bool.{and_parts}
 use Rattle.std.proofs.lemmas.Bool.Decides.{nat_tests}
 use Rattle.sw_data.specs.declared.rows.ClientRow.{ClientRow}
 use Rattle.sw_data.specs.declared.workers.WorkerState.{WorkerState}
-use Rattle.sw_rules.specs.Caching.{is_worker_of_any}
 use Rattle.sw_rules.specs.Forgetting.{forget_key, is_busy, is_mapped_of, is_worker_of_key}
 use Rattle.sw_rules.specs.Registrations.{clear_state}
 use Rattle.sw_rules.specs.Rows.{has_worker, is_activated, is_active, is_registration, is_unfinished, is_worker, registration_row, worker_row}
 use Rattle.sw_rules.specs.State.{State, Registration, Worker}
 use Rattle.sw_laws.specs.Coherent.{Coherent, apart, has_its_handler, is_of_key, same_cache, same_slot, share_slot}
 use Rattle.sw_laws.proofs.FetchSteps.{bytes_joined}
+use Rattle.sw_laws.proofs.Forgotten.{cleared, forgotten_together, is_numbered, left}
 use Rattle.sw_laws.proofs.Lists.{all_both, all_members, all_not, all_weaker, any_changed, any_weaker, by_test, bytes_eq_symmetric, false_of, or_from}
 use Rattle.sw_laws.proofs.Moves.{Keeps, from_any, keys-moved, tasks-moved, work-moved, workers-moved}
 use Rattle.sw_laws.proofs.Places.{any_known, apart_filter, both_numbered, found_numbered, not_there, places_apart}
@@ -52,7 +52,7 @@ idle state key is =
 -- ---- the workers of the key's registrations
 
 -- a worker of a mapped registration of a key is a worker of the key
-pub any_of_filter : (key : List ℕ) (registration : ℕ) (rows : List Registration) → list_any (λ row. row.number == registration) (filter (is_mapped_of key) rows) ≡ true → list_any (λ row. row.number == registration && bytes_eq row.key key) rows ≡ true
+pub any_of_filter : (key : List ℕ) (registration : ℕ) (rows : List Registration) → is_numbered (filter (is_mapped_of key) rows) registration ≡ true → list_any (λ row. row.number == registration && bytes_eq row.key key) rows ≡ true
 any_of_filter key registration [] is = is
 any_of_filter key registration (x ∷ xs) is = grind (arith, is, any_of_filter key registration xs)
 
@@ -80,18 +80,18 @@ keys_clash client key registration rows fine one two other =
 clear_apart : (one other : WorkerState) → same_slot one other ≡ false → (same_slot (clear_state one) (clear_state other) || same_slot (clear_state one) other || same_slot one (clear_state other)) ≡ false
 clear_apart one other is = grind arith
 
-slots_plain : (a b : Bool) (x y : Worker) → share_slot x y ≡ false → share_slot (if a then record x { state = clear_state x.state } else x) (if b then record y { state = clear_state y.state } else y) ≡ false
+slots_plain : (a b : Bool) (x y : Worker) → share_slot x y ≡ false → share_slot (if a then cleared x else x) (if b then cleared y else y) ≡ false
 slots_plain a b x y fine = grind (arith, fine, clear_apart x.state y.state)
 
-forgotten_slots : (gone : List Registration) (x y : Worker) → share_slot x y ≡ false → share_slot (if is_worker_of_any gone x then record x { state = clear_state x.state } else x) (if is_worker_of_any gone y then record y { state = clear_state y.state } else y) ≡ false
-forgotten_slots gone x y fine = slots_plain (is_worker_of_any gone x) (is_worker_of_any gone y) x y fine
+forgotten_slots : (gone : List Registration) (x y : Worker) → share_slot x y ≡ false → share_slot (if is_numbered gone x.registration then cleared x else x) (if is_numbered gone y.registration then cleared y else y) ≡ false
+forgotten_slots gone x y fine = slots_plain (is_numbered gone x.registration) (is_numbered gone y.registration) x y fine
 
 module _ (state : State) (key : List ℕ) (calm : IsIdle state key) (sound : Coherent state) where
   abbrev gone : List Registration
   gone = filter (is_mapped_of key) state.registrations
 
   abbrev f : Worker → Worker
-  f w = if is_worker_of_any gone w then record w { state = clear_state w.state } else w
+  f w = if is_numbered gone w.registration then cleared w else w
 
   workers_apart : apart (λ x y. x.number == y.number) state.workers ≡ true
   workers_apart = places_apart (λ w. w.number) state.workers sound.workers.numbers
@@ -100,16 +100,16 @@ module _ (state : State) (key : List ℕ) (calm : IsIdle state key) (sound : Coh
   registrations_apart = places_apart (λ row. row.number) state.registrations sound.registrations.numbers
 
   abbrev is_keyed : Worker → Bool
-  is_keyed w = not (is_worker_of_any gone w) || is_worker_of_key state key w.number
+  is_keyed w = not (is_numbered gone w.registration) || is_worker_of_key state key w.number
 
   keyed : list_all is_keyed state.workers ≡ true
   keyed =
       all_weaker (λ w. list_any (λ y. y.number == w.number && y.registration == w.registration) state.workers) _
-      (λ w here. or_from (is_worker_of_any gone w) _ (λ of. key_by state key w.registration w.number (worker_row state w.number) refl workers_apart registrations_apart here (any_of_filter key w.registration state.registrations of))) state.workers
+      (λ w here. or_from (is_numbered gone w.registration) _ (λ of. key_by state key w.registration w.number (worker_row state w.number) refl workers_apart registrations_apart here (any_of_filter key w.registration state.registrations of))) state.workers
       (all_members (λ y w. y.number == w.number && y.registration == w.registration) (λ w. grind (arith, nat_tests)) state.workers state.workers (λ w is. is))
 
   abbrev known : Worker → Bool
-  known w = (not (is_worker_of_any gone w) || is_none w.handler) && has_its_handler w
+  known w = (not (is_numbered gone w.registration) || is_none w.handler) && has_its_handler w
 
   knows : list_all known state.workers ≡ true
   knows = all_both _ _ state.workers
@@ -117,7 +117,7 @@ module _ (state : State) (key : List ℕ) (calm : IsIdle state key) (sound : Coh
       sound.workers.handlers
 
   f_keeps : Keeps f
-  f_keeps = record { number = λ x. by_test (λ w. w.number ≡ x.number) (is_worker_of_any gone x) _ x (λ a. refl) (λ b. refl); registration = λ x. by_test (λ w. w.registration ≡ x.registration) (is_worker_of_any gone x) _ x (λ a. refl) (λ b. refl) }
+  f_keeps = record { number = λ x. by_test (λ w. w.number ≡ x.number) (is_numbered gone x.registration) _ x (λ a. refl) (λ b. refl); registration = λ x. by_test (λ w. w.registration ≡ x.registration) (is_numbered gone x.registration) _ x (λ a. refl) (λ b. refl) }
 
   event_stays : (number : ℕ) → not (is_worker_of_key state key number) ≡ true → has_worker is_activated state.workers number ≡ true → has_worker is_activated (map f state.workers) number ≡ true
   event_stays number free is =
@@ -128,7 +128,7 @@ module _ (state : State) (key : List ℕ) (calm : IsIdle state key) (sound : Coh
   controller_stays : (client : ClientRow) → not (bytes_eq client.key key) ≡ true → (number : ℕ) → has_worker (λ w. is_active w.state) state.workers number ≡ true → has_worker (is_of_key state.registrations client.key) state.workers number ≡ true → has_worker (λ w. is_active w.state) (map f state.workers) number ≡ true
   controller_stays client other number active of =
       any_changed (λ w. w.number == number && (is_active w.state && is_of_key state.registrations client.key w)) _ f
-      (λ w here. by_test (λ r. (r.number == number && is_active r.state) ≡ true) (is_worker_of_any gone w) _ w
+      (λ w here. by_test (λ r. (r.number == number && is_active r.state) ≡ true) (is_numbered gone w.registration) _ w
       (λ any. absurd (keys_clash client.key key w.registration state.registrations registrations_apart (grind (arith, here)) (any_of_filter key w.registration state.registrations any) other))
       (λ none. grind (arith, here))) state.workers
       (both_numbered (λ (w : Worker). w.number) (λ w. is_active w.state) (is_of_key state.registrations client.key) state.workers number workers_apart active of)
@@ -160,11 +160,10 @@ module _ (state : State) (key : List ℕ) (calm : IsIdle state key) (sound : Coh
   }
 
   forgotten : Coherent (forget_key state key).state
-  unfolding forget_key
   forgotten =
       let after : State = record state { workers = map f state.workers } in
-      let unmapped = registrations-coherent _ (plain_keeps (is_mapped_of key) (λ row. record row { mapped = false }) (λ x. refl) (λ x. refl) (λ x. refl) (λ x is. absurd cc)) after moved in
-      caches-coherent _ _ (apart_filter same_cache _ state.caches sound.caches) unmapped
+      let unmapped = registrations-coherent _ (plain_keeps (is_mapped_of key) left (λ x. refl) (λ x. refl) (λ x. refl) (λ x is. absurd cc)) after moved in
+      subst Coherent (sym (forgotten_together state key registrations_apart)) (caches-coherent _ _ (apart_filter same_cache _ state.caches sound.caches) unmapped)
 
 pub forget-coherent : (state : State) (key : List ℕ) → is_busy state key ≡ false → Coherent state → Coherent (forget_key state key).state
 forget-coherent state key is sound = forgotten state key (idle state key is) sound

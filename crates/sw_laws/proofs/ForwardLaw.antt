@@ -15,7 +15,7 @@ use Rattle.sw_data.specs.declared.workers.Mode.{Mode}
 use Rattle.sw_data.specs.declared.workers.WorkerState.{WorkerState}
 use Rattle.sw_data.specs.declared.workers.WorkerState.TheVariants as worker_state
 use Rattle.sw_rules.specs.Activating.{become_activated, finish_activate}
-use Rattle.sw_rules.specs.Caching.{add_cache, add_task, carry_out, drop_cache, is_worker_of_any, settle_task}
+use Rattle.sw_rules.specs.Caching.{add_cache, add_task, carry_out, drop_cache, settle_task}
 use Rattle.sw_rules.specs.Forgetting.{forget_key, is_mapped_of}
 use Rattle.sw_rules.specs.Calls.{note_call}
 use Rattle.sw_rules.specs.Clients.{add_client, add_event, claim_client, claim_clients, claims, leave, remove_client, remove_event, take_control}
@@ -35,6 +35,7 @@ use Rattle.sw_laws.proofs.ClaimSteps.{rechecks_coherently}
 use Rattle.sw_laws.proofs.CoherentLaw.{coherent_law}
 use Rattle.sw_laws.proofs.Events.{activated-by, step-law-beside}
 use Rattle.sw_laws.proofs.Forward.{EndsActivating, KeepJobs, KeepTasks, Move, Rechecked, ended_goes, moved_both, rechecked_both, rechecked_goes, values_changed, values_pushed, workers_changed, workers_pushed, workers_stand}
+use Rattle.sw_laws.proofs.Forgotten.{all_forgotten, cleared, is_numbered}
 use Rattle.sw_laws.proofs.HandlerSteps.{activating_rows, ended_from, ended_in, ended_in_keeps, ends_in}
 use Rattle.sw_laws.proofs.HeldLaw.{keeps_if}
 use Rattle.sw_laws.proofs.JobEvents.{evaluated-by, installed-by, mode_at, mode_made}
@@ -229,7 +230,10 @@ fail_goes state row registration worker =
 
 forget_goes : (state : State) (key : List ℕ) → Stays state (forget_key state key).state
 unfolding forget_key
-forget_goes state key = record { values = same_values state; workers = some_go (is_worker_of_any (filter (is_mapped_of key) state.registrations)) (λ worker. record worker { state = clear_state worker.state }) (λ x. refl) (λ x. refl) (λ x. clear_moves x.state) state.workers }
+forget_goes state key =
+    let gone = filter (is_mapped_of key) state.registrations in
+    let after = subst (Stays state) (sym (all_forgotten state gone)) (record { values = same_values state; workers = some_go (λ w. is_numbered gone w.registration) cleared (λ x. refl) (λ x. refl) (λ x. clear_moves x.state) state.workers }) in
+    record { values = after.values; workers = after.workers }
 
 -- the law of the steps that move no worker on
 forward_law : IsLawBeside GoesForward (λ state told. Unit {0}) GoesForward true true

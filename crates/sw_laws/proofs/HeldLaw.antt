@@ -1,12 +1,12 @@
 -- An event that neither opens a client nor claims leaves what each client holds.
-use Rattle.std.proofs.Common.{◌≡◌, ℕ, Bool, false, ◌==◌, List, filter, Option, refl, if◌then◌else◌}
+use Rattle.std.proofs.Common.{◌≡◌, ℕ, Bool, false, ◌==◌, List, filter, Option, refl, subst, sym, if◌then◌else◌}
 use Rattle.std.specs.Prelude.{is_none}
 use Rattle.sw_data.specs.declared.events.Who.{Who}
 use Rattle.sw_data.specs.declared.events.Who.TheVariants as who
 use Rattle.sw_data.specs.declared.rows.JobRow.{JobRow}
 use Rattle.sw_data.specs.declared.rows.ClientRow.{ClientRow}
 use Rattle.sw_rules.specs.Activating.{become_activated}
-use Rattle.sw_rules.specs.Caching.{add_cache, add_task, carry_out, drop_cache, is_worker_of_any, settle_task}
+use Rattle.sw_rules.specs.Caching.{add_cache, add_task, carry_out, drop_cache, settle_task}
 use Rattle.sw_rules.specs.Forgetting.{forget_key, is_mapped_of}
 use Rattle.sw_rules.specs.Calls.{note_call}
 use Rattle.sw_rules.specs.Clients.{add_event, remove_event}
@@ -19,6 +19,7 @@ use Rattle.sw_rules.specs.Rows.{changed, is_worker}
 use Rattle.sw_rules.specs.State.{State, Worker, Awaited}
 use Rattle.sw_rules.specs.Told.{Told, followed}
 use Rattle.sw_laws.proofs.CoherentLaw.{coherent_law}
+use Rattle.sw_laws.proofs.Forgotten.{all_forgotten, cleared, is_numbered}
 use Rattle.sw_laws.proofs.Held.{Holds, HoldsBut, holds-moved, leave_holds, pushed_holds, rechecks_hold}
 use Rattle.sw_laws.proofs.HandlerSteps.{activated_from}
 use Rattle.sw_laws.proofs.Lists.{by_test}
@@ -77,7 +78,10 @@ activated_holds state registration worker given holds =
 
 forget_holds : (state : State) (key : List ℕ) (given : ℕ → Option ℕ) → HoldsBut nobody given state.workers state.clients → HoldsBut nobody given (forget_key state key).state.workers (forget_key state key).state.clients
 unfolding forget_key
-forget_holds state key given holds = some_moved given (is_worker_of_any (filter (is_mapped_of key) state.registrations)) _ (λ x. refl) (λ x. refl) state.workers state.clients holds
+forget_holds state key given holds =
+    let gone = filter (is_mapped_of key) state.registrations in
+    subst (λ (s : State). HoldsBut nobody given s.workers s.clients) (sym (all_forgotten state gone))
+    (some_moved given (λ w. is_numbered gone w.registration) cleared (λ x. refl) (λ x. refl) state.workers state.clients holds)
 
 pub held_law : IsLaw (Holds nobody) false
 unfolding followed schedule settle finish map_registration unmap set_mode set_preload fetch_script make_worker begin_install tell_update add_event remove_event add_cache drop_cache carry_out add_task settle_task note_call

@@ -22,7 +22,7 @@ use Rattle.sw_data.specs.Addresses.{same_origin}
 use Rattle.sw_rules.specs.Batch.{batch}
 use Rattle.sw_rules.specs.Caching.{added, carry_out, pairs_of, puts_of, responses_fault, settle_task, store_task, task_ended}
 use Rattle.sw_rules.specs.Jobs.{finish, gets_value, promise, resolve_and_finish, schedule, settle}
-use Rattle.sw_rules.specs.Installing.{ended_handler, evaluated, evaluated_worker, fail_install, fetch_ended, fetched, fetched_of, fetched_script, finish_install, install, install_ended, installed, is_same_script, job_worker, keep_script, make_worker, reject_and_drop, script_fault, throw}
+use Rattle.sw_rules.specs.Installing.{ended_handler, evaluated, evaluated_worker, fail_install, fetch_ended, fetched, fetched_of, finish_install, install, install_ended, installed, is_same_script, job_worker, keep_script, make_worker, reject_and_drop, script_of, throw}
 use Rattle.sw_rules.specs.Matching.{Pair}
 use Rattle.sw_rules.specs.Registering.{fetch_script, has_script, is_registered, may_run, register_refusal, rejected, run, run_allowed_register, run_job, run_register, run_unregister, run_update, scheduled_by, unregister_mapped}
 use Rattle.sw_rules.specs.Registrations.{clear, drop_registration, map_registration, new_registration, set_mode, try_clear, unmap}
@@ -243,16 +243,12 @@ module _ (Law : State → Told → Type 0) where
       (λ row found. by_test (HoldsIf Law state) (may_run state row) _ _
       (λ may. run_job-by Law state row.job (running state row (found_by_own state number row found) may)) (λ no_run. tt))
 
-  fetched_script-by : (state : State) (row : JobRow) (registration : ℕ) → IsFetchLaw Law state row registration → (script : Fetched) → Holds Law state (fetched_script state row registration script)
-  unfolding fetched_script
-  fetched_script-by state row registration law script =
-      by_option (Holds Law state) (script_fault row.job script) _ _
-      (λ none. by_test (Holds Law state) (is_same_script state row.job registration script.response.body) _ _ (λ same. law.keeping) (λ other. law.making script))
-      (λ why there. law.rejecting why)
-
-  fetch_ended-by : (state : State) (row : JobRow) (registration : ℕ) → IsFetchLaw Law state row registration → (script : Option Fetched) → Holds Law state (fetch_ended state row script registration)
-  fetch_ended-by state row registration law None = law.rejecting _
-  fetch_ended-by state row registration law (Some script) = fetched_script-by state row registration law script
+  fetch_ended-by : (state : State) (row : JobRow) (registration : ℕ) → IsFetchLaw Law state row registration → (given : Option Fetched) → Holds Law state (fetch_ended state row given registration)
+  unfolding fetch_ended
+  fetch_ended-by state row registration law given =
+      by_result (Holds Law state) (script_of row.job given) _ _
+      (λ script there. by_test (Holds Law state) (is_same_script state row.job registration script.response.body) _ _ (λ same. law.keeping) (λ other. law.making script))
+      (λ why none. law.rejecting why)
 
   pub fetched-by : (state : State) (number : ℕ) → ((row : JobRow) (registration : ℕ) → row.job.number ≡ number → IsAt state is_fetching row registration → IsFetchLaw Law state row registration) → (line : Option FetchLine) → HoldsIf Law state (fetched state number line)
   fetched-by state number fetching line =

@@ -20,7 +20,7 @@ use Rattle.sw_data.specs.declared.workers.Mode.{Mode}
 use Rattle.sw_rules.specs.Activating.{become_activated}
 use Rattle.sw_rules.specs.Batch.{batch}
 use Rattle.sw_rules.specs.Caching.{add_cache, add_task, carry_out, drop_cache, pairs_of, settle_task, with_pairs}
-use Rattle.sw_rules.specs.Forgetting.{forget_key}
+use Rattle.sw_rules.specs.Forgetting.{forget_key, is_mapped_of}
 use Rattle.sw_rules.specs.Calls.{note_call}
 use Rattle.sw_rules.specs.Clients.{add_client, add_event, claim_client, claim_clients, claims, leave, remove_client, remove_event, take_control}
 use Rattle.sw_rules.specs.Installing.{begin_install, become_waiting, kept_worker, discard, end_handler, fail_install, finish_install, make_worker, reject_and_drop, tell_update, throw}
@@ -33,6 +33,7 @@ use Rattle.sw_rules.specs.Rows.{client_row, newest_worker, registration_row}
 use Rattle.sw_rules.specs.State.{State, Registration, Worker, Awaited}
 use Rattle.sw_rules.specs.Storage.{applied, is_cache, kept_after, with_batch}
 use Rattle.sw_rules.specs.Told.{Told, followed, is_kept, kept_change, quiet, type_error}
+use Rattle.sw_laws.proofs.Forgotten.{all_forgotten}
 use Rattle.sw_laws.proofs.Lists.{by_test}
 use Rattle.sw_laws.proofs.Split.{IsLaw, IsRecheckLaw, unload-law}
 
@@ -222,7 +223,7 @@ cache_law = record {
       (λ none. ap (λ (rows : List KeptCache). rows ++ record { key = key; name = name; pairs = [] } ∷ []) same);
   dropping = λ state key name kept same. ap (filter (λ row. not (is_cache key name row))) same;
   carrying = λ state key name ops pairs new there is. carried state key name ops pairs new there is;
-  forgetting = λ state key free kept same. ap (filter (λ row. not (bytes_eq row.key key))) same;
+  forgetting = λ state key free kept same. ap (filter (λ row. not (bytes_eq row.key key))) (same ∙ sym (ap (λ (s : State). s.caches) (all_forgotten state (filter (is_mapped_of key) state.registrations))));
   awaiting = λ state maker key name requests runs kept same. same;
   answering = λ state number result faulted may kept same. same;
   noting = λ state worker faulted kept same. same;

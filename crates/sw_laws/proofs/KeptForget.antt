@@ -5,13 +5,13 @@ use Rattle.std.specs.Prelude.{bytes_eq, option_and_then}
 use Rattle.std.proofs.lemmas.Bool.Decides.{nat_tests}
 use Rattle.sw_data.specs.Sameness.{same_truth}
 use Rattle.sw_data.specs.declared.storage.KeptRegistration.{KeptRegistration}
-use Rattle.sw_rules.specs.Caching.{is_worker_of_any}
 use Rattle.sw_rules.specs.Forgetting.{forget_key, is_mapped_of}
 use Rattle.sw_rules.specs.Registrations.{clear_state}
 use Rattle.sw_rules.specs.State.{State, Registration, Worker}
 use Rattle.sw_laws.specs.Coherent.{SoundRegistrations, apart}
-use Rattle.sw_laws.proofs.Contents.{Slots, contents_moved, is_worked, kept_in, kept_with, slots_in}
+use Rattle.sw_laws.proofs.Contents.{Slots, contents, contents_moved, is_worked, kept_in, kept_with, slots_in}
 use Rattle.sw_laws.proofs.ForgetSteps.{any_of_filter}
+use Rattle.sw_laws.proofs.Forgotten.{cleared, forgotten_together, is_numbered, left}
 use Rattle.sw_laws.proofs.KeptRechecks.{KeepsRows, unkept}
 use Rattle.sw_laws.proofs.Lists.{all_members, all_true, all_weaker, any_weaker, by_test, by_truth, not_true}
 use Rattle.sw_laws.proofs.Moves.{from_any}
@@ -46,7 +46,7 @@ own_row : (n : ℕ) (b : Bool) → (n == n && same_truth b b) ≡ true
 own_row n b = grind (arith, nat_tests)
 
 -- a mapped registration of another key has no number of a registration of the key
-clear_of : (key : List ℕ) (rows : List Registration) (number : ℕ) → apart (λ x y. x.number == y.number) rows ≡ true → list_any (λ y. y.number == number && not (bytes_eq y.key key)) rows ≡ true → list_any (λ row. row.number == number) (filter (is_mapped_of key) rows) ≡ false
+clear_of : (key : List ℕ) (rows : List Registration) (number : ℕ) → apart (λ x y. x.number == y.number) rows ≡ true → list_any (λ y. y.number == number && not (bytes_eq y.key key)) rows ≡ true → is_numbered (filter (is_mapped_of key) rows) number ≡ false
 clear_of key rows number fine other =
     not_true (λ any.
     true≢false (sym (from_any (λ (y : Registration). y.number == number && (not (bytes_eq y.key key) && bytes_eq y.key key)) false (λ y both. grind (arith, both)) rows
@@ -59,17 +59,17 @@ module _ (state : State) (key : List ℕ) (order : Ordered state.registrations s
   abbrev gone : List Registration
   gone = filter (is_mapped_of key) rows
 
-  abbrev cleared : Worker → Worker
-  cleared worker = if is_worker_of_any gone worker then record worker { state = clear_state worker.state } else worker
+  abbrev f : Worker → Worker
+  f worker = if is_numbered gone worker.registration then cleared worker else worker
 
   abbrev now : List Worker
-  now = map cleared state.workers
+  now = map f state.workers
 
   abbrev g : Registration → Registration
-  g row = if is_mapped_of key row then record row { mapped = false } else row
+  g row = if is_mapped_of key row then left row else row
 
   abbrev known : Registration → Bool
-  known x = bytes_eq x.key key || not (list_any (λ row. row.number == x.number) gone)
+  known x = bytes_eq x.key key || not (is_numbered gone x.number)
 
   knows : list_all known rows ≡ true
   knows =
@@ -78,10 +78,10 @@ module _ (state : State) (key : List ℕ) (order : Ordered state.registrations s
       (λ other. grind (arith, other, clear_of key rows x.number (places_apart (λ (r : Registration). r.number) rows order.sound.numbers) (any_weaker (λ y. y.number == x.number && same_truth (bytes_eq y.key key) (bytes_eq x.key key)) _ (λ y both. grind (arith, both, other)) rows here))))
       rows (all_members (λ y x. y.number == x.number && same_truth (bytes_eq y.key key) (bytes_eq x.key key)) (λ x. own_row x.number (bytes_eq x.key key)) rows rows (λ x is. is))
 
-  slots_stay : (x : Registration) → list_any (λ row. row.number == x.number) gone ≡ false → slots_in now x.number ≡ slots_in state.workers x.number
+  slots_stay : (x : Registration) → is_numbered gone x.number ≡ false → slots_in now x.number ≡ slots_in state.workers x.number
   slots_stay x free =
-      slots_same cleared x.number (λ w. true) (λ w. by_test (λ (v : Worker). v.registration ≡ w.registration) (is_worker_of_any gone w) _ w (λ here. refl) (λ other. refl))
-      (λ w know of. by_test (LooksSame w) (is_worker_of_any gone w) _ w (λ here. absurd (true≢false (sym (any_weaker (λ (row : Registration). row.number == w.registration) _ (λ row is. grind (arith, nat_tests, is, of)) gone here) ∙ free))) (λ other. looks_same w))
+      slots_same f x.number (λ w. true) (λ w. by_test (λ (v : Worker). v.registration ≡ w.registration) (is_numbered gone w.registration) _ w (λ here. refl) (λ other. refl))
+      (λ w know of. by_test (LooksSame w) (is_numbered gone w.registration) _ w (λ here. absurd (true≢false (sym (any_weaker (λ (row : Registration). row.number == w.registration) _ (λ row is. grind (arith, nat_tests, is, of)) gone here) ∙ free))) (λ other. looks_same w))
       state.workers (all_true state.workers)
 
   moved_kept : (x : Registration) → known x ≡ true → kept_in now (g x) ≡ option_and_then (other_key key) (kept_in state.workers x)
@@ -104,4 +104,5 @@ module _ (state : State) (key : List ℕ) (order : Ordered state.registrations s
   forget_rows kept same =
       filter_as (λ row. not (bytes_eq row.key key)) kept.registrations
       ∙ (ap (filter_map (other_key key)) same
-      ∙ sym (contents_moved state.workers now g (other_key key) known (λ x. by_test (λ (row : Registration). row.first ≡ x.first) (is_mapped_of key x) _ x (λ here. refl) (λ other. refl)) moved_kept rows knows order.firsts))
+      ∙ sym (contents_moved state.workers now g (other_key key) known (λ x. by_test (λ (row : Registration). row.first ≡ x.first) (is_mapped_of key x) _ x (λ here. refl) (λ other. refl)) moved_kept rows knows order.firsts)
+      ∙ ap (λ (s : State). contents s.workers s.registrations) (sym (forgotten_together state key (places_apart (λ (r : Registration). r.number) rows order.sound.numbers))))

@@ -15,6 +15,7 @@ pub mod FetchSteps
 pub mod FetchesStay
 pub mod Fetching
 pub mod ForgetSteps
+pub mod Forgotten
 pub mod Forward
 pub mod ForwardLaw
 pub mod HandlerSteps

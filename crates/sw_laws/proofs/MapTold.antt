@@ -17,7 +17,7 @@ use Rattle.sw_data.specs.declared.rows.JobRow.{JobRow}
 use Rattle.sw_data.specs.declared.workers.WorkerState.TheVariants as worker_state
 use Rattle.sw_rules.specs.Activating.{become_activated, paid}
 use Rattle.sw_rules.specs.Caching.{add_cache, add_task, carry_out, drop_cache, settle_task}
-use Rattle.sw_rules.specs.Forgetting.{forget_key, is_mapped_of}
+use Rattle.sw_rules.specs.Forgetting.{forget_key, forget_registrations, is_mapped_of}
 use Rattle.sw_rules.specs.Calls.{note_call}
 use Rattle.sw_rules.specs.Clients.{add_client, add_event, claim_client, claim_clients, claims, leave, remove_client, remove_event, take_control}
 use Rattle.sw_rules.specs.Installing.{become_waiting, begin_install, discard, end_handler, fail_install, finish_install, first_counter, make_worker, placed, reject_and_drop, tell_update, throw}
@@ -139,37 +139,6 @@ one_left registration rows = record {
       (all_weaker (λ (row : Registration). not (row.number == registration && is_theirs key scope row)) _ (λ row is. grind (arith, is)) rows (all_not (λ (row : Registration). row.number == registration && is_theirs key scope row) rows gone)));
 }
 
-own_row : (number : ℕ) (theirs : Bool) → (number == number && (not theirs || theirs)) ≡ true
-own_row number theirs = grind (arith, nat_tests)
-
--- the number of each row that has them is one of a row that has them
-owned : (key scope : List ℕ) (rows : List Registration) → list_all (λ x. not (is_theirs key scope x) || has_them key scope rows x.number) rows ≡ true
-owned key scope rows =
-    all_weaker (λ (x : Registration). list_any (λ (y : Registration). y.number == x.number && (not (is_theirs key scope x) || is_theirs key scope y)) rows) _
-    (λ x here. or_from (is_theirs key scope x) _ (λ theirs. any_weaker (λ (y : Registration). y.number == x.number && (not (is_theirs key scope x) || is_theirs key scope y)) _ (λ y is. grind (arith, is, theirs)) rows here)) rows
-    (all_members (λ (y x : Registration). y.number == x.number && (not (is_theirs key scope x) || is_theirs key scope y)) (λ x. own_row x.number (is_theirs key scope x)) rows rows (λ x is. is))
-
--- what is told of each row that leaves begins with it
-abbrev told_left : (Registration → List Notice) → Registration → List Notice
-told_left more row = notice.Unmapped row.number ∷ more row
-
-none_left : (key scope : List ℕ) (new : List Registration) (test : Registration → Bool) (more : Registration → List Notice) (rows : List Registration) → list_all (λ x. not (is_theirs key scope x) || has_them key scope new x.number) rows ≡ true
-    → list_any (names_them key scope new) (flat_map (told_left more) (filter test rows)) ≡ false → list_all (λ row. not (test row) || not (is_theirs key scope row)) rows ≡ true
-none_left key scope new test more [] own none = refl
-none_left key scope new test more (row ∷ rows) own none =
-    by_truth (test row)
-    (λ gone. grind (arith, gone, own, none, list_any-append (names_them key scope new) (told_left more row) (flat_map (told_left more) (filter test rows)), none_left key scope new test more rows))
-    (λ stays. grind (arith, stays, own, none, none_left key scope new test more rows))
-
-some_left : (test : Registration → Bool) (more : Registration → List Notice) (rows : List Registration) → Tell rows (changed test left rows) (flat_map (told_left more) (filter test rows))
-some_left test more rows = record {
-  rows = left_rows test rows;
-  stays = λ key scope none.
-      ap (option_map (λ (row : Registration). row.number)) (left_found test rows key scope
-      (none_left key scope (changed test left rows) test more rows
-      (all_weaker (λ (x : Registration). not (is_theirs key scope x) || has_them key scope rows x.number) _ (λ x is. or_from (is_theirs key scope x) _ (λ theirs. left_rows test rows key scope x.number (grind (arith, is, theirs)))) rows (owned key scope rows)) none));
-}
-
 -- ---- a row that gets into the map
 
 nothing_more : {X : Type 0} (found : Option X) → option_or found None ≡ found
@@ -279,6 +248,15 @@ install_tells state job registration worker =
     (some_plain (is_registration registration) (placed (first_counter state.registrations)) (λ x. record { number = refl; key = refl; scope = refl; mapped = refl }) state.registrations _)
     (stand waiting.state.registrations []))
 
+forget_tells : (rows : List Registration) (state : State) → Tells state (forget_registrations state rows)
+unfolding forget_registrations clear
+forget_tells [] state = stand state.registrations []
+forget_tells (row ∷ rows) state =
+    let unmapped = unmap state row.number in
+    let cleared = clear unmapped.state row.number in
+    further state unmapped _ (unmap_tells state row.number)
+    (further unmapped.state cleared _ (stand unmapped.state.registrations _) (forget_tells rows cleared.state))
+
 tell_law : IsLaw Tells true
 unfolding followed schedule settle finish map_registration set_mode set_preload fetch_script make_worker begin_install tell_update end_handler become_activated add_client add_event remove_event add_cache drop_cache carry_out forget_key add_task settle_task note_call
 tell_law = record {
@@ -312,7 +290,7 @@ tell_law = record {
   caching = λ state key name free. stand state.registrations _;
   dropping = λ state key name. stand state.registrations _;
   carrying = λ state key name ops pairs new there is. stand state.registrations _;
-  forgetting = λ state key free. some_left (is_mapped_of key) (λ row. clear_notices state row.number) state.registrations;
+  forgetting = λ state key free. let told = forget_tells (filter (is_mapped_of key) state.registrations) state in record { rows = told.rows; stays = told.stays };
   awaiting = λ state maker key name requests runs. stand state.registrations _;
   answering = λ state number result faulted may. stand state.registrations _;
   noting = λ state worker faulted. stand state.registrations _;
