@@ -34,7 +34,7 @@ both_past x y = is_unfinished x && is_unfinished y && bytes_eq y.job.key x.job.k
 past_plain : (a b key key' scope scope' w w' : Bool) → key ≡ key' → scope ≡ scope' → (a && b && key && scope && w && w') ≡ (b && a && key' && scope' && w' && w)
 past_plain a b key key' scope scope' w w' one other = grind (arith, one, other)
 
-past_weaker : (a b key scope w w' : Bool) → not (a && b && key && scope && w') ≡ true → not (a && b && key && scope && w && w') ≡ true
+past_weaker : (a b key scope w w' : Bool) → not (a && (b && key && scope) && w') ≡ true → not (a && b && key && scope && w && w') ≡ true
 past_weaker a b key scope w w' is = grind (arith, is)
 
 past_symmetric : (x y : JobRow) → both_past x y ≡ both_past y x

@@ -85,11 +85,13 @@ paid_orderly state registration sound orderly = record {
 
 forget_keeps : (state : State) (key : List ℕ) → is_busy state key ≡ false → Coherent state → KeepsOrder state (forget_key state key)
 forget_keeps state key free sound orderly =
-    let same = forgotten_together state key (places_apart (λ (row : Registration). row.number) state.registrations sound.registrations.numbers) in
-    (subst Orderly (sym same) (record {
-      order = forget_ordered state key orderly.order (subst Coherent same (coherent_law.forgetting state key free sound)).registrations;
-      jobs = mapped_forgotten state key free sound orderly.jobs;
-    }), forget_rows state key orderly.order)
+    let same = forgotten_together state key (places_apart (λ (row : Registration). row.number) state.registrations sound.registrations.numbers) in (
+      subst Orderly (sym same) (record {
+        order = forget_ordered state key orderly.order (subst Coherent same (coherent_law.forgetting state key free sound)).registrations;
+        jobs = mapped_forgotten state key free sound orderly.jobs;
+      }),
+      forget_rows state key orderly.order,
+    )
 
 promise_keeps : (state : State) (maker : Who) (awaited : Awaited) → KeepsOrder state (promise state maker awaited)
 unfolding promise

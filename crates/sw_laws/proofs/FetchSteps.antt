@@ -9,7 +9,7 @@ use Rattle.sw_data.specs.declared.rows.JobPhase.TheVariants as job_phase
 use Rattle.sw_data.specs.declared.rows.JobRow.{JobRow}
 use Rattle.sw_rules.specs.Jobs.{next_draw}
 use Rattle.sw_rules.specs.Registering.{fetch_script, may_run}
-use Rattle.sw_rules.specs.Rows.{changed, first_job, is_job, is_mapped_to, is_unfinished, is_waiting, job_row, mapped_registration}
+use Rattle.sw_rules.specs.Rows.{changed, first_job, in_queue, is_job, is_mapped_to, is_unfinished, is_waiting, job_row, mapped_registration}
 use Rattle.sw_rules.specs.State.{State, Registration, Worker}
 use Rattle.sw_laws.specs.Coherent.{Coherent, apart, has_its_worker, has_own_registration, is_early, share_worker}
 use Rattle.sw_laws.proofs.JobMoves.{GoTogether, KeepsJob, jobs-moved, jobs_of_number, there_of_jobs, work-of-jobs}
@@ -17,9 +17,6 @@ use Rattle.sw_laws.proofs.Lists.{all_both, all_changed, all_weaker, apart_change
 use Rattle.sw_laws.proofs.Places.{places_apart}
 
 -- ---- the first job of a queue may go on
-
-abbrev pub in_queue : List ℕ → List ℕ → JobRow → Bool
-in_queue key scope row = is_unfinished row && bytes_eq row.job.key key && bytes_eq row.job.scope scope
 
 abbrev same_number : JobRow → JobRow → Bool
 same_number x y = x.job.number == y.job.number
@@ -42,7 +39,7 @@ queue_joined : (key scope : List ℕ) (x y : JobRow) → is_unfinished x ≡ tru
 queue_joined key scope x y here behind is =
     grind (arith, here, behind, is, bytes_joined y.job.key x.job.key key, bytes_joined y.job.scope x.job.scope scope)
 
-never_all : (a b c d : Bool) → (a ≡ true → (c && d) ≡ true → ⊥) → (a && b && c && d && true) ≡ false
+never_all : (a b c d : Bool) → (a ≡ true → (c && d) ≡ true → ⊥) → (a && (b && c && d) && true) ≡ false
 never_all a b c d never = grind (arith, never)
 
 not_early : (x y : JobRow) (registration drawn : ℕ) → (is_unfinished x ≡ true → (bytes_eq y.job.key x.job.key && bytes_eq y.job.scope x.job.scope) ≡ true → ⊥) → is_early x (record y { phase = job_phase.Fetching; registration = Some registration; fetch = Some drawn }) ≡ false

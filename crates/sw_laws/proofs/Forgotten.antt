@@ -11,7 +11,7 @@ use Rattle.sw_rules.specs.Rows.{changed}
 use Rattle.sw_rules.specs.State.{State, Registration, Worker}
 use Rattle.sw_rules.specs.Told.{followed}
 use Rattle.sw_laws.specs.Coherent.{apart}
-use Rattle.sw_laws.proofs.Lists.{all_of_filter, by_truth}
+use Rattle.sw_laws.proofs.Lists.{all_of_filter, by_truth, map_same}
 
 abbrev pub left : Registration → Registration
 left row = record row { mapped = false }
@@ -29,10 +29,6 @@ together state rows = record state {
   registrations = changed (λ row. is_numbered rows row.number) left state.registrations;
   workers = changed (λ worker. is_numbered rows worker.registration) cleared state.workers;
 }
-
-nothing_changes : {X : Type 0} (f : X → X) (xs : List X) → changed (λ x. false) f xs ≡ xs
-nothing_changes f [] = refl
-nothing_changes f (x ∷ xs) = ap (λ rest. x ∷ rest) (nothing_changes f xs)
 
 clear_twice : (state : WorkerState) → clear_state (clear_state state) ≡ clear_state state
 clear_twice state = grind arith
@@ -54,7 +50,7 @@ workers_then row rows (x ∷ xs) = by_truth (x.registration == row.number)
 
 pub all_forgotten : (state : State) (rows : List Registration) → (forget_registrations state rows).state ≡ together state rows
 unfolding forget_registrations followed unmap clear
-all_forgotten state [] = (λ i. record state { registrations = sym (nothing_changes left state.registrations) i; workers = sym (nothing_changes cleared state.workers) i })
+all_forgotten state [] = (λ i. record state { registrations = sym (map_same state.registrations) i; workers = sym (map_same state.workers) i })
 all_forgotten state (row ∷ rows) =
     all_forgotten (clear (unmap state row.number).state row.number).state rows
     ∙ (λ i. record state { registrations = registrations_then row rows state.registrations i; workers = workers_then row rows state.workers i })

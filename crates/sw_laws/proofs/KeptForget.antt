@@ -6,7 +6,6 @@ use Rattle.std.proofs.lemmas.Bool.Decides.{nat_tests}
 use Rattle.sw_data.specs.Sameness.{same_truth}
 use Rattle.sw_data.specs.declared.storage.KeptRegistration.{KeptRegistration}
 use Rattle.sw_rules.specs.Forgetting.{forget_key, is_mapped_of}
-use Rattle.sw_rules.specs.Registrations.{clear_state}
 use Rattle.sw_rules.specs.State.{State, Registration, Worker}
 use Rattle.sw_laws.specs.Coherent.{SoundRegistrations, apart}
 use Rattle.sw_laws.proofs.Contents.{Slots, contents, contents_moved, is_worked, kept_in, kept_with, slots_in}

@@ -1,5 +1,5 @@
 -- Where a step moves what a key and a scope map to, a notice of it names a registration of theirs.
-use Rattle.std.proofs.Common.{◌≡◌, ◌∙◌, ℕ, Bool, true, false, not, ◌&&◌, ◌||◌, ◌==◌, List, [], ◌∷◌, ◌++◌, map, filter, flat_map, length, Option, Some, None, IfSome, option_map, refl, sym, ap, subst, true≢false, arith, if◌then◌else◌}
+use Rattle.std.proofs.Common.{◌≡◌, ◌∙◌, ℕ, Bool, true, false, not, ◌&&◌, ◌||◌, ◌==◌, List, [], ◌∷◌, ◌++◌, map, filter, length, Option, Some, None, IfSome, option_map, refl, sym, ap, subst, true≢false, arith, if◌then◌else◌}
 use Rattle.std.specs.List.{list_all, list_any}
 use Rattle.std.specs.Prelude.{bytes_eq, find, is_none}
 use Rattle.std.specs.Option.{option_map_or, option_or}
@@ -24,7 +24,7 @@ use Rattle.sw_rules.specs.Installing.{become_waiting, begin_install, discard, en
 use Rattle.sw_rules.specs.Jobs.{finish, promise, schedule, settle}
 use Rattle.sw_rules.specs.Preloading.{set_preload}
 use Rattle.sw_rules.specs.Registering.{fetch_script}
-use Rattle.sw_rules.specs.Registrations.{activate, clear, clear_notices, drop_registration, map_registration, new_registration, set_mode, unload, unmap}
+use Rattle.sw_rules.specs.Registrations.{activate, clear, drop_registration, map_registration, new_registration, set_mode, unload, unmap}
 use Rattle.sw_rules.specs.Rows.{changed, client_row, is_mapped_to, is_registration, newest_worker}
 use Rattle.sw_rules.specs.State.{State, Registration, Worker, Awaited}
 use Rattle.sw_rules.specs.Told.{Told, Outcome, followed, quiet, type_error}
@@ -32,7 +32,8 @@ use Rattle.sw_laws.specs.Coherent.{Coherent}
 use Rattle.sw_laws.specs.Laws.{TellsItsMap, has_key_and_scope, tells_move}
 use Rattle.sw_laws.proofs.CoherentLaw.{step-coherent}
 use Rattle.sw_laws.proofs.Events.{step-law}
-use Rattle.sw_laws.proofs.Lists.{all_members, all_not, all_weaker, any_changed, any_weaker, by_test, by_truth, find_changed, not_true, or_from}
+use Rattle.sw_laws.proofs.Forgotten.{left}
+use Rattle.sw_laws.proofs.Lists.{all_not, all_weaker, any_changed, any_weaker, by_test, by_truth, find_changed, not_true}
 use Rattle.sw_laws.proofs.Places.{found_any, found_numbered, places_apart}
 use Rattle.sw_laws.proofs.Split.{IsLaw, IsRecheckLaw, unload-law}
 
@@ -114,9 +115,6 @@ some_plain test g as_before rows notices =
     plain (λ row. if test row then g row else row) (λ x. by_test (IsAsBefore x) (test x) _ x (λ here. as_before x) (λ other. record { number = refl; key = refl; scope = refl; mapped = refl })) rows notices
 
 -- ---- rows that leave the map
-
-abbrev left : Registration → Registration
-left row = record row { mapped = false }
 
 left_rows : (test : Registration → Bool) (rows : List Registration) (key scope : List ℕ) (number : ℕ) → has_them key scope rows number ≡ true → has_them key scope (changed test left rows) number ≡ true
 left_rows test rows key scope number is =

@@ -13,10 +13,10 @@ use Rattle.sw_data.specs.declared.rows.JobPhase.TheVariants as job_phase
 use Rattle.sw_rules.specs.Forgetting.{is_busy, is_mapped_of, is_worker_of_key}
 use Rattle.sw_rules.specs.Jobs.{new_job_row}
 use Rattle.sw_rules.specs.Registering.{may_run}
-use Rattle.sw_rules.specs.Rows.{changed, first_job, is_job, is_mapped_to, is_number, is_registration, is_unfinished, is_waiting, job_row, mapped_registration}
+use Rattle.sw_rules.specs.Rows.{changed, first_job, in_queue, is_job, is_mapped_to, is_number, is_registration, is_unfinished, is_waiting, job_row, mapped_registration}
 use Rattle.sw_rules.specs.State.{State, Registration}
 use Rattle.sw_laws.specs.Coherent.{Coherent, apart, has_own_registration, is_early}
-use Rattle.sw_laws.proofs.FetchSteps.{bytes_joined, first_is, in_queue}
+use Rattle.sw_laws.proofs.FetchSteps.{bytes_joined, first_is}
 use Rattle.sw_laws.proofs.JobMoves.{jobs_of_number}
 use Rattle.sw_laws.proofs.KeptRechecks.{has_mapped, is_underway}
 use Rattle.sw_laws.proofs.Lists.{all_both, all_changed, all_not, all_weaker, any_changed, any_weaker, by_test, by_truth, bytes_eq_equal, bytes_eq_same, bytes_eq_symmetric, find_any, find_passes, found_by, or_from, where_there}

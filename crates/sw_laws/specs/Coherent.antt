@@ -9,7 +9,7 @@ use Rattle.sw_data.specs.declared.rows.JobRow.{JobRow}
 use Rattle.sw_data.specs.declared.storage.KeptCache.{KeptCache}
 use Rattle.sw_data.specs.declared.workers.WorkerState.{WorkerState}
 use Rattle.sw_data.specs.declared.workers.WorkerState.TheVariants as worker_state
-use Rattle.sw_rules.specs.Rows.{has_worker, is_in_phase, is_activated, is_activating, is_active, is_evaluating, is_install, is_installing, is_job, is_number, is_unfinished, is_waiting, maker_worker}
+use Rattle.sw_rules.specs.Rows.{has_worker, in_queue, is_in_phase, is_activated, is_activating, is_active, is_evaluating, is_install, is_installing, is_job, is_number, is_unfinished, is_waiting, maker_worker}
 use Rattle.sw_rules.specs.State.{State, Registration, Worker, Awaited, AddAll, FetchEvent, value, of_job, of_task}
 use Rattle.sw_rules.specs.Storage.{is_cache}
 
@@ -79,8 +79,7 @@ pub record SoundWorkers (registrations : List Registration) (rows : List Worker)
 -- a later job of the same queue is past waiting
 abbrev pub is_early : JobRow → JobRow → Bool
 is_early first later =
-    is_unfinished first && is_unfinished later && bytes_eq later.job.key first.job.key
-    && bytes_eq later.job.scope first.job.scope && not (is_waiting later.phase)
+    is_unfinished first && in_queue first.job.key first.job.scope later && not (is_waiting later.phase)
 
 -- in these phases a job's promise has settled
 abbrev pub is_settled_phase : JobPhase → Bool
