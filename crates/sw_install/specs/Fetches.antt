@@ -1,6 +1,5 @@
 -- What the fetch of a job's script comes to, and the row of the worker that is made from it (own).
-use Rattle.std.specs.Prelude.{◌≡◌, ℕ, true, Option, Some, None, IfSome, option_map, if◌then◌else◌}
-use Rattle.sw_data.specs.declared.answers.Cause.TheVariants as cause
+use Rattle.std.specs.Prelude.{◌≡◌, ℕ, true, Option, Some, None, IfSome, option_map, Ok, Err, if◌then◌else◌}
 use Rattle.sw_data.specs.declared.recordings.Fetched.{Fetched}
 use Rattle.sw_data.specs.declared.recordings.FetchLine.{FetchLine}
 use Rattle.sw_data.specs.declared.rows.JobRow.{JobRow}
@@ -9,22 +8,20 @@ use Rattle.sw_data.specs.declared.workers.WorkerState.TheVariants as worker_stat
 use Rattle.sw_install.specs.declared.calls.FetchOutcome.{FetchOutcome}
 use Rattle.sw_install.specs.declared.calls.FetchOutcome.TheVariants as outcome
 use Rattle.sw_reg.specs.Table as registrations
-use Rattle.sw_rules.specs.Installing.{fetched_of, is_same_script, job_in, made_worker, script_fault}
+use Rattle.sw_rules.specs.Installing.{fetched_of, is_same_script, job_in, made_worker, script_of}
 use Rattle.sw_rules.specs.Rows.{is_in_phase, is_fetching}
 use Rattle.sw_rules.specs.State.{State}
-use Rattle.sw_rules.specs.Told.{type_error}
 use Rattle.sw_tables.specs.Lent.{shown_worker}
 use Rattle.sw_worker.specs.Fits.{FitsWorker}
 use Rattle.sw_worker.specs.Table as workers
 
--- what a fetch comes to: a network error first, then a fault of the response, then the script of the newest worker
+-- what a fetch comes to: the first fault of its script, or else whether the newest worker has that script
 abbrev pub fetch_outcome : State → JobRow → ℕ → Option Fetched → FetchOutcome
-fetch_outcome state row registration None = outcome.Rejected (type_error cause.Network)
-fetch_outcome state row registration (Some fetched) =
-    elim (script_fault row.job fetched) [
-      | Some why ↦ outcome.Rejected why
-      | None ↦
-          if is_same_script state row.job registration fetched.response.body then outcome.Unchanged
+fetch_outcome state row registration given =
+    elim (script_of row.job given) [
+      | Err why ↦ outcome.Rejected why
+      | Ok script ↦
+          if is_same_script state row.job registration script.response.body then outcome.Unchanged
           else outcome.Changed
     ]
 
