@@ -14,7 +14,8 @@ use Rattle.sw_data.specs.declared.exchange.Op.TheVariants as op
 use Rattle.sw_data.specs.declared.exchange.Request.{Request}
 use Rattle.sw_data.specs.declared.recordings.Fetched.{Fetched}
 use Rattle.sw_data.specs.declared.recordings.FetchLine.{FetchLine}
-use Rattle.sw_rules.specs.Caching.{response_fault, put_of_response, puts_of, responses_fault}
+use Rattle.sw_rules.specs.Caching as rules
+use Rattle.sw_rules.specs.Caching.{put_of_response, puts_of, responses_fault}
 use Rattle.sw_rules.specs.Installing.{fetched_of, is_ok_status}
 use Rattle.sw_rules.specs.Matching.{varies_on_all}
 
@@ -33,7 +34,7 @@ none_zipped [] = refl
 none_zipped (x ∷ xs) = refl
 
 -- what the definition tests is what is tested at a place
-fault_of : (lines : List (Option FetchLine)) (place : ℕ) (line : Option FetchLine) → slice_get lines place ≡ Some line → fault_at lines place ≡ response_fault line
+fault_of : (lines : List (Option FetchLine)) (place : ℕ) (line : Option FetchLine) → slice_get lines place ≡ Some line → fault_at lines place ≡ rules.response_fault line
 fault_of lines place line is = ap (λ found. fault (option_and_then fetched_of found)) is ∙ by (fetched_of line)
   where
     fault : Option Fetched → Option Cause
@@ -55,8 +56,8 @@ put_of : (request : Request) (lines : List (Option FetchLine)) (place : ℕ) (li
 put_of request lines place line is = ap (λ found. option_map (λ fetched. op.Put request fetched.response) (option_and_then fetched_of found)) is
 
 fault_before : (place : ℕ) (request : Request) (requests : List Request) (line : Option FetchLine) (lines : List (Option FetchLine))
-    → responses_fault place (request ∷ requests) (line ∷ lines) ≡ or_later place (response_fault line) (responses_fault (place + 1) requests lines)
-fault_before place request requests line lines = by (response_fault line)
+    → responses_fault place (request ∷ requests) (line ∷ lines) ≡ or_later place (rules.response_fault line) (responses_fault (place + 1) requests lines)
+fault_before place request requests line lines = by (rules.response_fault line)
   where
     by : (bad : Option Cause) → (elim bad [ Some why ↦ Some (fault.TypeError why (Some place)) | None ↦ responses_fault (place + 1) requests lines ])
         ≡ or_later place bad (responses_fault (place + 1) requests lines)
@@ -86,7 +87,7 @@ module _ (requests : List Request) (lines : List (Option FetchLine)) (place : �
     | inl line ↦
         (λ i. responses_fault place (here i) (drop_more lines place line.0 line.1 i))
         ∙ (fault_before place request (drop (place + 1) requests) (get_or lines place line.0) (drop (place + 1) lines)
-        ∙ (λ i. or_later place (response_fault (line.3 i)) later)
+        ∙ (λ i. or_later place (rules.response_fault (line.3 i)) later)
         ∙ ap (λ bad. or_later place bad later) (sym (fault_of lines place line.0 line.2)))
     | inr past ↦
         (λ i. responses_fault place (here i) (drop_all place lines past.0 i))

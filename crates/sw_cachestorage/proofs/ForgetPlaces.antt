@@ -7,14 +7,13 @@ use Rattle.std.proofs.lemmas.List.{append-nil, append_assoc, drop_all, drop_more
 use Rattle.std.proofs.lemmas.Option.{get_or_from_slice_get, slice_get-map, slice_get_cases, slice_get_within}
 use Rattle.sw_client.specs.Table as clients
 use Rattle.sw_cachestorage.proofs.Busy.{places_shown}
-use Rattle.sw_cachestorage.proofs.Forgotten.{forgotten_notices, forgotten_state}
 use Rattle.sw_cachestorage.proofs.Scans.{past_stay}
-use Rattle.sw_cachestorage.specs.Forgetting.{forget_place, forget_row, forget_rows, is_mapped_row, mapped_at, mapped_of, room_of}
+use Rattle.sw_cachestorage.specs.Forgetting.{forget_place, forget_row, is_mapped_row, mapped_at, mapped_of, room_of}
 use Rattle.sw_data.specs.declared.answers.Notice.{Notice}
 use Rattle.sw_data.specs.declared.rows.RegistrationRow.{RegistrationRow}
 use Rattle.sw_data.specs.declared.storage.KeptCache.{KeptCache}
 use Rattle.sw_reg.specs.Table as registrations
-use Rattle.sw_rules.specs.Forgetting.{forget_key, is_mapped_of}
+use Rattle.sw_rules.specs.Forgetting.{forget_key, forget_registrations, is_mapped_of}
 use Rattle.sw_rules.specs.Noticing.{Did, NoticeList}
 use Rattle.sw_rules.specs.Registrations.{clear, unmap}
 use Rattle.sw_rules.specs.Rows.{changed, is_registration}
@@ -76,37 +75,65 @@ front xs place x is = drop_more xs place x (slice_get_within xs place x is) ∙ 
 
 -- ---- one place after another
 
+-- the mapped registrations of a key among these are forgotten
+abbrev pub forget_of : List ℕ → State → List Registration → Told
+forget_of key state rows = forget_registrations state (filter (is_mapped_of key) rows)
+
 -- own: the registrations are forgotten up to this place
 pub record IsLeft (key : List ℕ) (old : State) (before : NoticeList) (new : State) (after : NoticeList) (place : ℕ) : Type 0 where
-  pub state : (forget_rows key old old.registrations).state ≡ (forget_rows key new (drop place new.registrations)).state
-  pub notices : before.rows ++ (forget_rows key old old.registrations).notices ≡ after.rows ++ (forget_rows key new (drop place new.registrations)).notices
+  pub state : (forget_of key old old.registrations).state ≡ (forget_of key new (drop place new.registrations)).state
+  pub notices : before.rows ++ (forget_of key old old.registrations).notices ≡ after.rows ++ (forget_of key new (drop place new.registrations)).notices
+
+module _ (key : List ℕ) (from : State) (row : Registration) (rows : List Registration) where
+  first_state : (forget_of key from (row ∷ rows)).state ≡ (forget_of key (forget_row key from row).state rows).state
+  unfolding forget_registrations forget_row followed
+  first_state = by (is_mapped_of key row) refl
+    where
+      by : (b : Bool) → is_mapped_of key row ≡ b → (forget_of key from (row ∷ rows)).state ≡ (forget_of key (forget_row key from row).state rows).state
+      by true is = rw is refl
+      by false is = rw is refl
+
+  first_notices : (forget_of key from (row ∷ rows)).notices ≡ (forget_row key from row).notices ++ (forget_of key (forget_row key from row).state rows).notices
+  unfolding forget_registrations forget_row unmap clear followed
+  first_notices = by (is_mapped_of key row) refl
+    where
+      by : (b : Bool) → is_mapped_of key row ≡ b → (forget_of key from (row ∷ rows)).notices ≡ (forget_row key from row).notices ++ (forget_of key (forget_row key from row).state rows).notices
+      by true is = rw is refl
+      by false is = rw is refl
 
 module _ (key : List ℕ) (place : ℕ) (from to : State) (before after : NoticeList) (row : Registration) (are : ArePlaces (λ (r : Registration). r.number) from.registrations)
     (here : slice_get from.registrations place ≡ Some row) (did : Did (forget_place key from place) before after to) where
   told : forget_place key from place ≡ forget_row key from row
   told = ap (λ o. option_map_or (forget_row key from) o (quiet from)) here
 
+  becomes : (forget_row key from row).state ≡ to
+  becomes = sym (did.state ∙ ap (λ (t : Told). t.state) told)
+
   pub others_stay : drop (place + 1) to.registrations ≡ drop (place + 1) from.registrations
   unfolding forget_row unmap clear followed
-  others_stay = ap (λ (s : State). drop (place + 1) s.registrations) (did.state ∙ ap (λ (t : Told). t.state) told) ∙ by (is_mapped_of key row) refl
+  others_stay = ap (λ (s : State). drop (place + 1) s.registrations) (sym becomes) ∙ by (is_mapped_of key row) refl
     where
       by : (b : Bool) → is_mapped_of key row ≡ b → drop (place + 1) (forget_row key from row).state.registrations ≡ drop (place + 1) from.registrations
       by true is = rw is (behind place from.registrations row are here)
       by false is = rw is refl
 
-  state_step : (forget_rows key from (drop place from.registrations)).state ≡ (forget_rows key to (drop (place + 1) to.registrations)).state
-  unfolding followed
-  state_step =
-      ap (λ rows. (forget_rows key from rows).state) (front from.registrations place row here)
-      ∙ (λ i. (forget_rows key (sym (did.state ∙ ap (λ (t : Told). t.state) told) i) (sym others_stay i)).state)
+  abbrev left : List Registration
+  left = drop (place + 1) from.registrations
 
-  notices_step : before.rows ++ (forget_rows key from (drop place from.registrations)).notices ≡ after.rows ++ (forget_rows key to (drop (place + 1) to.registrations)).notices
-  unfolding followed
+  then_forgotten : forget_of key (forget_row key from row).state left ≡ forget_of key to (drop (place + 1) to.registrations)
+  then_forgotten = (λ i. forget_of key (becomes i) (sym others_stay i))
+
+  state_step : (forget_of key from (drop place from.registrations)).state ≡ (forget_of key to (drop (place + 1) to.registrations)).state
+  state_step =
+      ap (λ rows. (forget_of key from rows).state) (front from.registrations place row here)
+      ∙ (first_state key from row left ∙ ap (λ (t : Told). t.state) then_forgotten)
+
+  notices_step : before.rows ++ (forget_of key from (drop place from.registrations)).notices ≡ after.rows ++ (forget_of key to (drop (place + 1) to.registrations)).notices
   notices_step =
-      ap (λ rows. before.rows ++ (forget_rows key from rows).notices) (front from.registrations place row here)
-      ∙ (λ i. before.rows ++ ((forget_row key from row).notices ++ (forget_rows key (sym (did.state ∙ ap (λ (t : Told). t.state) told) i) (sym others_stay i)).notices))
-      ∙ sym (append_assoc before.rows (forget_row key from row).notices (forget_rows key to (drop (place + 1) to.registrations)).notices)
-      ∙ ap (λ (rows : List Notice). rows ++ (forget_rows key to (drop (place + 1) to.registrations)).notices) (sym (did.notices ∙ ap (λ (t : Told). before.rows ++ t.notices) told))
+      ap (λ rows. before.rows ++ (forget_of key from rows).notices) (front from.registrations place row here)
+      ∙ (ap (λ (notices : List Notice). before.rows ++ notices) (first_notices key from row left ∙ ap (λ (t : Told). (forget_row key from row).notices ++ t.notices) then_forgotten)
+      ∙ (sym (append_assoc before.rows (forget_row key from row).notices (forget_of key to (drop (place + 1) to.registrations)).notices)
+      ∙ ap (λ (rows : List Notice). rows ++ (forget_of key to (drop (place + 1) to.registrations)).notices) (sym (did.notices ∙ ap (λ (t : Told). before.rows ++ t.notices) told))))
 
   pub next_left : (old : State) (first : NoticeList) → IsLeft key old first from before place → IsLeft key old first to after (place + 1)
   next_left old first left = record { state = left.state ∙ state_step; notices = left.notices ∙ notices_step }
@@ -202,17 +229,14 @@ module _ (key : List ℕ) (place : ℕ) (scopes after : Scopes) (old new : worke
 -- ---- at the end
 
 -- all places are done, and the caches of the key are removed
-pub all_left : (key : List ℕ) (old new : State) (first last : NoticeList) (place : ℕ) (caches : List KeptCache) → ArePlaces (λ (r : Registration). r.number) old.registrations
-    → IsLeft key old first new last place → length new.registrations ≤ place → caches ≡ filter (λ row. not (bytes_eq row.key key)) old.caches
+pub all_left : (key : List ℕ) (old new : State) (first last : NoticeList) (place : ℕ) (caches : List KeptCache)
+    → IsLeft key old first new last place → length new.registrations ≤ place → caches ≡ filter (λ row. not (bytes_eq row.key key)) new.caches
     → Did (forget_key old key) first last (record new { caches = caches })
-all_left key old new first last place caches are left far removed =
+unfolding forget_key forget_registrations
+all_left key old new first last place caches left far removed =
     let none = drop_all place new.registrations far in
+    let done : (forget_of key old old.registrations).state ≡ new = left.state ∙ ap (λ rows. (forget_of key new rows).state) none in
     record {
-      state =
-          sym (forgotten_state key old are
-          ∙ (λ i. record ((left.state ∙ ap (λ rows. (forget_rows key new rows).state) none) i) { caches = sym removed i }));
-      notices =
-          sym (append-nil last.rows)
-          ∙ (sym (left.notices ∙ ap (λ rows. last.rows ++ (forget_rows key new rows).notices) none)
-          ∙ ap (λ told. first.rows ++ told) (sym (forgotten_notices key old are)));
+      state = sym (ap (λ (s : State). record s { caches = filter (λ row. not (bytes_eq row.key key)) s.caches }) done ∙ (λ i. record new { caches = sym removed i }));
+      notices = sym (append-nil last.rows) ∙ sym (left.notices ∙ ap (λ rows. last.rows ++ (forget_of key new rows).notices) none);
     }

@@ -3,9 +3,9 @@ pub mod AddingLemmas
 pub mod BatchLemmas
 pub mod FetchedLemmas
 pub mod ForgetPlaces
-pub mod Forgotten
 pub mod KeyedLemmas
 pub mod LookupLemmas
+pub mod OpsLemmas
 pub mod ParsedLemmas
 pub mod PlaceLemmas
 pub mod Busy

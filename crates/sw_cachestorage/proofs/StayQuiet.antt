@@ -7,7 +7,6 @@ use Rattle.std.proofs.lemmas.Bool.{and_parts}
 use Rattle.std.proofs.lemmas.Bool.Decides.{nat_tests}
 use Rattle.sw_client.specs.Table as clients
 use Rattle.sw_cachestorage.proofs.ForgetPlaces.{one_told}
-use Rattle.sw_cachestorage.proofs.Forgotten.{one_gone}
 use Rattle.sw_cachestorage.proofs.Quiet.{quiet_one}
 use Rattle.sw_cachestorage.specs.Forgetting.{AreQuiet, is_mapped_row, mapped_at}
 use Rattle.sw_data.specs.declared.rows.RegistrationRow.{RegistrationRow}
@@ -15,8 +14,8 @@ use Rattle.sw_data.specs.declared.workers.Slot.{Slot}
 use Rattle.sw_data.specs.declared.workers.Slot.TheVariants as place
 use Rattle.sw_reg.specs.Table as registrations
 use Rattle.sw_reg.specs.Table.{has_registration, is_there, registration_at, slot_of}
-use Rattle.sw_rules.specs.Registrations.{clear, clear_state, unmap}
-use Rattle.sw_rules.specs.Rows.{has_pending, has_pending_worker, is_number, is_registration}
+use Rattle.sw_rules.specs.Registrations.{clear, clear_state, shift, unmap}
+use Rattle.sw_rules.specs.Rows.{changed, has_pending, has_pending_worker, is_number, is_registration}
 use Rattle.sw_rules.specs.State.{State, Registration, Worker}
 use Rattle.sw_rules.specs.Told.{followed}
 use Rattle.sw_scope.specs.Scopes.{Scopes, maps}
@@ -69,7 +68,14 @@ mapped_there key scopes rows place number are is = by (slice_get rows place) ref
 
 -- ---- what is pending stays
 
-pub gone : (state : State) (number : ℕ) → (one_told state number).state ≡ one_gone state number
+-- a registration that left the map and was cleared
+abbrev one_gone : State → ℕ → State
+one_gone state number = record state {
+  registrations = changed (is_registration number) (λ row. record row { mapped = false }) state.registrations;
+  workers = shift number clear_state state.workers;
+}
+
+gone : (state : State) (number : ℕ) → (one_told state number).state ≡ one_gone state number
 unfolding followed unmap clear
 gone state number = refl
 

@@ -1,5 +1,5 @@
 -- What forgetting a key asks of the tables, and what it does to them.
-use Rattle.std.specs.Prelude.{◌≡◌, ℕ, Bool, true, ◌&&◌, List, [], ◌∷◌, filter, bytes_eq, slice_get, Option, Some, None, option_and_then, if◌then◌else◌}
+use Rattle.std.specs.Prelude.{◌≡◌, ℕ, Bool, true, ◌&&◌, List, filter, bytes_eq, slice_get, Option, Some, None, option_and_then, if◌then◌else◌}
 use Rattle.std.specs.Option.{option_map_or}
 use Rattle.sw_data.specs.declared.rows.RegistrationRow.{RegistrationRow}
 use Rattle.sw_data.specs.declared.storage.KeptCache.{KeptCache}
@@ -46,11 +46,6 @@ with_caches caches rest = record rest { caches = caches }
 unfoldable pub forget_row : List ℕ → State → Registration → Told
 forget_row key state row =
     if is_mapped_of key row then followed (unmap state row.number) (λ left. clear left row.number) else quiet state
-
--- own: the same with each of these registrations, one after another
-abbrev pub forget_rows : List ℕ → State → List Registration → Told
-forget_rows key state [] = quiet state
-forget_rows key state (row ∷ rest) = followed (forget_row key state row) (λ forgot. forget_rows key forgot rest)
 
 -- own: the registration at a place leaves the map and is cleared, where it is a mapped one of the key
 abbrev pub forget_place : List ℕ → State → ℕ → Told

@@ -6,7 +6,7 @@ ghost use Rattle.std.specs.Option.{option_map_or};
 ghost use Rattle.sw_client.specs.Table as clients_table;
 ghost use Rattle.sw_client.specs.Table.{clients_of};
 ghost use Rattle.sw_cachestorage.specs.Forgetting.{AreQuiet, forget_place, is_mapped_row, mapped_at, mapped_of, room_of, with_caches};
-ghost use Rattle.sw_rules.specs.Caching as rules;
+ghost use Rattle.sw_rules.specs.Forgetting as rules;
 ghost use Rattle.sw_rules.specs.Noticing.{Did};
 ghost use Rattle.sw_rules.specs.Rows as rows;
 ghost use Rattle.sw_rules.specs.Rows.{has_pending_worker};

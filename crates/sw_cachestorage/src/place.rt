@@ -10,7 +10,6 @@ use sw_url::{PageFault, page_key};
 
 /// The storage key of a page, or why it has none: its address doesn't parse, isn't http or https,
 /// or isn't trustworthy.
-#[tactic(auto, using(crate::proofs::PlaceLemmas::same_key))]
 pub fn place_key(alloc: Global, place: &Place) -> Result<Result<Text, Fault>, NoMemory>
     ensures { IfOk result (λ key. key ≡ place_key place.now) }
 {

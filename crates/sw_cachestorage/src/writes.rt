@@ -1,6 +1,7 @@
 //! Writes to a cache (Service Workers, Cache, "put()", "delete()"; Appendix A, "Batch Cache Operations").
 
 ghost use Rattle.std.specs.Prelude.{◌≡◌, ◌≢◌, ◌∷◌, [], IfOk};
+ghost use Rattle.std.specs.Result.{result_map_both};
 ghost use Rattle.sw_data.specs.declared.answers.Answer.TheVariants as answer;
 ghost use Rattle.sw_rules.specs.Caching as rules;
 ghost use Rattle.sw_rules.specs.Caching.{run_batch, unparsed_fault, with_cache_pairs};
@@ -175,19 +176,20 @@ fn parsed_op(alloc: Global, base: &Text, op: &Op) -> Result<Option<Op>, NoMemory
     }
 }
 
-// The operations before the first whose address doesn't parse, and whether all parse.
-fn parsed_ops(alloc: Global, base: &Text, ops: &[Op]) -> Result<(Vec<Op>, bool), NoMemory>
+// The operations with their addresses parsed, or those before the first whose address doesn't parse.
+fn parsed_ops(alloc: Global, base: &Text, ops: &[Op]) -> Result<Result<Vec<Op>, Vec<Op>>, NoMemory>
     ensures { IfOk result (λ parsed.
-        (parsed.0.items, parsed.1) ≡ rules.parsed_ops base.now ops.now) }
+        result_map_both (λ all. all.items) (λ before. before.items) parsed
+        ≡ rules.parsed_ops base.now ops.now) }
 {
     let mut parsed = Vec::new(alloc);
     for op in ops {
         match parsed_op(alloc, base, op)? {
             Some(op) => parsed.push(op)?,
-            None => return Ok((parsed, false)),
+            None => return Ok(Err(parsed)),
         }
     }
-    Ok((parsed, true))
+    Ok(Ok(parsed))
 }
 
 // What the operations of a batch throw, the quota aside.
@@ -246,10 +248,8 @@ pub fn batch_ops(
     if !caches.has(key, &asked.name) {
         return Ok(refused(alloc, Fault::CacheGone));
     }
-    let (ops, all) = parsed_ops(alloc, base, asked.operations.as_slice())?;
-    if all {
-        batch(alloc, caches, key, &asked.name, ops, None, false)
-    } else {
-        unparsed_batch(alloc, caches, key, &asked.name, ops)
+    match parsed_ops(alloc, base, asked.operations.as_slice())? {
+        Ok(ops) => batch(alloc, caches, key, &asked.name, ops, None, false),
+        Err(before) => unparsed_batch(alloc, caches, key, &asked.name, before),
     }
 }

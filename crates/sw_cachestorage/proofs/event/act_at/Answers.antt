@@ -19,3 +19,8 @@ pub returns-in-Keys-clause-step : goal.returns-in-Keys-clause-step
 returns-in-Keys-clause-step c =
     subst (λ event. IfOk c.query_cache-in-Keys.result (λ step. IfSome (cache_action event) (λ action. IsStep c.args.caches.now.rows (λ state. action.act state c.args.key.now) step))) (sym c.in-Keys.is)
     c.query_cache-in-Keys.ensures.step
+
+pub returns-in-Batch-clause-step : goal.returns-in-Batch-clause-step
+returns-in-Batch-clause-step c =
+    subst (λ event. IfOk c.batch_ops.result (λ step. IfSome (cache_action event) (λ action. IsStep c.args.caches.now.rows (λ state. action.act state c.args.key.now) step))) (sym c.in-Batch.is)
+    c.batch_ops.ensures.step

@@ -1,7 +1,7 @@
 -- One place after another is forgotten, and at the end the caches.
 use Rattle.std.proofs.Common.{◌∙◌, ◌<◌, ◌≤◌, ◌*◌, length, refl, arith}
 use Rattle.std.proofs.lemmas.List.{length-map}
-use Rattle.sw_cachestorage.proofs.ForgetPlaces.{all_left, goes_on, left_of, mapped_shown, room_here, room_left, rows_shown, same_length}
+use Rattle.sw_cachestorage.proofs.ForgetPlaces.{all_left, goes_on, left_of, mapped_shown, room_here, room_left, same_length}
 use Rattle.sw_cachestorage.proofs.Quiet.{no_rest}
 use Rattle.sw_cachestorage.specs.Forgetting.{with_caches}
 use Rattle.sw_tables.specs.Lent.{lent, shown_registration}
@@ -47,5 +47,4 @@ returns-clause-did c = λ rest.
     let many = length-map c.loop-place.registrations.rows (shown_registration c.loop-place.map rest_before) in
     all_left c.args.key.now (lent c.args.map.now c.args.workers.now c.args.registrations.now c.args.clients.now rest_before)
     (lent c.loop-place.map c.loop-place.workers c.loop-place.registrations c.args.clients.now rest_before) c.args.notices.now c.loop-place.notices c.loop-place.place c.drop_key.new.self.rows
-    (rows_shown c.args.map.now rest_before c.args.registrations.now.rows c.requires.linked.slots.registration_places)
     (inv.0 rest_before) (omega (arith, many, same, c.loop-place-test.false, c.len-place-end.ensures)) c.drop_key.ensures
