@@ -1,7 +1,7 @@
 -- What the host's events that were worked out mean and need.
 use Rattle.std.proofs.Common.{◌≡◌, ◌∙◌, ℕ, ◌<◌, true, false, List, [], length, Option, Some, None, option_map, find, refl, sym, ap, subst, arith}
 use Rattle.std.proofs.lemmas.List.{length-map}
-use Rattle.std.specs.Prelude.{IfSome}
+use Rattle.std.specs.Prelude.{Ok, Err, IfSome}
 use Rattle.std.specs.Option.{option_map_or}
 use Rattle.sw_activate.specs.Answers.{unregister_refusal}
 use Rattle.sw_client.specs.Table as clients
@@ -25,7 +25,7 @@ use Rattle.sw_ledgers.specs.Drawn.{FitsDraw}
 use Rattle.sw_ledgers.specs.Preloaded as preloads
 use Rattle.sw_ledgers.specs.Preloaded.{PreloadRow}
 use Rattle.sw_reg.specs.Table as registrations
-use Rattle.sw_rules.specs.Installing.{fetched, fetched_of, is_same_script, job_in, made_worker, script_fault}
+use Rattle.sw_rules.specs.Installing.{fetched, fetched_of, is_same_script, job_in, made_worker, script_of}
 use Rattle.sw_rules.specs.Jobs.{next_draw}
 use Rattle.sw_rules.specs.Registering.{run}
 use Rattle.sw_rules.specs.Rows.{is_in_phase, is_fetching, is_job}
@@ -153,15 +153,20 @@ module _ (job : ℕ) (line : Option FetchLine) where
       by None ends = tt
       by (Some comes) ends = (line, ends, comes_to given rows.worker (state_of host) row registration found of is)
 
--- a response that is allowed, with the script of the newest worker
-pub script_kept : (state : State) (row : JobRow) (registration : ℕ) (new : Fetched) → script_fault row.job new ≡ None
-    → is_same_script state row.job registration new.response.body ≡ true → outcome.Unchanged ≡ fetch_outcome state row registration (Some new)
-script_kept state row registration new none same = grind (arith, none, same)
+-- a script without a fault, which is that of the newest worker
+pub script_kept : (state : State) (row : JobRow) (registration : ℕ) (script : Fetched) → script_of row.job (Some script) ≡ Ok script
+    → is_same_script state row.job registration script.response.body ≡ true → outcome.Unchanged ≡ fetch_outcome state row registration (Some script)
+script_kept state row registration script is same = grind (arith, is, same)
 
--- and one with another
-pub script_changed : (state : State) (row : JobRow) (registration : ℕ) (new : Fetched) → script_fault row.job new ≡ None
-    → is_same_script state row.job registration new.response.body ≡ false → outcome.Changed ≡ fetch_outcome state row registration (Some new)
-script_changed state row registration new none other = grind (arith, none, other)
+-- and one that is another
+pub script_changed : (state : State) (row : JobRow) (registration : ℕ) (script : Fetched) → script_of row.job (Some script) ≡ Ok script
+    → is_same_script state row.job registration script.response.body ≡ false → outcome.Changed ≡ fetch_outcome state row registration (Some script)
+script_changed state row registration script is other = grind (arith, is, other)
+
+-- a fetch that is at fault is rejected
+pub script_rejected : (state : State) (row : JobRow) (registration : ℕ) (given : Option Fetched) (why : Fault) → script_of row.job given ≡ Err why
+    → outcome.Rejected why ≡ fetch_outcome state row registration given
+script_rejected state row registration given why is = grind (arith, is)
 
 -- the worker that is made of what was fetched
 pub made_shown : (scopes : Scopes) (of_workers : workers.Table) (of_registrations : registrations.Table) (of_clients : clients.Table) (rest : Rest)

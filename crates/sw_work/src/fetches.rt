@@ -1,9 +1,10 @@
 //! The end of the fetch of a job's script, worked out.
 
-ghost use Rattle.std.specs.Prelude.{◌≡◌, ◌&&◌, Some, true, bytes_eq, codes, length, option_copied, IfOk};
+ghost use Rattle.std.specs.Prelude.{◌≡◌, ◌&&◌, Some, Ok, true, bytes_eq, codes, length, option_copied, IfOk};
+ghost use Rattle.std.specs.Result.{result_map_both};
 ghost use Rattle.sw_client.specs.Table as clients;
 ghost use Rattle.sw_data.specs.Headers.{first_value};
-ghost use Rattle.sw_install.specs.Fetches.{HasNewWorker, IsOutcome, fetch_outcome};
+ghost use Rattle.sw_install.specs.Fetches.{HasNewWorker, IsOutcome};
 ghost use Rattle.sw_install.specs.declared.calls.FetchOutcome.TheVariants as outcome;
 ghost use Rattle.sw_reg.specs.Table.{is_there};
 ghost use Rattle.sw_rules.specs.Installing as rules;
@@ -56,24 +57,35 @@ fn is_ok_status(status: u16) -> bool
     200 <= status && status <= 299
 }
 
-// The first fault of a response to a job's script.
-fn script_fault(alloc: Global, job: &Job, fetched: &Fetched) -> Result<Option<Fault>, NoMemory>
-    ensures { IfOk result (λ why. why ≡ rules.script_fault job.now fetched.now) }
+// The script that a fetch gave, or its first fault.
+fn script_of<'a>(
+    alloc: Global,
+    job: &Job,
+    fetched: Option<&'a Fetched>,
+) -> Result<Result<&'a Fetched, Fault>, NoMemory>
+    ensures { IfOk result (λ script. result_map_both (λ given. given.now) (λ why. why) script
+        ≡ rules.script_of job.now (option_copied fetched.entry)) }
 {
+    let Some(fetched) = fetched else {
+        return Ok(Err(Fault::TypeError {
+            cause: Cause::Network,
+            index: None,
+        }));
+    };
     let headers = fetched.response.headers.as_slice();
     if !is_javascript(headers) {
-        return Ok(Some(Fault::SecurityError(SecurityCause::Mime)));
+        return Ok(Err(Fault::SecurityError(SecurityCause::Mime)));
     }
     if !is_scope_allowed(alloc, job, headers)? {
-        return Ok(Some(Fault::SecurityError(SecurityCause::Scope)));
+        return Ok(Err(Fault::SecurityError(SecurityCause::Scope)));
     }
     if !is_ok_status(fetched.response.status) {
-        return Ok(Some(Fault::TypeError {
+        return Ok(Err(Fault::TypeError {
             cause: Cause::Status,
             index: None,
         }));
     }
-    Ok(None)
+    Ok(Ok(fetched))
 }
 
 // Whether a worker has the script and the type of a job, and this body.
@@ -101,31 +113,6 @@ fn is_same_script(
     match newest_row(registration, workers, registrations) {
         Some(newest) => is_made_of(newest, job, body),
         None => false,
-    }
-}
-
-// What the fetch of a job's script comes to, which gave this.
-fn outcome_of(
-    alloc: Global,
-    row: &JobRow,
-    registration: u32,
-    fetched: &Fetched,
-    workers: &Workers,
-    registrations: &Registrations,
-) -> Result<FetchOutcome, NoMemory>
-    requires { HasSlots workers.now registrations.now }
-    ensures { IfOk result (λ given. (scopes : Scopes) (of_clients : clients.Table) (rest : Rest)
-        → given ≡ fetch_outcome (lent scopes workers.now registrations.now of_clients rest)
-        row.now registration (Some fetched.now)) }
-{
-    if let Some(why) = script_fault(alloc, &row.job, fetched)? {
-        return Ok(FetchOutcome::Rejected(why));
-    }
-    let body = &fetched.response.body;
-    if is_same_script(&row.job, registration, body, workers, registrations) {
-        Ok(FetchOutcome::Unchanged)
-    } else {
-        Ok(FetchOutcome::Changed)
     }
 }
 
@@ -157,33 +144,33 @@ fn new_worker(
     )
 }
 
-// What the fetch of a job's script comes to, which gave this, and the worker that is made where it changed the script.
+// What the fetch of a job's script comes to, which gave this script, and the worker that is made where it changed.
 fn script_fetched(
     alloc: Global,
     row: &JobRow,
     registration: u32,
-    fetched: &Fetched,
+    script: &Fetched,
     workers: &mut Workers,
     registrations: &Registrations,
 ) -> Result<(FetchOutcome, Option<NewWorker>), NoMemory>
-    requires { HasSlots workers.old registrations.now }
+    requires slots { HasSlots workers.old registrations.now }
+    requires script { rules.script_of row.now.job (Some script.now) ≡ Ok script.now }
     ensures same { workers.new ≡ record workers.old { spare_rows = workers.new.spare_rows } }
     ensures comes { IfOk result (λ found.
         (scopes : Scopes) (of_clients : clients.Table) (rest : Rest)
         → IsOutcome found.0 found.1
         (lent scopes workers.old registrations.now of_clients rest)
-        row.now (Some fetched.now) registration) }
+        row.now (Some script.now) registration) }
     ensures fits { IfOk result (λ found.
         is_there registration registrations.now.rows ≡ true → found.0 ≡ outcome.Changed
         → HasNewWorker found.1 workers.new registrations.now) }
 {
-    match outcome_of(alloc, row, registration, fetched, workers, registrations)? {
-        FetchOutcome::Changed => {
-            let worker = new_worker(alloc, row, registration, fetched, workers)?;
-            Ok((FetchOutcome::Changed, Some(worker)))
-        }
-        outcome => Ok((outcome, None)),
+    let body = &script.response.body;
+    if is_same_script(&row.job, registration, body, workers, registrations) {
+        return Ok((FetchOutcome::Unchanged, None));
     }
+    let worker = new_worker(alloc, row, registration, script, workers)?;
+    Ok((FetchOutcome::Changed, Some(worker)))
 }
 
 /// What the fetch of a job's script comes to, which gave this or ended in a network error, and the worker that is made where
@@ -207,17 +194,9 @@ pub fn fetch_ended(
         is_there registration registrations.now.rows ≡ true → found.0 ≡ outcome.Changed
         → HasNewWorker found.1 workers.new registrations.now) }
 {
-    match fetched {
-        Some(fetched) => {
-            script_fetched(alloc, row, registration, fetched, workers, registrations)
-        }
-        None => Ok((
-            FetchOutcome::Rejected(Fault::TypeError {
-                cause: Cause::Network,
-                index: None,
-            }),
-            None,
-        )),
+    match script_of(alloc, &row.job, fetched)? {
+        Ok(script) => script_fetched(alloc, row, registration, script, workers, registrations),
+        Err(why) => Ok((FetchOutcome::Rejected(why), None)),
     }
 }
 
