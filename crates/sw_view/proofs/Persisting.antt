@@ -1,6 +1,6 @@
 -- Registrations keep their keys and scopes in each step, and so a notice names the same ones behind further entries.
-use Rattle.std.proofs.Common.{◌≡◌, ℕ, Bool, true, false, ◌&&◌, ◌==◌, List, [], ◌∷◌, ◌++◌, map, length, Some, IfSome, refl, ap, arith, if◌then◌else◌}
-use Rattle.std.specs.Prelude.{bytes_eq, is_none}
+use Rattle.std.proofs.Common.{◌≡◌, ℕ, Bool, true, false, ◌&&◌, ◌==◌, List, [], ◌∷◌, ◌++◌, map, length, IfSome, refl, arith, if◌then◌else◌}
+use Rattle.std.specs.Prelude.{bytes_eq, filter, is_none}
 use Rattle.std.specs.List.{list_any}
 use Rattle.std.specs.Option.{option_map_or}
 use Rattle.std.proofs.lemmas.List.Folds.{list_any-append}
@@ -10,11 +10,10 @@ use Rattle.sw_data.specs.declared.answers.Settlement.TheVariants as settlement
 use Rattle.sw_data.specs.declared.events.Event.{Event}
 use Rattle.sw_data.specs.declared.events.Who.{Who}
 use Rattle.sw_data.specs.declared.events.Who.TheVariants as who
-use Rattle.sw_data.specs.declared.rows.Job.{Job}
 use Rattle.sw_data.specs.declared.rows.JobRow.{JobRow}
 use Rattle.sw_rules.specs.Activating.{become_activated, paid}
 use Rattle.sw_rules.specs.Caching.{add_cache, add_task, carry_out, drop_cache, settle_task}
-use Rattle.sw_rules.specs.Forgetting.{forget_key, is_mapped_of}
+use Rattle.sw_rules.specs.Forgetting.{forget_key, forget_registrations, is_mapped_of}
 use Rattle.sw_rules.specs.Calls.{note_call}
 use Rattle.sw_rules.specs.Clients.{add_client, add_event, claim_client, claim_clients, claims, leave, remove_client, remove_event, take_control}
 use Rattle.sw_rules.specs.Installing.{become_waiting, begin_install, discard, end_handler, fail_install, finish_install, first_counter, make_worker, placed, reject_and_drop, tell_update, throw}
@@ -152,6 +151,15 @@ install_stays state job registration worker =
     (some_changed (is_registration registration) (placed (first_counter state.registrations)) (λ x. record { number = refl; key = refl; scope = refl }) state.registrations)
     (stand waiting.state.registrations))
 
+forgets_stay : (rows : List Registration) (state : State) → Stays state (forget_registrations state rows)
+unfolding forget_registrations clear
+forgets_stay [] state = stand state.registrations
+forgets_stay (row ∷ rows) state =
+    let unmapped = unmap state row.number in
+    let cleared = clear unmapped.state row.number in
+    further state unmapped _ (unmap_stays state row.number)
+    (further unmapped.state cleared _ (stand unmapped.state.registrations) (forgets_stay rows cleared.state))
+
 stay_law : IsLaw Stays true
 unfolding followed schedule settle finish map_registration set_mode set_preload fetch_script make_worker begin_install tell_update end_handler become_activated add_client add_event remove_event add_cache drop_cache carry_out forget_key add_task settle_task note_call
 stay_law = record {
@@ -185,7 +193,7 @@ stay_law = record {
   caching = λ state key name free. stand state.registrations;
   dropping = λ state key name. stand state.registrations;
   carrying = λ state key name ops pairs new there is. stand state.registrations;
-  forgetting = λ state key free. some_changed (is_mapped_of key) (λ row. record row { mapped = false }) (λ x. record { number = refl; key = refl; scope = refl }) state.registrations;
+  forgetting = λ state key free. forgets_stay (filter (is_mapped_of key) state.registrations) state;
   awaiting = λ state maker key name requests runs. stand state.registrations;
   answering = λ state number result faulted may. stand state.registrations;
   noting = λ state worker faulted. stand state.registrations;

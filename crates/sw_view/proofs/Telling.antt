@@ -1,5 +1,5 @@
 -- Along a history, what a key and a scope map to stays, unless a notice names a registration of theirs.
-use Rattle.std.proofs.Common.{◌≡◌, ◌∙◌, ◌⊎◌, inl, inr, ⊎_elim, ℕ, Bool, true, false, ◌&&◌, ◌==◌, List, [], ◌∷◌, ◌++◌, Option, Some, IfSome, refl, sym, ap, subst, arith}
+use Rattle.std.proofs.Common.{◌≡◌, ◌∙◌, ◌⊎◌, inl, inr, ⊎_elim, ℕ, Bool, true, false, ◌&&◌, ◌==◌, List, [], ◌∷◌, ◌++◌, Option, IfSome, refl, sym, ap, subst, arith}
 use Rattle.std.specs.Prelude.{bytes_eq, find}
 use Rattle.std.specs.List.{list_any}
 use Rattle.std.specs.Option.{option_map_or}
@@ -9,7 +9,7 @@ use Rattle.sw_data.specs.declared.histories.Entry.{Entry}
 use Rattle.sw_rules.specs.History.{EachFrom, IsStep, after_entries, moved}
 use Rattle.sw_rules.specs.Rows.{is_registration}
 use Rattle.sw_rules.specs.State.{State, Registration}
-use Rattle.sw_rules.specs.Step.{Step, step}
+use Rattle.sw_rules.specs.Step.{Step}
 use Rattle.sw_rules.specs.Told.{Outcome}
 use Rattle.sw_laws.specs.Coherent.{Coherent}
 use Rattle.sw_laws.specs.Laws.{has_key_and_scope, mapped_number, tells_move}
