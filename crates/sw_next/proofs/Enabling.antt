@@ -15,7 +15,7 @@ use Rattle.sw_data.specs.declared.rows.JobRow.{JobRow}
 use Rattle.sw_data.specs.declared.rows.RegistrationRow.{RegistrationRow}
 use Rattle.sw_data.specs.declared.rows.WorkerRow.{WorkerRow}
 use Rattle.sw_data.specs.declared.workers.Phase.{Phase}
-use Rattle.sw_data.specs.Events.{who_of}
+use Rattle.sw_data.specs.Events.{is_handler, is_lane, who_of}
 use Rattle.sw_reg.specs.Table.{registration_at}
 use Rattle.sw_rules.specs.Activating.{activated, finish_activate, is_owed, pay, tryactivate}
 use Rattle.sw_rules.specs.Calls.{call_by, called, is_next_call, make_call, noted}
@@ -25,7 +25,7 @@ use Rattle.sw_rules.specs.Installing.{ended_handler, evaluated, evaluated_worker
 use Rattle.sw_rules.specs.Registering.{may_run, run, run_job}
 use Rattle.sw_rules.specs.Rows.{is_in_phase, is_evaluating, is_fetching, is_install, is_installing, is_registration, job_row, registration_row, task_row, worker_row}
 use Rattle.sw_rules.specs.State.{State, AddAll, Registration, Worker}
-use Rattle.sw_rules.specs.Step.{by_lane, enabled, step}
+use Rattle.sw_rules.specs.Step.{enabled, step}
 use Rattle.sw_rules.specs.Told.{Outcome}
 use Rattle.sw_tables.proofs.Lookups.{worker_shown}
 use Rattle.sw_tables.proofs.Rows.{any_at, any_map, find_map}
@@ -169,20 +169,26 @@ module _ (state : State) (happened : Event) (by : Who) (lane at : ℕ) (may : Bo
   pub awaited_where : (of : ℕ) → happened ≡ event.Await by of → may ≡ is_some (await state (who.Lane lane at) of) → may ≡ enabled state happened
   unfolding step who_of
   awaited_where of is holds =
-      holds ∙ (ap (λ (w : Who). is_some (await state w of)) (sym made ∙ ap who_of is) ∙ sym (ap (λ (e : Event). is_some (step state e)) is))
+      holds ∙ (ap (λ (w : Who). is_some (if is_lane w then await state w of else None)) (sym made ∙ ap who_of is) ∙ sym (ap (λ (e : Event). is_some (step state e)) is))
 
   -- a fetch event of a lane begins
   pub begun_where : (client number : ℕ) → happened ≡ event.Begin by client number → may ≡ is_some (begin state client number) → may ≡ enabled state happened
   unfolding step who_of
   begun_where client number is holds =
-      holds ∙ (ap (λ (w : Who). is_some (by_lane w (begin state client number))) (sym made ∙ ap who_of is) ∙ sym (ap (λ (e : Event). is_some (step state e)) is))
+      holds ∙ (ap (λ (w : Who). is_some (if is_lane w then begin state client number else None)) (sym made ∙ ap who_of is) ∙ sym (ap (λ (e : Event). is_some (step state e)) is))
+
+-- a call of another than a handler doesn't happen
+handled : (state : State) (w : Who) (call : Call) → make_call state w call ≡ (if is_handler w then make_call state w call else None)
+handled state (who.Handler worker p number) call = refl
+handled state (who.Lane lane at) call = refl
+handled state who.Host call = refl
 
 -- a call happens in the name of its maker
 pub call_comes : (state : State) (happened : Event) (by : Who) (call : Call) (maker : Who) → happened ≡ event.Call by call → who_of happened ≡ maker
     → make_call state maker call ≡ step state happened
 unfolding step who_of
 call_comes state happened by call maker is made =
-    ap (λ (w : Who). make_call state w call) (sym made ∙ ap who_of is) ∙ sym (ap (step state) is)
+    ap (λ (w : Who). make_call state w call) (sym made ∙ ap who_of is) ∙ (handled state by call ∙ sym (ap (step state) is))
 
 -- ---- by the tables of a host
 
