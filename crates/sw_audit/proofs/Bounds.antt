@@ -17,13 +17,13 @@ use Rattle.sw_rules.specs.Installing.{job_in}
 use Rattle.sw_rules.specs.Recordings.{recorded_event}
 use Rattle.sw_rules.specs.Rows.{is_registration, job_row, task_row, worker_row}
 use Rattle.sw_rules.specs.State.{State, Registration, Worker, AddAll}
-use Rattle.sw_rules.specs.Step.{by_host, step}
+use Rattle.sw_rules.specs.Step.{case_of, step}
 use Rattle.sw_rules.specs.Told.{Outcome}
 use Rattle.sw_laws.specs.Coherent.{Coherent, ArePlaces, is_place}
 use Rattle.sw_laws.proofs.Lists.{any_weaker, find_passes}
 use Rattle.sw_laws.proofs.Places.{all_at_found, found_any, places_below}
 use Rattle.sw_audit.specs.Naming.{AreFew}
-use Rattle.sw_audit.proofs.HostEvents.{HostForm, named_number}
+use Rattle.sw_audit.proofs.HostEvents.{HostForm, its_case, named_number}
 
 -- ---- rows
 
@@ -50,11 +50,6 @@ where_true : {A : Type 0} (test : Bool) (a b : A) → (if test then Some a else 
 where_true true a b is = refl
 where_true false a b is = absurd cc
 
-by_host_there : (maker : Who) (x : Option Outcome) (o : Outcome) → by_host maker x ≡ Some o → x ≡ Some o
-by_host_there who.Host x o is = is
-by_host_there (who.Lane lane at) x o is = absurd cc
-by_host_there (who.Handler worker p number) x o is = absurd cc
-
 module _ {most : ℕ} (recording : Recording) (state : State) (sound : Coherent state) (fits : AreFew most recording state) where
   job_fits : (number : ℕ) (row : JobRow) → job_row state number ≡ Some row → number < most
   job_fits number row is = let below = found_below (λ (x : JobRow). x.job.number) state.jobs number row sound.jobs.numbers is in omega (arith, below, fits.jobs)
@@ -78,17 +73,19 @@ module _ {most : ℕ} (recording : Recording) (state : State) (sound : Coherent 
       let there = bound_there _ (job_row state number) row.0 row.1 in
       job_fits number there.0 there.1
 
+  case_fits : (happened : Event) (o : Outcome) → HostForm happened → case_of state happened ≡ Some o → named_number happened < most
+  case_fits (event.Run maker job) o host is = let there = elim_there _ (job_row state job) o is in job_fits job there.0 there.1
+  case_fits (event.Fetched maker job line) o host is = phase_fits _ job _ o is
+  case_fits (event.Evaluated maker job) o host is = phase_fits _ job _ o is
+  case_fits (event.Installed maker job) o host is = phase_fits _ job _ o is
+  case_fits (event.TryActivate maker registration) o host is = owed_fits registration (where_true (is_owed state registration) (pay state registration) o is)
+  case_fits (event.Activated maker worker) o host is = let there = bound_there _ (worker_row state worker) o is in worker_fits worker there.0 there.1
+  case_fits (event.Added maker task lines) o host is = let there = bound_there _ (task_row state task) o is in task_fits task there.0 there.1
+  case_fits _ o host is = absurd host
+
   -- the number of a host's event
   pub number_fits : (happened : Event) (o : Outcome) → HostForm happened → step state happened ≡ Some o → named_number happened < most
-  unfolding step
-  number_fits (event.Run maker job) o host is = let there = elim_there _ (job_row state job) o (by_host_there maker _ o is) in job_fits job there.0 there.1
-  number_fits (event.Fetched maker job line) o host is = phase_fits _ job _ o (by_host_there maker _ o is)
-  number_fits (event.Evaluated maker job) o host is = phase_fits _ job _ o (by_host_there maker _ o is)
-  number_fits (event.Installed maker job) o host is = phase_fits _ job _ o (by_host_there maker _ o is)
-  number_fits (event.TryActivate maker registration) o host is = owed_fits registration (where_true (is_owed state registration) (pay state registration) o (by_host_there maker _ o is))
-  number_fits (event.Activated maker worker) o host is = let there = bound_there _ (worker_row state worker) o (by_host_there maker _ o is) in worker_fits worker there.0 there.1
-  number_fits (event.Added maker task lines) o host is = let there = bound_there _ (task_row state task) o (by_host_there maker _ o is) in task_fits task there.0 there.1
-  number_fits _ o host is = absurd host
+  number_fits happened o host is = case_fits happened o host (its_case state happened o is).1
 
   -- the worker of a handler that makes a call
   pub handler_fits : (worker : ℕ) (p : Phase) (number : ℕ) (called : Call) (o : Outcome) → make_call state (who.Handler worker p number) called ≡ Some o → worker < most

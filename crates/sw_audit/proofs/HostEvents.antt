@@ -1,5 +1,6 @@
 -- Which events a maker makes, and what the name of a host's event tells of it.
-use Rattle.std.proofs.Common.{◌≡◌, ◌∙◌, ◌⊎◌, ℕ, ◌<◌, ◌^◌, false, ◌==◌, List, [], ◌∷◌, ◌++◌, Option, Some, None, refl, sym, ap, decimal, codes, inl, inr, ⊎_elim, option_map, option_and_then, if◌then◌else◌}
+use Rattle.std.proofs.Common.{◌≡◌, ◌∙◌, ℕ, ◌<◌, ◌^◌, Bool, true, false, ◌==◌, List, [], ◌∷◌, ◌++◌, Option, Some, None, refl, sym, ap, decimal, codes, option_map, option_and_then, if◌then◌else◌}
+use Rattle.std.specs.Prelude.{not}
 use Rattle.std.proofs.lemmas.Fmt.{decimal_injective}
 use Rattle.std.proofs.lemmas.List.{append_cancel_left}
 use Rattle.sw_data.specs.declared.events.Event.{Event}
@@ -10,13 +11,13 @@ use Rattle.sw_data.specs.declared.recordings.Call.{Call}
 use Rattle.sw_data.specs.declared.recordings.FetchLine.{FetchLine}
 use Rattle.sw_data.specs.declared.recordings.Recording.{Recording}
 use Rattle.sw_data.specs.declared.workers.Phase.{Phase}
-use Rattle.sw_data.specs.Events.{who_of}
+use Rattle.sw_data.specs.Events.{is_handler, is_lane, who_of}
 use Rattle.sw_print.specs.Transcript.{event_text}
 use Rattle.sw_rules.specs.Calls.{make_call}
 use Rattle.sw_rules.specs.Picks.{HasLines, is_host_forget}
 use Rattle.sw_rules.specs.Rows.{job_row, task_row}
 use Rattle.sw_rules.specs.State.{State}
-use Rattle.sw_rules.specs.Step.{by_host, by_lane, step}
+use Rattle.sw_rules.specs.Step.{case_of, has_its_maker, is_host, step}
 use Rattle.sw_rules.specs.Tasks.{add_all_lines, job_line}
 use Rattle.sw_rules.specs.Told.{Outcome}
 
@@ -153,110 +154,55 @@ same_host_event recording state one other f g a b lines others is =
 
 -- ---- which events a maker makes
 
-not_by_lane : {P : Type 0} (w : Who) (x : Option Outcome) (o : Outcome) → by_lane w x ≡ Some o → w ≡ who.Host → P
-not_by_lane who.Host x o is host = cc
-not_by_lane (who.Lane lane at) x o is host = cc
-not_by_lane (who.Handler worker p number) x o is host = cc
+-- what a test lets through
+its_maker : (b : Bool) (x : Option Outcome) (o : Outcome) → (if b then x else None) ≡ Some o → (b ≡ true) × (x ≡ Some o)
+its_maker true x o is = (refl, is)
+its_maker false x o is = absurd cc
+
+-- an event that may happen has the kind of maker that makes it, and comes to its case
+pub its_case : (state : State) (happened : Event) (o : Outcome) → step state happened ≡ Some o → (has_its_maker happened ≡ true) × (case_of state happened ≡ Some o)
+unfolding step
+its_case state happened o is = its_maker (has_its_maker happened) (case_of state happened) o is
+
+-- a maker of which a test says one thing is no maker of which it says the other
+not_both : {P : Type 0} (test : Who → Bool) (w other : Who) → w ≡ other → test w ≡ true → test other ≡ false → P
+not_both test w other same passes fails = absurd cc
+
+host_made : (happened : Event) → has_its_maker happened ≡ true → who_of happened ≡ who.Host → is_host_forget happened ≡ false → HostForm happened
+unfolding who_of
+host_made (event.Forget maker place) its host unforced = not_both (λ w. not (is_host_forget (event.Forget w place))) maker who.Host host (ap not unforced) refl
+host_made (event.Call maker called) its host unforced = not_both is_handler maker who.Host host its refl
+host_made (event.Run maker job) its host unforced = host
+host_made (event.Fetched maker job line) its host unforced = host
+host_made (event.Evaluated maker job) its host unforced = host
+host_made (event.Installed maker job) its host unforced = host
+host_made (event.TryActivate maker registration) its host unforced = host
+host_made (event.Activated maker worker) its host unforced = host
+host_made (event.Added maker task lines) its host unforced = host
+host_made happened its host unforced = not_both is_lane (who_of happened) who.Host host its refl
 
 -- what the host makes, but for what it forgets, is one of its own events
 pub host_form : (state : State) (happened : Event) (o : Outcome) → step state happened ≡ Some o → who_of happened ≡ who.Host → is_host_forget happened ≡ false → HostForm happened
-unfolding step who_of
-host_form state (event.Open maker client url partition) o is host unforced = not_by_lane maker _ o is host
-host_form state (event.Close maker client) o is host unforced = not_by_lane maker _ o is host
-host_form state (event.Register maker asked) o is host unforced = not_by_lane maker _ o is host
-host_form state (event.Update maker of) o is host unforced = not_by_lane maker _ o is host
-host_form state (event.SoftUpdate maker of) o is host unforced = not_by_lane maker _ o is host
-host_form state (event.Unregister maker of) o is host unforced = not_by_lane maker _ o is host
-host_form state (event.Await who.Host of) o is host unforced = cc
-host_form state (event.Await (who.Lane lane at) of) o is host unforced = cc
-host_form state (event.Await (who.Handler worker p number) of) o is host unforced = cc
-host_form state (event.Ready maker client) o is host unforced = not_by_lane maker _ o is host
-host_form state (event.Registration maker client url) o is host unforced = not_by_lane maker _ o is host
-host_form state (event.Registrations maker client) o is host unforced = not_by_lane maker _ o is host
-host_form state (event.SkipWaiting maker of place) o is host unforced = not_by_lane maker _ o is host
-host_form state (event.Claim maker of place) o is host unforced = not_by_lane maker _ o is host
-host_form state (event.Begin maker client number) o is host unforced = not_by_lane maker _ o is host
-host_form state (event.End maker number) o is host unforced = not_by_lane maker _ o is host
-host_form state (event.CacheOpen maker place name) o is host unforced = not_by_lane maker _ o is host
-host_form state (event.CacheHas maker place name) o is host unforced = not_by_lane maker _ o is host
-host_form state (event.CacheDelete maker place name) o is host unforced = not_by_lane maker _ o is host
-host_form state (event.CacheKeys maker place) o is host unforced = not_by_lane maker _ o is host
-host_form state (event.Forget who.Host place) o is host unforced = cc
-host_form state (event.Forget (who.Lane lane at) place) o is host unforced = cc
-host_form state (event.Forget (who.Handler worker p number) place) o is host unforced = cc
-host_form state (event.Match maker place asked) o is host unforced = not_by_lane maker _ o is host
-host_form state (event.MatchAll maker place asked) o is host unforced = not_by_lane maker _ o is host
-host_form state (event.Keys maker place asked) o is host unforced = not_by_lane maker _ o is host
-host_form state (event.Put maker place put) o is host unforced = not_by_lane maker _ o is host
-host_form state (event.Delete maker place asked) o is host unforced = not_by_lane maker _ o is host
-host_form state (event.Batch maker place asked) o is host unforced = not_by_lane maker _ o is host
-host_form state (event.AddAll maker place asked) o is host unforced = not_by_lane maker _ o is host
-host_form state (event.PreloadEnable maker of) o is host unforced = not_by_lane maker _ o is host
-host_form state (event.PreloadDisable maker of) o is host unforced = not_by_lane maker _ o is host
-host_form state (event.PreloadValue maker of text) o is host unforced = not_by_lane maker _ o is host
-host_form state (event.PreloadState maker of) o is host unforced = not_by_lane maker _ o is host
-host_form state (event.Call who.Host called) o is host unforced = cc
-host_form state (event.Call (who.Lane lane at) called) o is host unforced = cc
-host_form state (event.Call (who.Handler worker p number) called) o is host unforced = cc
-host_form state (event.Run maker job) o is host unforced = host
-host_form state (event.Fetched maker job line) o is host unforced = host
-host_form state (event.Evaluated maker job) o is host unforced = host
-host_form state (event.Installed maker job) o is host unforced = host
-host_form state (event.TryActivate maker registration) o is host unforced = host
-host_form state (event.Activated maker worker) o is host unforced = host
-host_form state (event.Added maker task lines) o is host unforced = host
-host_form state (event.Restarted maker) o is host unforced = cc
-
-lane_or_host : {P : Type 0} (w : Who) (worker : ℕ) (p : Phase) (number : ℕ) (x : Option Outcome) (o : Outcome) → (by_lane w x ≡ Some o) ⊎ (by_host w x ≡ Some o) → w ≡ who.Handler worker p number → P
-lane_or_host who.Host worker p number x o is handler = cc
-lane_or_host (who.Lane lane at) worker p number x o is handler = cc
-lane_or_host (who.Handler v q n) worker p number x o is handler = ⊎_elim (λ none. cc) (λ none. cc) is
+host_form state happened o is = host_made happened (its_case state happened o is).0
 
 -- what a handler makes is a call
+handler_made : (happened : Event) (worker : ℕ) (p : Phase) (number : ℕ) → has_its_maker happened ≡ true → who_of happened ≡ who.Handler worker p number
+    → (called : Call) × (happened ≡ event.Call (who.Handler worker p number) called)
+unfolding who_of
+handler_made (event.Call w called) worker p number its handler = (called, ap (λ (v : Who). event.Call v called) handler)
+handler_made (event.Forget maker place) worker p number its handler = not_both (λ w. not (is_handler w)) maker (who.Handler worker p number) handler its refl
+handler_made (event.Run maker job) worker p number its handler = not_both is_host maker (who.Handler worker p number) handler its refl
+handler_made (event.Fetched maker job line) worker p number its handler = not_both is_host maker (who.Handler worker p number) handler its refl
+handler_made (event.Evaluated maker job) worker p number its handler = not_both is_host maker (who.Handler worker p number) handler its refl
+handler_made (event.Installed maker job) worker p number its handler = not_both is_host maker (who.Handler worker p number) handler its refl
+handler_made (event.TryActivate maker registration) worker p number its handler = not_both is_host maker (who.Handler worker p number) handler its refl
+handler_made (event.Activated maker row) worker p number its handler = not_both is_host maker (who.Handler worker p number) handler its refl
+handler_made (event.Added maker task lines) worker p number its handler = not_both is_host maker (who.Handler worker p number) handler its refl
+handler_made happened worker p number its handler = not_both is_lane (who_of happened) (who.Handler worker p number) handler its refl
+
 pub call_form : (state : State) (happened : Event) (o : Outcome) (worker : ℕ) (p : Phase) (number : ℕ) → step state happened ≡ Some o → who_of happened ≡ who.Handler worker p number
     → (called : Call) × (happened ≡ event.Call (who.Handler worker p number) called) × (make_call state (who.Handler worker p number) called ≡ Some o)
-unfolding step who_of
-call_form state (event.Open maker client url partition) o worker p number is handler = lane_or_host maker worker p number _ o (inl is) handler
-call_form state (event.Close maker client) o worker p number is handler = lane_or_host maker worker p number _ o (inl is) handler
-call_form state (event.Register maker asked) o worker p number is handler = lane_or_host maker worker p number _ o (inl is) handler
-call_form state (event.Update maker of) o worker p number is handler = lane_or_host maker worker p number _ o (inl is) handler
-call_form state (event.SoftUpdate maker of) o worker p number is handler = lane_or_host maker worker p number _ o (inl is) handler
-call_form state (event.Unregister maker of) o worker p number is handler = lane_or_host maker worker p number _ o (inl is) handler
-call_form state (event.Await who.Host of) o worker p number is handler = cc
-call_form state (event.Await (who.Lane lane at) of) o worker p number is handler = cc
-call_form state (event.Await (who.Handler v q n) of) o worker p number is handler = cc
-call_form state (event.Ready maker client) o worker p number is handler = lane_or_host maker worker p number _ o (inl is) handler
-call_form state (event.Registration maker client url) o worker p number is handler = lane_or_host maker worker p number _ o (inl is) handler
-call_form state (event.Registrations maker client) o worker p number is handler = lane_or_host maker worker p number _ o (inl is) handler
-call_form state (event.SkipWaiting maker of place) o worker p number is handler = lane_or_host maker worker p number _ o (inl is) handler
-call_form state (event.Claim maker of place) o worker p number is handler = lane_or_host maker worker p number _ o (inl is) handler
-call_form state (event.Begin maker client event_number) o worker p number is handler = lane_or_host maker worker p number _ o (inl is) handler
-call_form state (event.End maker event_number) o worker p number is handler = lane_or_host maker worker p number _ o (inl is) handler
-call_form state (event.CacheOpen maker place name) o worker p number is handler = lane_or_host maker worker p number _ o (inl is) handler
-call_form state (event.CacheHas maker place name) o worker p number is handler = lane_or_host maker worker p number _ o (inl is) handler
-call_form state (event.CacheDelete maker place name) o worker p number is handler = lane_or_host maker worker p number _ o (inl is) handler
-call_form state (event.CacheKeys maker place) o worker p number is handler = lane_or_host maker worker p number _ o (inl is) handler
-call_form state (event.Forget who.Host place) o worker p number is handler = cc
-call_form state (event.Forget (who.Lane lane at) place) o worker p number is handler = cc
-call_form state (event.Forget (who.Handler v q n) place) o worker p number is handler = cc
-call_form state (event.Match maker place asked) o worker p number is handler = lane_or_host maker worker p number _ o (inl is) handler
-call_form state (event.MatchAll maker place asked) o worker p number is handler = lane_or_host maker worker p number _ o (inl is) handler
-call_form state (event.Keys maker place asked) o worker p number is handler = lane_or_host maker worker p number _ o (inl is) handler
-call_form state (event.Put maker place put) o worker p number is handler = lane_or_host maker worker p number _ o (inl is) handler
-call_form state (event.Delete maker place asked) o worker p number is handler = lane_or_host maker worker p number _ o (inl is) handler
-call_form state (event.Batch maker place asked) o worker p number is handler = lane_or_host maker worker p number _ o (inl is) handler
-call_form state (event.AddAll maker place asked) o worker p number is handler = lane_or_host maker worker p number _ o (inl is) handler
-call_form state (event.PreloadEnable maker of) o worker p number is handler = lane_or_host maker worker p number _ o (inl is) handler
-call_form state (event.PreloadDisable maker of) o worker p number is handler = lane_or_host maker worker p number _ o (inl is) handler
-call_form state (event.PreloadValue maker of text) o worker p number is handler = lane_or_host maker worker p number _ o (inl is) handler
-call_form state (event.PreloadState maker of) o worker p number is handler = lane_or_host maker worker p number _ o (inl is) handler
-call_form state (event.Call w called) o worker p number is handler =
-    (called, ap (λ (v : Who). event.Call v called) handler, ap (λ (v : Who). make_call state v called) (sym handler) ∙ is)
-call_form state (event.Run maker job) o worker p number is handler = lane_or_host maker worker p number _ o (inr is) handler
-call_form state (event.Fetched maker job line) o worker p number is handler = lane_or_host maker worker p number _ o (inr is) handler
-call_form state (event.Evaluated maker job) o worker p number is handler = lane_or_host maker worker p number _ o (inr is) handler
-call_form state (event.Installed maker job) o worker p number is handler = lane_or_host maker worker p number _ o (inr is) handler
-call_form state (event.TryActivate maker registration) o worker p number is handler = lane_or_host maker worker p number _ o (inr is) handler
-call_form state (event.Activated maker row) o worker p number is handler = lane_or_host maker worker p number _ o (inr is) handler
-call_form state (event.Added maker task lines) o worker p number is handler = lane_or_host maker worker p number _ o (inr is) handler
-call_form state (event.Restarted maker) o worker p number is handler = cc
+call_form state happened o worker p number is handler =
+    let its = its_case state happened o is in
+    let made = handler_made happened worker p number its.0 handler in
+    (made.0, made.1, ap (case_of state) (sym made.1) ∙ its.1)

@@ -26,7 +26,7 @@ impl Board for CoreBoard<'_> {
 
     ghost in_flight = { λ board. lane.in_flight board.flights.now };
 
-    #[tactic(auto, unfolding(sw_rules::specs::Step::step, sw_data::specs::Events::event_of_action))]
+    #[tactic(auto, unfolding(sw_rules::specs::Step::step, sw_data::specs::Events::event_of_action, sw_data::specs::Events::who_of))]
     fn lane_ready(&self, lane: u32, action: &Action) -> bool {
         match action {
             Action::Await { of } => self.core.has_settled(lane, *of),

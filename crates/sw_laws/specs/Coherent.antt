@@ -162,12 +162,12 @@ is_running workers None = true
 is_running workers (Some worker) = has_worker (λ row. is_some row.handler) workers worker
 
 -- an addAll whose promise hasn't settled has its handler running, where a handler made it
-abbrev pub has_its_maker : List Worker → AddAll → Bool
-has_its_maker workers row = is_some row.settled || is_running workers (maker_worker row.maker)
+abbrev pub maker_runs : List Worker → AddAll → Bool
+maker_runs workers row = is_some row.settled || is_running workers (maker_worker row.maker)
 
 pub record SoundTasks (workers : List Worker) (rows : List AddAll) : Type 0 where
   pub numbers : ArePlaces (λ row. row.number) rows
-  pub makers : list_all (has_its_maker workers) rows ≡ true
+  pub makers : list_all (maker_runs workers) rows ≡ true
 
 -- ---- clients
 

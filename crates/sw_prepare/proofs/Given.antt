@@ -1,17 +1,17 @@
 -- What was worked out on the tables of a host was worked out on the host.
-use Rattle.std.proofs.Common.{◌≡◌, ◌∙◌, ℕ, Option, Some, None, IfSome, IsSome, option_map, is_some, refl, sym, ap, subst}
+use Rattle.std.proofs.Common.{◌≡◌, ◌∙◌, ℕ, Option, Some, None, IfSome, IsSome, option_map, is_some, refl, sym, ap, subst, if◌then◌else◌}
 use Rattle.sw_prepare.proofs.Same.{same_refl}
 use Rattle.sw_data.specs.declared.events.Event.{Event}
 use Rattle.sw_data.specs.declared.events.Event.TheVariants as event
 use Rattle.sw_data.specs.declared.events.Who.{Who}
 use Rattle.sw_data.specs.declared.events.Who.TheVariants as maker
-use Rattle.sw_data.specs.Events.{who_of}
+use Rattle.sw_data.specs.Events.{is_lane, who_of}
 use Rattle.sw_laws.proofs.KeptRechecks.{mapped_some}
 use Rattle.sw_pages.specs.Acts.{outcome_of}
 use Rattle.sw_pages.specs.declared.worked.Worked.{Worked}
 use Rattle.sw_rules.specs.Clients.{await, begin, ready}
 use Rattle.sw_rules.specs.State.{State}
-use Rattle.sw_rules.specs.Step.{by_lane, step}
+use Rattle.sw_rules.specs.Step.{step}
 use Rattle.sw_rules.specs.Told.{Outcome}
 use Rattle.sw_work.specs.Hosted.{Hosted, SameRows}
 use Rattle.sw_work.specs.Plans.{IsAsked}
@@ -59,12 +59,12 @@ agrees_too mine asked state (Some outcome) agrees is = subst (λ (o : Outcome). 
 module _ (state : State) (happened : Event) (by : Who) (lane at : ℕ) (made : who_of happened ≡ maker.Lane lane at) where
   pub await_comes : (of : ℕ) → happened ≡ event.Await by of → step state happened ≡ await state (maker.Lane lane at) of
   unfolding step who_of
-  await_comes of is = ap (step state) is ∙ ap (λ (w : Who). await state w of) (sym (ap who_of is) ∙ made)
+  await_comes of is = ap (step state) is ∙ ap (λ (w : Who). if is_lane w then await state w of else None) (sym (ap who_of is) ∙ made)
 
   pub ready_comes : (client : ℕ) → happened ≡ event.Ready by client → step state happened ≡ ready state client
   unfolding step who_of
-  ready_comes client is = ap (step state) is ∙ ap (λ (w : Who). by_lane w (ready state client)) (sym (ap who_of is) ∙ made)
+  ready_comes client is = ap (step state) is ∙ ap (λ (w : Who). if is_lane w then ready state client else None) (sym (ap who_of is) ∙ made)
 
   pub begin_comes : (client number : ℕ) → happened ≡ event.Begin by client number → step state happened ≡ begin state client number
   unfolding step who_of
-  begin_comes client number is = ap (step state) is ∙ ap (λ (w : Who). by_lane w (begin state client number)) (sym (ap who_of is) ∙ made)
+  begin_comes client number is = ap (step state) is ∙ ap (λ (w : Who). if is_lane w then begin state client number else None) (sym (ap who_of is) ∙ made)

@@ -10,6 +10,7 @@ ghost use Rattle.sw_data.specs.Events.{is_lane, who_of};
 ghost use Rattle.sw_laws.specs.Coherent.{Coherent};
 ghost use Rattle.sw_pages.specs.Acts as pages;
 ghost use Rattle.sw_rules.specs.Caching as rules;
+ghost use Rattle.sw_rules.specs.Forgetting as forgetting;
 ghost use Rattle.sw_rules.specs.Step.{enabled, step};
 ghost use Rattle.sw_work.specs.Hosted.{Hosted, SameRows, state_of};
 ghost use Rattle.sw_work.specs.Plans.{FitsAsked, FitsWork, IsAsked, Means, Works};
@@ -199,7 +200,7 @@ fn forget(host: &HostTables, alloc: Global, place: &Place) -> Result<Asked, NoMe
     ensures fits { IfOk result (λ asked. FitsAsked asked host.now) }
     ensures agrees { IfOk result (λ asked.
         IsAsked
-        (rules.with_key (state_of host.now) place.now (rules.forget (state_of host.now)))
+        (rules.with_key (state_of host.now) place.now (forgetting.forget (state_of host.now)))
         asked (state_of host.now)) }
 {
     let key = match place_key(alloc, place)? {
@@ -232,7 +233,7 @@ pub(crate) fn work_of_forget(
     ensures same { SameRows host.old host.new }
     ensures fits { IfOk result (λ work. FitsWork work host.new) }
     ensures means { IfOk result (λ work. Means work host.old
-        (rules.with_key (state_of host.old) place.now (rules.forget (state_of host.old)))) }
+        (rules.with_key (state_of host.old) place.now (forgetting.forget (state_of host.old)))) }
 {
     Ok(Work::Asked(forget(host, alloc, place)?))
 }

@@ -1,6 +1,6 @@
 -- A client that isn't open is open after an event only where an `open` has added it; and a `close` leaves it closed.
 use Rattle.std.proofs.Common.{◌≡◌, ◌∙◌, ℕ, Bool, true, false, ◌==◌, List, [], ◌∷◌, ◌++◌, map, Option, Some, None, IfSome, refl, sym, ap, subst, arith, if◌then◌else◌}
-use Rattle.std.specs.Prelude.{find, is_some}
+use Rattle.std.specs.Prelude.{filter, find, is_some}
 use Rattle.std.specs.Option.{option_map_or}
 use Rattle.std.proofs.lemmas.Bool.Decides.{nat_tests}
 use Rattle.sw_data.specs.declared.answers.Answer.{Answer}
@@ -19,6 +19,7 @@ use Rattle.sw_data.specs.declared.storage.Change.{Change}
 use Rattle.sw_data.specs.declared.workers.Phase.{Phase}
 use Rattle.sw_data.specs.declared.workers.Slot.{Slot}
 use Rattle.sw_data.specs.Addresses.{address_of}
+use Rattle.sw_data.specs.Events.{who_of}
 use Rattle.sw_data.specs.Keys.{key_of}
 use Rattle.sw_laws.proofs.Events.{gives_control, step-law}
 use Rattle.sw_laws.proofs.Lists.{bound_holds, by_option, by_test, mapped_holds}
@@ -26,7 +27,7 @@ use Rattle.sw_laws.proofs.Split.{IsLaw, IsRecheckLaw, unload-law}
 use Rattle.sw_roster.specs.Members.{has_closed, has_opened, opened}
 use Rattle.sw_rules.specs.Activating.{become_activated, worker_or_none}
 use Rattle.sw_rules.specs.Caching.{add_cache, add_task, carry_out, drop_cache, settle_task}
-use Rattle.sw_rules.specs.Forgetting.{forget_key}
+use Rattle.sw_rules.specs.Forgetting.{forget_key, forget_registrations, is_mapped_of}
 use Rattle.sw_rules.specs.Calls.{is_next_call, make_call, note_call, noted}
 use Rattle.sw_rules.specs.Clients.{add_client, add_event, claim_client, claim_clients, claim_of, claims, close, leave, new_client, open_at, open_client, opening_controller, remove_client, remove_event, take_control, with_slot}
 use Rattle.sw_rules.specs.Installing.{become_waiting, begin_install, discard, end_handler, fail_install, finish_install, make_worker, reject_and_drop, tell_update, throw}
@@ -35,7 +36,7 @@ use Rattle.sw_rules.specs.Preloading.{set_preload}
 use Rattle.sw_rules.specs.Registering.{fetch_script}
 use Rattle.sw_rules.specs.Registrations.{activate, clear, controlled_by, drop_registration, map_registration, set_mode, unload, unmap}
 use Rattle.sw_rules.specs.Rows.{changed, client_row, is_active, is_client, is_number, mapped_registration, named_scope, newest_worker, registration_row, slot_worker, uses, without, worker_row}
-use Rattle.sw_rules.specs.State.{State, Worker, Awaited}
+use Rattle.sw_rules.specs.State.{State, Registration, Worker, Awaited}
 use Rattle.sw_rules.specs.Step.{Step, step}
 use Rattle.sw_rules.specs.Told.{Told, Outcome, followed, quiet}
 use Rattle.std.specs.Prelude.{is_none}
@@ -146,6 +147,11 @@ install_keeps state job registration worker =
     let waiting = become_waiting ended.state registration worker in
     further state ended _ (λ n out. out) (further ended.state waiting _ (λ n out. out) (λ n out. out))
 
+forgets_keep : (rows : List Registration) (state : State) → Keeps state (forget_registrations state rows)
+unfolding forget_registrations followed unmap clear
+forgets_keep [] state = λ n out. out
+forgets_keep (row ∷ rows) state = forgets_keep rows (clear (unmap state row.number).state row.number).state
+
 keep_law : IsLaw Keeps false
 unfolding followed schedule settle finish map_registration unmap set_mode set_preload fetch_script make_worker begin_install tell_update end_handler become_activated add_event remove_event add_cache drop_cache carry_out forget_key add_task settle_task note_call
 keep_law = record {
@@ -175,7 +181,7 @@ keep_law = record {
   caching = λ state key name free n out. out;
   dropping = λ state key name n out. out;
   carrying = λ state key name ops pairs new there is n out. out;
-  forgetting = λ state key free n out. out;
+  forgetting = λ state key free. forgets_keep (filter (is_mapped_of key) state.registrations) state;
   awaiting = λ state maker key name requests runs n out. out;
   answering = λ state number result faulted may n out. out;
   noting = λ state worker faulted n out. out;
@@ -258,7 +264,7 @@ module _ (state new : State) (reply : Answer) (notices : List Notice) (n : ℕ) 
 
 -- who isn't there comes by an `open` that adds it alone
 pub only_opens : (state new : State) (happened : Event) (reply : Answer) (notices : List Notice) (n : ℕ) → Step state happened reply notices new → is_number (opened happened reply) n ≡ false → IsOut n state.clients → IsOut n new.clients
-unfolding step
+unfolding step who_of
 only_opens state new (event.Open who.Host client url partition) reply notices n stepped other out = absurd cc
 only_opens state new (event.Open (who.Lane lane at) client url partition) reply notices n stepped other out =
     by_opened state new reply notices n client (open_client state client url partition) stepped.0 (open_keeps state client url partition) stepped.1 other out
@@ -290,7 +296,7 @@ close_leaves state number =
 
 -- a `close` that is answered ok leaves its client closed
 pub close_closes : (state new : State) (maker : Who) (client : ℕ) (reply : Answer) (notices : List Notice) → Step state (event.Close maker client) reply notices new → has_closed reply ≡ true → IsOut client new.clients
-unfolding step
+unfolding step who_of
 close_closes state new who.Host client reply notices stepped is = absurd cc
 close_closes state new (who.Lane lane at) client reply notices stepped is =
     let same = same_outcome (close state client) _ stepped.1 in

@@ -3,10 +3,10 @@ use Rattle.std.specs.Prelude.{⊤}
 use Rattle.sw_data.proofs.OnLiterals.{data_on_literals}
 use Rattle.sw_rules.specs.Activating.{become_activated, finish_activate, pay}
 use Rattle.sw_rules.specs.Caching.{add_cache, add_task, carry_out, drop_cache, settle_task}
-use Rattle.sw_rules.specs.Forgetting.{forget_key, forget_registrations}
 use Rattle.sw_rules.specs.Calls.{note_call}
 use Rattle.sw_rules.specs.Clients.{add_client, add_event, claim_client, claim_clients, end_event, leave, remove_client, remove_event, skip_waiting, take_control}
 use Rattle.sw_rules.specs.Durable.{checkpoint_changes, durable}
+use Rattle.sw_rules.specs.Forgetting.{forget_key, forget_registrations}
 use Rattle.sw_rules.specs.Installing.{become_waiting, begin_install, discard, end_handler, fail_install, fetch_ended, finish_install, install, keep_script, make_worker, reject_and_drop, tell_update, throw}
 use Rattle.sw_rules.specs.Jobs.{finish, promise, resolve_and_finish, schedule, settle}
 use Rattle.sw_rules.specs.Preloading.{set_preload}

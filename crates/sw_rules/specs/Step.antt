@@ -11,9 +11,9 @@ use Rattle.sw_data.specs.declared.storage.Change.{Change}
 use Rattle.sw_data.specs.Events.{is_handler, is_lane, who_of}
 use Rattle.sw_rules.specs.Activating.{activated, tryactivate}
 use Rattle.sw_rules.specs.Caching.{add_all_at, added, batch_ops, cache_names, delete_cache, delete_request, has_cache, match_request, open_cache, put_response, query_cache, with_key}
-use Rattle.sw_rules.specs.Forgetting.{forget}
 use Rattle.sw_rules.specs.Calls.{make_call}
 use Rattle.sw_rules.specs.Clients.{await, begin, claim_of, close, end, get_registration, get_registrations, open_client, ready, skip_waiting_of, with_slot}
+use Rattle.sw_rules.specs.Forgetting.{forget}
 use Rattle.sw_rules.specs.Installing.{evaluated, fetched, installed}
 use Rattle.sw_rules.specs.Preloading.{preload_state, preload_switch, preload_value}
 use Rattle.sw_rules.specs.Registering.{register, run, soft_update, unregister, update}

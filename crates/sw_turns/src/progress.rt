@@ -97,6 +97,8 @@ pub fn beginning<D: Disk>(
         → IsAtWork D.Disk start disk.now store.now.base made.3.items store.now) }
     ensures net { IfOk result (λ made. made.1 ≡ recording.fetches) }
     ensures flights { IfOk result (λ made. made.2.items ≡ replicate passes None) }
+    ensures history { IfOk result (λ made.
+        made.3.items ≡ opening_of store.now.base (D.clock disk.now) ∷ []) }
 {
     set_out(alloc, recording, store.base(), disk.clock(), passes)
 }
