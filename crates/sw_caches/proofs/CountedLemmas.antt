@@ -1,22 +1,21 @@
 -- The bytes of caches, of each key and in all, as rows come, change and go.
-use Rattle.std.proofs.Common.{◌≡◌, ◌∙◌, ℕ, ◌+◌, ◌<◌, ◌≤◌, Bool, true, false, List, [], ◌∷◌, ◌++◌, map, drop, set, Some, refl, inl, inr, sym, ap, subst, arith, if◌then◌else◌}
+use Rattle.std.proofs.Common.{◌≡◌, ◌∙◌, ℕ, ◌+◌, ◌<◌, ◌≤◌, Bool, true, List, [], ◌∷◌, ◌++◌, map, set, Some, refl, inl, inr, sym, ap, subst, arith}
 use Rattle.std.specs.Prelude.{◌^◌, All, bytes_eq, filter, not, slice_get, sum_by}
 use Rattle.std.specs.List.{AllByRecursion}
 use Rattle.std.specs.Cmp.Lexicographic.{bytes_decides}
 use Rattle.std.proofs.lemmas.Bool.{and_parts, cases_Bool}
 use Rattle.std.proofs.lemmas.List.{map-append}
-use Rattle.std.proofs.lemmas.List.Elements.{All-filter, All-get_or, All-head, All-push, All-same, filter_passes, recursion_from_All}
+use Rattle.std.proofs.lemmas.List.Elements.{All-filter, All-get_or, All-push, recursion_from_All}
 use Rattle.std.proofs.lemmas.List.Filters.{sum_by-filter_both}
 use Rattle.std.proofs.lemmas.List.Sums.{get_or-le-sum_by, sum_by-cons, sum_by-le-sum_by, sum_by-set, sum_by_push}
 use Rattle.std.proofs.lemmas.Option.{get_or_from_slice_get, slice_get_within}
 use Rattle.sw_data.specs.declared.storage.KeptCache.{KeptCache}
-use Rattle.sw_rules.specs.Caching.{caches_of}
 use Rattle.sw_rules.specs.Storage.{is_cache}
 use Rattle.sw_index.specs.Named.{values}
 use Rattle.sw_caches.specs.declared.sums.Sums.{Sums}
 use Rattle.sw_caches.specs.Bytes.{bytes_of, cache_size, key_bytes, made_size}
 use Rattle.sw_caches.specs.Sums.{at_key, held}
-use Rattle.sw_caches.specs.Tables.{HasNames, IsCounted, IsNext, Row, caches_from, index_size, kept_row}
+use Rattle.sw_caches.specs.Tables.{HasNames, IsCounted, IsNextBy, Row, index_size, kept_row, passing_from}
 
 -- the bytes of a row at its key alone
 abbrev key_size : List ℕ → KeptCache → ℕ
@@ -230,59 +229,23 @@ sizes_by (row ∷ rows) all =
 pub sizes_are : (rows : List Row) → All HasNames rows → sum_by index_size (values rows) ≡ bytes_of (map kept_row rows)
 sizes_are rows all = sizes_by rows (recursion_from_All HasNames rows all)
 
--- ---- the caches of a key and a name, one after another
+-- ---- the caches of a key and a name
 
 module _ (key name : List ℕ) where
   pub of_key : (row : KeptCache) → is_cache key name row ≡ true → bytes_eq row.key key ≡ true
   of_key row is = (and_parts (bytes_eq row.key key) (bytes_eq row.name name) is).0
 
-  named_of_key : (rows : List KeptCache) → filter (is_cache key name) (caches_of key rows) ≡ filter (is_cache key name) rows
-  named_of_key [] = refl
-  named_of_key (row ∷ rows) = pick (bytes_eq row.key key) refl (named_of_key rows)
-    where
-      pick : (b : Bool) → bytes_eq row.key key ≡ b → filter (is_cache key name) (caches_of key rows) ≡ filter (is_cache key name) rows → filter (is_cache key name) (caches_of key (row ∷ rows)) ≡ filter (is_cache key name) (row ∷ rows)
-      pick true e same =
-          let left : caches_of key (row ∷ rows) ≡ row ∷ caches_of key rows = rw e refl in
-          ap (filter (is_cache key name)) left ∙ ap (λ (rest : List KeptCache). if is_cache key name row then row ∷ rest else rest) same
-      pick false e same =
-          let left : caches_of key (row ∷ rows) ≡ caches_of key rows = rw e refl in
-          let right : filter (is_cache key name) (row ∷ rows) ≡ filter (is_cache key name) rows = rw e refl in
-          ap (filter (is_cache key name)) left ∙ (same ∙ sym right)
-
-  first_passes : (rows : List KeptCache) (row : KeptCache) (rest : List KeptCache) → caches_of key rows ≡ row ∷ rest → bytes_eq row.key key ≡ true
-  first_passes rows row rest is =
-      All-head (λ (item : KeptCache). bytes_eq item.key key ≡ true) row rest
-      (All-same (λ (item : KeptCache). bytes_eq item.key key ≡ true) (row ∷ rest) (caches_of key rows) (sym is) (filter_passes (λ (item : KeptCache). bytes_eq item.key key) rows))
-
-  -- the bytes of those of the name from a place on
+  -- the bytes of those from a place on
   abbrev pub bytes_from : ℕ → List Row → ℕ
-  bytes_from from rows = bytes_of (filter (is_cache key name) (caches_from key from rows))
+  bytes_from from rows = bytes_of (passing_from (is_cache key name) from rows)
 
-  pub bytes_begin : (rows : List Row) → 0 + bytes_from 0 rows ≡ bytes_of (filter (is_cache key name) (map kept_row rows))
-  bytes_begin rows = let all = ap bytes_of (named_of_key (map kept_row rows)) in omega (arith, all)
-
-  pub bytes_next : (rows : List Row) (from next size : ℕ) (row : Row) → IsNext key from rows (kept_row row) next → HasNames row → size ≡ (if bytes_eq row.0.1 name then index_size row.1 else 0) → bytes_from from rows ≡ size + bytes_from next rows
+  pub bytes_next : (rows : List Row) (from next size : ℕ) (row : Row) → IsNextBy (is_cache key name) from rows (kept_row row) next → HasNames row → size ≡ index_size row.1 → bytes_from from rows ≡ size + bytes_from next rows
   bytes_next rows from next size row is named sized =
-      let own = first_passes (map kept_row (drop from rows)) (kept_row row) (caches_from key next rows) is.caches in
-      let all = ap (λ rest. bytes_of (filter (is_cache key name) rest)) is.caches in
-      elim (cases_Bool (bytes_eq row.0.1 name)) [
-        | inl e ↦
-            let here : bytes_of (filter (is_cache key name) (kept_row row ∷ caches_from key next rows)) ≡ cache_size (kept_row row) + bytes_from next rows = rw (own, e) (sum_by-cons cache_size (kept_row row) (filter (is_cache key name) (caches_from key next rows))) in
-            let own_size : size ≡ index_size row.1 = sized ∙ rw e refl in
-            let same = row_size row named in
-            omega (arith, all, here, own_size, same)
-        | inr e ↦
-            let here : bytes_of (filter (is_cache key name) (kept_row row ∷ caches_from key next rows)) ≡ bytes_from next rows = rw (own, e) refl in
-            let none : size ≡ 0 = sized ∙ rw e refl in
-            omega (arith, all, here, none)
-      ]
+      let all = ap bytes_of is.caches in
+      let here = sum_by-cons cache_size (kept_row row) (passing_from (is_cache key name) next rows) in
+      let same = row_size row named in
+      omega (arith, all, here, sized, same)
 
-  pub bytes_end : (rows : List Row) (from : ℕ) → caches_from key from rows ≡ [] → bytes_from from rows ≡ 0
-  bytes_end rows from none = ap (λ rest. bytes_of (filter (is_cache key name) rest)) none
-
-  -- those of the name have no more bytes than all
+  -- they have no more bytes than all
   pub some_within : (rows : List KeptCache) → bytes_of (filter (is_cache key name) rows) ≤ bytes_of rows
-  some_within rows =
-      let one = taken_within key (is_cache key name) of_key rows in
-      let less = key_within key rows in
-      omega (arith, one, less)
+  some_within rows = let split = bytes_taken key (is_cache key name) of_key rows in omega (arith, split)

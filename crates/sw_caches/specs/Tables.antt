@@ -1,5 +1,5 @@
 -- The caches of all keys, as a list of rows beside what plans need to know of their indexes.
-use Rattle.std.specs.Prelude.{◌≡◌, ℕ, ◌+◌, ◌<◌, ◌≤◌, ◌^◌, true, length, drop, List, [], ◌∷◌, map, filter, set, sum_by, bytes_eq, slice_get, option_map, Option, Some, None, Ok, if◌then◌else◌}
+use Rattle.std.specs.Prelude.{◌≡◌, ℕ, ◌+◌, ◌<◌, ◌≤◌, ◌^◌, Bool, true, length, drop, List, [], ◌∷◌, map, filter, set, sum_by, bytes_eq, slice_get, option_map, Option, Some, None, Ok, if◌then◌else◌}
 use Rattle.std.specs.Option.{option_map_or}
 use Rattle.std.specs.List.{All, range_with_len}
 use Rattle.sw_data.specs.declared.exchange.Op.{Op}
@@ -104,16 +104,24 @@ IsRefused key name ops rows why = IsRefusedOf (pairs_of key name rows) ops why
 abbrev pub caches_of : List ℕ → List KeptCache → List KeptCache
 caches_of key rows = filter (λ row. bytes_eq row.key key) rows
 
--- the caches of a key from a place on
-abbrev pub caches_from : List ℕ → ℕ → List Row → List KeptCache
-caches_from key from rows = caches_of key (map kept_row (drop from rows))
+-- the caches from a place on that pass a test
+abbrev pub passing_from : (KeptCache → Bool) → ℕ → List Row → List KeptCache
+passing_from test from rows = filter test (map kept_row (drop from rows))
 
--- the caches of a key from a place on are this one and those from the next place on
-pub record IsNext (key : List ℕ) (from : ℕ) (rows : List Row) (row : KeptCache) (next : ℕ) : Type 0 where
+-- the caches from a place on that pass a test are this one and those from the next place on
+pub record IsNextBy (test : KeptCache → Bool) (from : ℕ) (rows : List Row) (row : KeptCache) (next : ℕ) : Type 0 where
   pub later : from < next
   pub within : next ≤ length rows
   pub few : next < 2 ^ 32
-  pub caches : caches_from key from rows ≡ row ∷ caches_from key next rows
+  pub caches : passing_from test from rows ≡ row ∷ passing_from test next rows
+
+-- the caches of a key from a place on
+abbrev pub caches_from : List ℕ → ℕ → List Row → List KeptCache
+caches_from key from rows = passing_from (λ row. bytes_eq row.key key) from rows
+
+-- the caches of a key from a place on are this one and those from the next place on
+abbrev pub IsNext : List ℕ → ℕ → List Row → KeptCache → ℕ → Type 0
+IsNext key from rows row next = IsNextBy (λ row. bytes_eq row.key key) from rows row next
 
 -- the first place that matches in a cache, where it is asked: it has this name, or no name is given
 abbrev pub hit_in : Option (List ℕ) → Request → Options → KeptCache → Option ℕ

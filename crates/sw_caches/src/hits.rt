@@ -10,7 +10,7 @@ ghost use Rattle.sw_caches.specs.Tables.{caches_of, hit_from, hit_in, kept_row};
 ghost use Rattle.sw_index.specs.Named.{named_row};
 
 use crate::pairs::Pairs;
-use crate::rows::next_cache;
+use crate::rows::{next_asked, next_cache};
 use crate::table::Hit;
 use sw_data::{Options, Request, Response, Text};
 use sw_index::{Named, Row};
@@ -71,7 +71,7 @@ pub struct Found<'a> {
     pub response: &'a Response,
 }
 
-// The first match in the caches of a key, with its response.
+// The first match in the caches of a key, or in the one of a name, with its response.
 pub(crate) fn first_found<'a>(
     rows: &'a Named<Pairs>,
     key: &Text,
@@ -84,15 +84,13 @@ pub(crate) fn first_found<'a>(
         (asked_caches key.now (option_copied name.entry) (map kept_row rows.now.rows)) }
 {
     let mut from = 0;
-    while let Some((row, next)) = next_cache(rows, key, from) {
-        if is_asked(row, name) {
-            if let Some((place, pair)) = row.value.first(query, options) {
-                return Some(Found {
-                    name: &row.name,
-                    place: place as u32,
-                    response: &pair.1,
-                });
-            }
+    while let Some((row, next)) = next_asked(rows, key, name, from) {
+        if let Some((place, pair)) = row.value.first(query, options) {
+            return Some(Found {
+                name: &row.name,
+                place: place as u32,
+                response: &pair.1,
+            });
         }
         from = next;
     }

@@ -1,13 +1,14 @@
 //! The caches of all keys, each under its key and its name.
 
-ghost use Rattle.std.specs.Prelude.{◌≡◌, ◌<◌, ◌^◌, [], Some, MatchOption, IfOk, bytes_eq, filter, map, slice_get, if◌then◌else◌};
+ghost use Rattle.std.specs.Prelude.{◌≡◌, ◌<◌, ◌^◌, [], Some, MatchOption, IfOk, filter, map, option_copied, slice_get};
 ghost use Rattle.std.specs.List.{All};
 ghost use Rattle.sw_index.specs.Named.{named_row, named_rows, values};
 ghost use Rattle.sw_rules.specs.Storage.{is_cache};
 ghost use Rattle.sw_caches.specs.Bytes.{bytes_of, made_size};
+ghost use Rattle.sw_caches.specs.Hits.{is_asked};
 ghost use Rattle.sw_caches.specs.Plans.{carried};
 ghost use Rattle.sw_caches.specs.Tables as tables;
-ghost use Rattle.sw_caches.specs.Tables.{FitsTable, HasNames, IsNext, caches_from, caches_of, carried_rows, index_size, kept_row};
+ghost use Rattle.sw_caches.specs.Tables.{FitsTable, HasNames, IsNext, IsNextBy, caches_from, caches_of, carried_rows, index_size, kept_row, passing_from};
 
 use crate::pairs::Pairs;
 use crate::table::CachePlan;
@@ -30,6 +31,44 @@ pub(crate) fn next_cache<'a>(
     }
 }
 
+// The first cache of a key and a name at a place or behind it, and the place behind that; it takes no
+// memory.
+fn next_named<'a>(
+    rows: &'a Named<Pairs>,
+    key: &Text,
+    name: &Text,
+    from: usize,
+) -> Option<(&'a Row<Pairs>, usize)>
+    ensures { MatchOption result
+        (passing_from (is_cache key.now name.now) from rows.now.rows ≡ [])
+        (λ found. IsNextBy (is_cache key.now name.now) from rows.now.rows
+        (kept_row (named_row found.0.now)) found.1) }
+{
+    match rows.next_named(key, name, from) {
+        Some(place) => Some((rows.row(place), place + 1)),
+        None => None,
+    }
+}
+
+// The first cache at a place or behind it that is of a key, and where a name is given of this name, and
+// the place behind that; it takes no memory.
+pub(crate) fn next_asked<'a>(
+    rows: &'a Named<Pairs>,
+    key: &Text,
+    name: Option<&Text>,
+    from: usize,
+) -> Option<(&'a Row<Pairs>, usize)>
+    ensures { MatchOption result
+        (passing_from (is_asked key.now (option_copied name.entry)) from rows.now.rows ≡ [])
+        (λ found. IsNextBy (is_asked key.now (option_copied name.entry)) from rows.now.rows
+        (kept_row (named_row found.0.now)) found.1) }
+{
+    match name {
+        Some(name) => next_named(rows, key, name, from),
+        None => next_cache(rows, key, from),
+    }
+}
+
 // The names of the caches of a key, in order.
 pub(crate) fn names_of(
     alloc: Global,
@@ -48,17 +87,6 @@ pub(crate) fn names_of(
     Ok(names)
 }
 
-// The bytes of a cache, where it has this name.
-fn named_size(row: &Row<Pairs>, name: &Text) -> u64
-    ensures { result ≡ (if bytes_eq row.now.name name.now then index_size row.now.value else 0) }
-{
-    if row.name == *name {
-        row.value.bytes()
-    } else {
-        0
-    }
-}
-
 // The bytes of the caches of a key and a name; it takes no memory.
 pub(crate) fn named_bytes(rows: &Named<Pairs>, key: &Text, name: &Text) -> u64
     requires names { All HasNames rows.now.rows }
@@ -68,8 +96,8 @@ pub(crate) fn named_bytes(rows: &Named<Pairs>, key: &Text, name: &Text) -> u64
 {
     let mut bytes = 0;
     let mut from = 0;
-    while let Some(place) = rows.next_of(key, from) {
-        bytes += named_size(rows.row(place), name);
+    while let Some(place) = rows.next_named(key, name, from) {
+        bytes += rows.row(place).value.bytes();
         from = place + 1;
     }
     bytes

@@ -1,9 +1,9 @@
 //! Values under keys and names.
 
-ghost use Rattle.std.specs.Prelude.{◌≡◌, ◌<◌, ◌+◌, ◌^◌, ◌++◌, ◌∷◌, [], Some, IfOk, not, filter, length, drop, position, option_map, slice_get};
+ghost use Rattle.std.specs.Prelude.{◌≡◌, ◌<◌, ◌+◌, ◌^◌, ◌++◌, ◌∷◌, [], Some, IfOk, not, filter, length, drop, position, option_copied, option_map, slice_get};
 ghost use Rattle.std.specs.Borrow.{sem};
 ghost use Rattle.std.specs.Option.{IfSome};
-ghost use Rattle.sw_index.specs.Named.{Fits, is_at, is_of, named_row, named_rows, values};
+ghost use Rattle.sw_index.specs.Named.{Fits, is_asked, is_at, is_of, named_row, named_rows, values};
 
 use crate::row::{Row, drop_asked, first_asked, mark_of};
 use crate::slots::{Mark, Slots, put_mark, take_marks};
@@ -129,8 +129,28 @@ impl<V> Named<V> {
         ensures low { IfSome result (λ place. place < length self.now.rows) }
         ensures few { length self.now.rows < 2 ^ 32 }
     {
+        self.next_asked(key, None, from)
+    }
+
+    /// The place of the first row of a key and a name at `from` or behind it; it takes no memory.
+    pub fn next_named(&self, key: &Text, name: &Text, from: usize) -> Option<usize>
+        ensures place { result ≡ option_map (λ place. from + place)
+            (position (is_at key.now name.now) (drop from self.now.rows)) }
+        ensures low { IfSome result (λ place. place < length self.now.rows) }
+        ensures few { length self.now.rows < 2 ^ 32 }
+    {
+        self.next_asked(key, Some(name), from)
+    }
+
+    // The place of the first row of a key, or of a key and a name, at `from` or behind it.
+    fn next_asked(&self, key: &Text, name: Option<&Text>, from: usize) -> Option<usize>
+        ensures place { result ≡ option_map (λ place. from + place)
+            (position (is_asked key.now (option_copied name.entry)) (drop from self.now.rows)) }
+        ensures low { IfSome result (λ place. place < length self.now.rows) }
+        ensures few { length self.now.rows < 2 ^ 32 }
+    {
         let number = self.rows.number(from)?;
-        first_asked(&self.rows, &self.slots, key, None, number - 1)
+        first_asked(&self.rows, &self.slots, key, name, number - 1)
     }
 
     /// The row at a place; it takes no memory.
