@@ -34,7 +34,7 @@ class Run {
     this.line++;
     const entry = readLine(line);
     if (entry === null || entry.error !== undefined) throw new Refused(STATUS.line, `transcript: line ${this.line}: it is no line of one`);
-    if (entry.end !== undefined) return;
+    if (entry.end !== undefined || entry.usage !== undefined) return;
     if (entry.by === "handler") this.call(entry);
     if (entry.by === "lane") this.act(entry);
     if (entry.event === "restarted") this.restore(entry.answer.registrations);

@@ -142,4 +142,6 @@ export const EVENTS = new Map(Object.entries({
   installed: leads({}, installed),
   tryactivate: (state, { of }) => { rowOf(state.registrations, of.registration).owed = null; },
   activated: (state, { of }) => { rowOf(state.workers, of.worker).handler = null; },
+  // (its notices tell what it does)
+  forget() {},
 }));

@@ -4,8 +4,8 @@
 //   new State(recording, kept)  before the first line; kept is what the disk keeps (lib/kept.mjs), or null for nothing
 //   follow(line)                goes on by one line; refused where the line can't stand there
 //
-// After each line it has `line` (their count), `end` (the last line as lib/transcript.mjs reads it, once it came), and
-// these rows, which live on:
+// After each line it has `line` (their count), `end` and `usage` (the last lines as lib/transcript.mjs reads them, once they
+// came), and these rows, which live on:
 //   registrations  number, key, scope, mapped, unmapped (a line), workers, owed (the line since which it is owed a Try
 //                  Activate)
 //   workers        number, registration, script, recorded (its fetch line), state, skip (a line), handler, fault, states
@@ -31,6 +31,7 @@ export class State {
     this.kept = kept ?? { registrations: [], caches: [] };
     this.line = 0;
     this.end = null;
+    this.usage = null;
     this.registrations = [];
     this.workers = [];
     this.jobs = [];
@@ -46,8 +47,10 @@ export class State {
     this.line++;
     const entry = readLine(line);
     try {
-      if (entry === null || entry.error !== undefined || this.end !== null) throw new Unfollowed();
-      if (entry.end !== undefined) this.end = entry;
+      const isUsage = entry?.usage !== undefined;
+      if (entry === null || entry.error !== undefined || isUsage !== (this.end !== null) || this.usage !== null) throw new Unfollowed();
+      if (isUsage) this.usage = entry;
+      else if (entry.end !== undefined) this.end = entry;
       else this.happen(entry);
     } catch (fault) {
       if (!(fault instanceof Unfollowed)) throw fault;

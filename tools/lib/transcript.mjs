@@ -6,12 +6,13 @@
 //
 // An entry is { by, .., event, of, answer, notices }, with `of` at the host's events alone:
 //   by "lane" with lane and at, by "handler" with worker, phase and call, or by "host"
-//   of         { job }, { registration }, { worker } or { task }
+//   of         { job }, { registration }, { worker }, { task }, or { key } where the host forgets one
 //   answer     a word, true or false, or { worker }, { registration }, { job }, { job, joined }, { task }, { fetch },
 //              { registrations, caches }, { hit: { cache, place, status, length } }, { preload: { enabled, value } },
 //              { count, first } with the first members of a list, or { fault, cause, index }
 //   notices    { notice, .. } each, with what it is about: registration, worker and state, client, or job and value
-// The last line is { end, lane } or { end, refused }; a refusal is { error, line }.
+// The last line is { end, lane } or { end, refused }, and behind a run within a limit { usage, limit }; a refusal is
+// { error, line }.
 import { isDeepStrictEqual } from "node:util";
 
 const QUOTED = /"(?:[^"\\]|\\.)*"/g;
@@ -89,7 +90,7 @@ function entry(maker, event, of, answer) {
   return {
     ...oneOf(maker, MAKERS),
     event,
-    ...(of !== undefined && { of: oneOf(of, [THING]) }),
+    ...(of !== undefined && { of: oneOf(of, [THING, [/^(".*")$/, (quoted) => ({ key: JSON.parse(quoted) })]]) }),
     answer: oneOf(first, ANSWERS),
     notices: notices.map((notice) => oneOf(notice, NOTICES)),
   };
@@ -98,10 +99,11 @@ function entry(maker, event, of, answer) {
 const LINES = [
   [/^end (done|spent)$/, (end) => ({ end })],
   [/^end (stalled) (\d+)$/, (end, lane) => ({ end, lane: Number(lane) })],
-  [/^end (disk|full)(?: (.+))?$/, (end, refused) => ({ end, refused: refused === undefined ? [] : refused.split(", ") })],
+  [/^end (disk|full)(?: (.+))?$/, (end, refused) => ({ end, refused: refused === undefined ? [] : split(refused, ", ") })],
+  [/^usage (\d+) of (\d+)$/, (usage, limit) => ({ usage: Number(usage), limit: Number(limit) })],
   [/^error: line (\d+): (.+)$/, (line, error) => ({ error, line: Number(line) })],
   [/^error: (.+)$/, (error) => ({ error })],
-  [/^(\S+) ([A-Za-z]+)(?: ([wrja]\d+))? -> (.+)$/, entry],
+  [/^(\S+) ([A-Za-z]+)(?: ([wrja]\d+|"(?:[^"\\]|\\.)*"))? -> (.+)$/, entry],
 ];
 
 // ---- and back
@@ -140,6 +142,10 @@ function noticeText(notice) {
   }
 }
 
+function ofText(of) {
+  return "key" in of ? JSON.stringify(of.key) : numbered(of);
+}
+
 function makerText({ by, lane, at, worker, phase, call }) {
   if (by === "host") return "-";
   return by === "lane" ? `L${lane}.${at}` : `w${worker}.${phase}.${call}`;
@@ -147,8 +153,9 @@ function makerText({ by, lane, at, worker, phase, call }) {
 
 function lineText(line) {
   if ("end" in line) return joined("end", line.end, line.lane, line.refused?.length > 0 ? line.refused.join(", ") : undefined);
+  if ("usage" in line) return `usage ${line.usage} of ${line.limit}`;
   if ("error" in line) return `error: ${"line" in line ? `line ${line.line}: ` : ""}${line.error}`;
-  const event = joined(makerText(line), line.event, line.of && numbered(line.of));
+  const event = joined(makerText(line), line.event, line.of && ofText(line.of));
   return `${event} -> ${[answerText(line.answer), ...line.notices.map(noticeText)].join(" | ")}`;
 }
 

@@ -1,3 +1,4 @@
+pub mod BoundLemmas
 pub mod EndLemmas
 pub mod GenLemmas
 pub mod NumberLemmas

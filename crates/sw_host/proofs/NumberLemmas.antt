@@ -1,5 +1,5 @@
--- Of all commands `roster` alone ends for want of a number for an entry.
-use Rattle.std.proofs.Common.{◌≡◌, inl, inr, ℕ, List, Option, Some, None, Result, Ok, Err, refl, subst}
+-- Of all commands `roster` and `quota` alone end for want of a number for an entry.
+use Rattle.std.proofs.Common.{◌≡◌, ◌⊎◌, inl, inr, ℕ, List, Option, Some, None, Result, Ok, Err, refl, subst}
 use Rattle.sw_audit.specs.declared.verdicts.Verdict.{Verdict}
 use Rattle.sw_audit.specs.declared.verdicts.Verdict.TheVariants as verdict
 use Rattle.sw_data.specs.declared.recordings.Recording.{Recording}
@@ -93,7 +93,8 @@ module _ (text : List ℕ) where
       neither limit large Then Alone never (inl (bytes, read, is)) = never bytes is
       neither limit large Then Alone never (inr (is, alone)) = unread limit large is
 
-      by_command : (wanted : Command) → Stands disk old new left before now wanted status.NoEntryLeft text → wanted ≡ command.Roster
+      by_command : (wanted : Command) → Stands disk old new left before now wanted status.NoEntryLeft text
+          → (wanted ≡ command.Roster) ⊎ ((limit : ℕ) × (wanted ≡ command.Quota limit))
       by_command command.Init stood = absurd stood.0
       by_command (command.Replay workers) stood =
           absurd (neither RECORDING_LIMIT (refusal_text status.TooLarge) (Replays disk old new workers) (new ≡ old)
@@ -101,17 +102,19 @@ module _ (text : List ℕ) where
       by_command (command.Watch workers) stood =
           absurd (neither RECORDING_LIMIT (refusal_text status.TooLarge) (Watches disk old new workers) (new ≡ old)
           (λ bytes is. unwatched workers (watched_of bytes) is) stood)
+      by_command (command.Quota limit) stood = inr (limit, refl)
       by_command command.Show stood = absurd (unkept IsShown unshown stood)
       by_command (command.Gen number size) stood = absurd (unrun stood.0.ended stood.0.ends)
       by_command command.Imports stood =
           absurd (neither RECORDING_LIMIT (refusal_text status.TooLarge) Checks (Unit {0}) (λ bytes is. unchecked (imports_of bytes) is) stood.0)
       by_command command.Audit stood =
           absurd (neither 67108864 large_source_text (Audits disk old new) (new ≡ old) (λ bytes is. undivided (division bytes) is) stood)
-      by_command command.Roster stood = refl
+      by_command command.Roster stood = inl refl
       by_command command.Help (page, alone) = let is = page.0 in absurd cc
       by_command command.Version (page, alone) = let is = page.0 in absurd cc
       by_command command.Unknown (is, same, alone) = absurd cc
 
-      pub of_roster : (wanted : Command) (outcome : Status) → outcome ≡ status.NoEntryLeft → Stands disk old new left before now wanted outcome text → wanted ≡ command.Roster
-      of_roster wanted outcome is stood =
+      pub of_entries : (wanted : Command) (outcome : Status) → outcome ≡ status.NoEntryLeft → Stands disk old new left before now wanted outcome text
+          → (wanted ≡ command.Roster) ⊎ ((limit : ℕ) × (wanted ≡ command.Quota limit))
+      of_entries wanted outcome is stood =
           by_command wanted (subst (λ (s : Status). Stands disk old new left before now wanted s text) is stood)

@@ -1,3 +1,4 @@
+pub mod Bounding
 pub mod Generating
 pub mod Reading
 pub mod Runs

@@ -3,6 +3,7 @@ use Rattle.std.specs.Prelude.{◌≡◌, ◌⊎◌, ◌+◌, ◌≤◌, ◌<◌,
 use Rattle.sw_audit.specs.Accepted.{Says}
 use Rattle.sw_audit.specs.declared.verdicts.Verdict.{Verdict}
 use Rattle.sw_audit.specs.declared.verdicts.Verdict.TheVariants as verdict
+use Rattle.sw_bounded.specs.declared.ends.BoundedEnd.{BoundedEnd}
 use Rattle.sw_data.specs.declared.histories.Entry.{Entry}
 use Rattle.sw_data.specs.declared.recordings.Recording.{Recording}
 use Rattle.sw_data.specs.declared.storage.Kept.{Kept}
@@ -18,6 +19,7 @@ use Rattle.sw_host.specs.declared.statuses.Status.{Status}
 use Rattle.sw_host.specs.declared.statuses.Status.TheVariants as status
 use Rattle.sw_host.specs.Generating.{HasGenerated}
 use Rattle.sw_host.specs.Reading.{IsRead, ReadsThen, RefusedAs}
+use Rattle.sw_host.specs.Bounding.{EndedWithin, EndsBounded, bounded_text}
 use Rattle.sw_host.specs.Runs.{EndsAs, last_of}
 use Rattle.sw_host.specs.Watching.{EndsWatched, asked_of}
 use Rattle.sw_host.specs.Texts.{bad_journal_text, help_text, large_source_text, refusal_text, version_text}
@@ -89,6 +91,11 @@ abbrev pub WatchesOn : {D : Type 0} → Ghosts D → (old new : D) → ℕ → R
 WatchesOn disk old new workers recording asked outcome text =
     EndsWatched disk old new workers recording asked outcome text ⊎ RefusesDisk disk old new outcome text
 
+-- own: a recording is run under a limit on a disk with this status and text, or the disk is refused
+abbrev pub BoundsOn : {D : Type 0} → Ghosts D → (old new : D) → ℕ → Recording → Status → List ℕ → Type 0
+BoundsOn disk old new limit recording outcome text =
+    EndsBounded disk old new limit recording outcome text ⊎ RefusesDisk disk old new outcome text
+
 -- ---- bytes that were read
 
 -- what was read is reported with this status and text; a disk on which no recording is run is left alone
@@ -109,6 +116,15 @@ WatchedAs disk old new workers (Err why) outcome text = RefusedAs why outcome te
 -- bytes are replayed with the look-ups among them by so many workers on a disk with this status and text
 abbrev pub Watches : {D : Type 0} → Ghosts D → (old new : D) → ℕ → List ℕ → Status → List ℕ → Type 0
 Watches disk old new workers bytes outcome text = WatchedAs disk old new workers (watched_of bytes) outcome text
+
+-- the same of a recording that is run under a limit
+abbrev pub BoundedAs : {D : Type 0} → Ghosts D → (old new : D) → ℕ → Result Recording RecordingError → Status → List ℕ → Type 0
+BoundedAs disk old new limit (Ok recording) outcome text = BoundsOn disk old new limit recording outcome text
+BoundedAs disk old new limit (Err why) outcome text = RefusedAs why outcome text × (new ≡ old)
+
+-- bytes are run under a limit on a disk with this status and text
+abbrev pub Bounds : {D : Type 0} → Ghosts D → (old new : D) → ℕ → List ℕ → Status → List ℕ → Type 0
+Bounds disk old new limit bytes outcome text = BoundedAs disk old new limit (recording_of bytes) outcome text
 
 -- ---- the commands
 
@@ -267,6 +283,8 @@ Stands disk old new left before now (command.Replay workers) outcome text =
     ReplaysSource disk old new workers left before now outcome text
 Stands disk old new left before now (command.Watch workers) outcome text =
     ReadsThen RECORDING_LIMIT (refusal_text status.TooLarge) left before now (Watches disk old new workers) (new ≡ old) outcome text
+Stands disk old new left before now (command.Quota limit) outcome text =
+    ReadsThen RECORDING_LIMIT (refusal_text status.TooLarge) left before now (Bounds disk old new limit) (new ≡ old) outcome text
 Stands disk old new left before now command.Show outcome text = Shows disk old new outcome text
 Stands disk old new left before now (command.Gen number size) outcome text =
     HasGenerated number size outcome text × (new ≡ old)
@@ -298,6 +316,18 @@ LeavesAfterLooks disk old new workers bytes =
     (new ≡ old)
     ⊎ ((watched : WatchedRecording) × (watched_of bytes ≡ Ok watched) × IsLeftAfter disk old new workers watched.recording)
 
+-- own: where there was no memory, a recording has left a disk that was not opened to its end, or on which some run under the limit was
+-- made
+abbrev pub IsLeftBounded : {D : Type 0} → Ghosts D → (old new : D) → ℕ → Recording → Type 0
+IsLeftBounded disk old new limit recording =
+    IsUnopened disk old new
+    ⊎ ((base : Kept) × (history : List Entry) × (ended : BoundedEnd) × EndedWithin disk old new limit recording base history ended)
+
+-- own: the same of bytes that are run under a limit
+abbrev pub LeavesAfterBound : {D : Type 0} → Ghosts D → (old new : D) → ℕ → List ℕ → Type 0
+LeavesAfterBound disk old new limit bytes =
+    (new ≡ old) ⊎ ((recording : Recording) × (recording_of bytes ≡ Ok recording) × IsLeftBounded disk old new limit recording)
+
 -- own: what is left of the disk where there was no memory
 abbrev pub LeavesWithoutMemory : {D : Type 0} → Ghosts D → (old new : D) → Option (List ℕ) → Command → Type 0
 LeavesWithoutMemory disk old new left command.Init = IsLeftAlone disk old new × LeavesOthers disk old new
@@ -305,6 +335,8 @@ LeavesWithoutMemory disk old new left (command.Replay workers) =
     (new ≡ old) ⊎ ((bytes : List ℕ) × IsRead RECORDING_LIMIT left bytes × LeavesAfterBytes disk old new workers bytes)
 LeavesWithoutMemory disk old new left (command.Watch workers) =
     (new ≡ old) ⊎ ((bytes : List ℕ) × IsRead RECORDING_LIMIT left bytes × LeavesAfterLooks disk old new workers bytes)
+LeavesWithoutMemory disk old new left (command.Quota limit) =
+    (new ≡ old) ⊎ ((bytes : List ℕ) × IsRead RECORDING_LIMIT left bytes × LeavesAfterBound disk old new limit bytes)
 LeavesWithoutMemory disk old new left command.Show = IsQuiet disk old new
 LeavesWithoutMemory disk old new left (command.Gen number size) = new ≡ old
 LeavesWithoutMemory disk old new left command.Imports = new ≡ old
@@ -325,3 +357,14 @@ pub record HasEnded {D : Type 0} (disk : Ghosts D) (old new : D) (workers : ℕ)
   pub is_recording : recording_of bytes ≡ Ok recording
   pub run : Ended disk old new workers recording base history ended
   pub printed : text ≡ transcript history (last_of ended)
+
+-- own: the source's bytes are a recording, which was run on the disk under a limit to this end, and the text is that of its history
+pub record HasEndedWithin {D : Type 0} (disk : Ghosts D) (old new : D) (limit : ℕ) (left : Option (List ℕ)) (ended : BoundedEnd) (text : List ℕ) : Type 0 where
+  pub bytes : List ℕ
+  pub recording : Recording
+  pub base : Kept
+  pub history : List Entry
+  pub is_read : IsRead RECORDING_LIMIT left bytes
+  pub is_recording : recording_of bytes ≡ Ok recording
+  pub run : EndedWithin disk old new limit recording base history ended
+  pub printed : text ≡ bounded_text limit base history ended

@@ -40,7 +40,9 @@ by_workers word workers =
 
 -- the command that is two words
 abbrev pub two_words : List ℕ → List ℕ → Command
-two_words word workers = option_map_or (by_workers word) (number_within 1 16 workers) command.Unknown
+two_words word number =
+    if bytes_eq word (codes "quota") then option_map_or command.Quota (number_of number) command.Unknown
+    else option_map_or (by_workers word) (number_within 1 16 number) command.Unknown
 
 -- the command of a number and a size
 abbrev pub gen_of : Option ℕ → Option ℕ → Command
@@ -64,6 +66,7 @@ command_of (word ∷ first ∷ second ∷ third ∷ rest) = command.Unknown
 abbrev pub reads_source : Command → Bool
 reads_source (command.Replay workers) = true
 reads_source (command.Watch workers) = true
+reads_source (command.Quota limit) = true
 reads_source command.Imports = true
 reads_source command.Audit = true
 reads_source command.Roster = true
@@ -79,6 +82,7 @@ abbrev pub needs_disk : Command → Bool
 needs_disk command.Init = true
 needs_disk (command.Replay workers) = true
 needs_disk (command.Watch workers) = true
+needs_disk (command.Quota limit) = true
 needs_disk command.Show = true
 needs_disk command.Audit = true
 needs_disk _ = false

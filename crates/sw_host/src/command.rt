@@ -1,7 +1,7 @@
 //! The words.
 
 ghost use Rattle.std.specs.Prelude.{◌≡◌, ◌≤◌, IfSome};
-ghost use Rattle.sw_host.specs.Words.{AreWithin, command_of, needs_disk, number_of, number_within, one_word, three_words, two_words};
+ghost use Rattle.sw_host.specs.Words.{AreWithin, by_workers, command_of, needs_disk, number_of, number_within, one_word, three_words, two_words};
 
 use itoa::Buffer;
 
@@ -14,6 +14,8 @@ pub enum Command {
     Replay(u32),
     /// The same, with look-ups beside the lock.
     Watch(u32),
+    /// Runs a recording on the disk by one worker, and forgets keys while what is kept takes more bytes than these.
+    Quota(u32),
     /// Prints what the disk keeps.
     Show,
     /// Runs the generated recording of this number and size on a disk of its own.
@@ -92,20 +94,36 @@ fn one_word(word: &str) -> Command
     }
 }
 
-// The command that is two words.
-fn two_words(word: &str, workers: &str) -> Command
-    ensures command { result ≡ two_words word.now workers.now }
+// The command of a word and so many workers.
+fn by_workers(word: &str, workers: u32) -> Command
+    requires some { 1 ≤ workers }
+    requires few { workers ≤ 16 }
+    ensures command { result ≡ by_workers word.now workers }
     ensures within { AreWithin result }
 {
-    let Some(workers) = number_within(workers, 1, 16) else {
-        return Command::Unknown;
-    };
     if word == "replay" {
         Command::Replay(workers)
     } else if word == "watch" {
         Command::Watch(workers)
     } else {
         Command::Unknown
+    }
+}
+
+// The command that is two words.
+fn two_words(word: &str, number: &str) -> Command
+    ensures command { result ≡ two_words word.now number.now }
+    ensures within { AreWithin result }
+{
+    if word == "quota" {
+        return match number_of(number) {
+            Some(limit) => Command::Quota(limit),
+            None => Command::Unknown,
+        };
+    }
+    match number_within(number, 1, 16) {
+        Some(workers) => by_workers(word, workers),
+        None => Command::Unknown,
     }
 }
 
@@ -130,7 +148,7 @@ pub(crate) fn command_of(words: &[String]) -> Command
 {
     match words {
         [word] => one_word(word.as_str()),
-        [word, workers] => two_words(word.as_str(), workers.as_str()),
+        [word, number] => two_words(word.as_str(), number.as_str()),
         [word, number, size] => three_words(word.as_str(), number.as_str(), size.as_str()),
         _ => Command::Unknown,
     }
@@ -142,6 +160,11 @@ pub fn needs_disk(words: &[String]) -> bool
 {
     matches!(
         command_of(words),
-        Command::Init | Command::Replay(_) | Command::Watch(_) | Command::Show | Command::Audit
+        Command::Init
+            | Command::Replay(_)
+            | Command::Watch(_)
+            | Command::Quota(_)
+            | Command::Show
+            | Command::Audit
     )
 }

@@ -23,7 +23,7 @@ use sw_store::{OpenError, Store};
 use sw_turns::{DriveEnd, Progress};
 
 // The events of entries.
-fn events_of(alloc: Global, entries: Vec<Entry>) -> Result<Items<Event>, NoMemory>
+pub(crate) fn events_of(alloc: Global, entries: Vec<Entry>) -> Result<Items<Event>, NoMemory>
     ensures { IfOk result (λ events. events ≡ map (λ entry. entry.event) entries.items) }
 {
     let mut events = Items::new(alloc);

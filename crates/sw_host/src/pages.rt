@@ -19,6 +19,8 @@ Commands:
                            left out), and prints the transcript
   swhost watch N           does the same by N workers while one thread more answers the look-ups
                            among its lines, and prints what each of them found
+  swhost quota BYTES       replays by one worker, and forgets keys, the least recently used first,
+                           while what is kept takes more than BYTES, 0 to 4294967295
   swhost show              prints the registrations and caches that the disk keeps
   swhost gen NUMBER SIZE   runs a generated recording on a disk in memory, and prints its counts;
                            NUMBER is 0 to 4294967295, SIZE 1 to 4096
@@ -42,7 +44,8 @@ Statuses. What is printed goes to standard output, a refusal too.
    3  a line of the recording is bad     10  a limit is passed
    4  reading failed                     11  the disk has no room
    5  writing failed                     12  init: the disk is formatted already
-   6  the disk failed                    13  a worker has made 2^40 turns, or a roster 2^32 entries
+   6  the disk failed                    13  a worker has made 2^40 turns, or
+                                             roster or quota 2^32 entries
                                          15  audit: no such transcript
                                          16  audit: no line %% in the source
 

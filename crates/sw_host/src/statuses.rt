@@ -40,7 +40,7 @@ pub enum Status {
     Refuted,
     /// No line of the source divides a recording from a transcript.
     NoTranscript,
-    /// A roster has made as many entries as it makes, and one more comes next.
+    /// A roster, or a run under a limit, has made as many entries as it makes, and one more comes next.
     NoEntryLeft,
 }
 

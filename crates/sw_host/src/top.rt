@@ -2,11 +2,12 @@
 
 ghost use Rattle.std.specs.Prelude.{◌≡◌, ◌≢◌, ◌⊎◌, ◌+◌, ◌≤◌, ℕ, List, Some, true, false, IfOk, OnErr};
 ghost use Rattle.std.specs.Io.KnownBytes.{IsAtEnd};
+ghost use Rattle.sw_bounded.specs.declared.ends.BoundedEnd.TheVariants as bounded_end;
 ghost use Rattle.sw_data.specs.Faults.{Rose};
 ghost use Rattle.sw_data.specs.Streams.{ConsumesSome};
 ghost use Rattle.sw_host.specs.declared.command.Command.TheVariants as command;
 ghost use Rattle.sw_host.specs.Reading.{ReadsThen};
-ghost use Rattle.sw_host.specs.Stands.{Audits, Checks, HasEnded, HasReadAll, LeavesAfterBytes, LeavesWithoutMemory, Plays, Replays, ReplaysSource, Stands, Watches};
+ghost use Rattle.sw_host.specs.Stands.{Audits, Bounds, Checks, HasEnded, HasEndedWithin, HasReadAll, LeavesAfterBytes, LeavesWithoutMemory, Plays, Replays, ReplaysSource, Stands, Watches};
 ghost use Rattle.sw_host.specs.Texts.{large_source_text, refusal_text};
 ghost use Rattle.sw_host.specs.Words.{command_of, needs_disk, reads_source, source_limit};
 ghost use Rattle.sw_journal.specs.Quiet.{IsQuiet};
@@ -15,6 +16,7 @@ ghost use Rattle.sw_lock.specs.declared.pass.Spent.{Spent};
 ghost use Rattle.sw_turns.specs.declared.ends.DriveEnd.TheVariants as drive_end;
 
 use crate::auditing::audit_bytes;
+use crate::bounding::bound;
 use crate::checking::check_bytes;
 use crate::command::{Command, command_of};
 use crate::ending::{reported, take_up};
@@ -48,13 +50,15 @@ pub struct Outcome<D> {
 
 /// Does what the words say: `init` formats the disk; `replay` reads a recording from the source to its end, runs it on the
 /// disk by one worker, or by as many as the word behind it says, and writes the transcript to the sink; `watch` does so with
-/// look-ups beside the lock, and writes what each found behind the transcript; `show` writes what
-/// the disk keeps; `gen` writes what comes of a generated recording that one worker runs on a disk of its own; `imports`
-/// reads a recording of scripts and writes what each check of their imports comes to; `roster` reads the lines of one lane
-/// and what is asked of its clients, and writes what comes of them from no content; `audit` reads a recording and a
-/// transcript, and writes whether a host that has kept what the disk keeps may print it for the recording; `--help` writes
-/// how the program is called, and `--version` its name and version. `show` and `audit` write nothing to the disk, and
-/// `gen`, `imports`, `roster` and the last two leave it alone.
+/// look-ups beside the lock, and writes what each found behind the transcript; `quota` runs a recording by one worker, while
+/// the host forgets the least recently used key that may go as often as what is kept takes more bytes than the word behind
+/// it says, and writes what is used behind the transcript; `show` writes what the disk keeps; `gen` writes what comes of a
+/// generated recording that one worker runs on a disk of its own; `imports` reads a recording of scripts and writes what
+/// each check of their imports comes to; `roster` reads the lines of one lane and what is asked of its clients, and writes
+/// what comes of them from no content; `audit` reads a recording and a transcript, and writes whether a host that has kept
+/// what the disk keeps may print it for the recording; `--help` writes how the program is called, and `--version` its name
+/// and version. `show` and `audit` write nothing to the disk, and `gen`, `imports`, `roster` and the last two leave it
+/// alone.
 ///
 /// Workers take turns under a lock, and pass the gate with what they fetch between their turns. Whatever their
 /// number, a run has one history, which holds the calls of each lane in order, each once; how the lanes follow one another
@@ -102,9 +106,23 @@ pub fn run<R: Threads + Wait + Sync, S: Source, K: Sink, D: Disk + Send, G: Gate
         (S.faults source.old) (S.faults source.new) (command_of words.now) result.status text
         × Takes K.Sink sink.old sink.new text }
 
-    // Of all words `roster` alone ends for want of a number for an entry.
+    // The same of a run under a limit, after which nothing comes next: nothing is left to do, or nothing may happen; and either
+    // what is kept is within the limit, or the host may forget nothing of it.
+    ensures done_within { result.status ≡ Status.Done
+        → (limit : ℕ) → command_of words.now ≡ command.Quota limit → (text : List ℕ)
+        × HasEndedWithin D.Disk disk result.disk limit (S.left source.old) bounded_end.Done text
+        × Takes K.Sink sink.old sink.new text }
+    ensures stalled_within { result.status ≡ Status.Stalled
+        → (limit : ℕ) → command_of words.now ≡ command.Quota limit
+        → (text : List ℕ) × (lane : ℕ)
+        × HasEndedWithin D.Disk disk result.disk limit (S.left source.old)
+        (bounded_end.Stalled lane) text
+        × Takes K.Sink sink.old sink.new text }
+
+    // Of all words `roster` and `quota` alone end for want of a number for an entry.
     ensures numbered { result.status ≡ Status.NoEntryLeft
-        → command_of words.now ≡ command.Roster }
+        → (command_of words.now ≡ command.Roster)
+        ⊎ ((limit : ℕ) × (command_of words.now ≡ command.Quota limit)) }
 
     // The sink failed, and took a first part of the text that stood.
     ensures write_fault { result.status ≡ Status.WriteFault
@@ -200,6 +218,7 @@ fn report_of<R: Threads + Wait + Sync, S: Source, D: Disk + Send, G: Gate + Sync
         Command::Init => (format(alloc, &mut disk), disk),
         Command::Replay(workers) => read(rt, alloc, source, workers, disk, gate),
         Command::Watch(workers) => read_watch(rt, alloc, source, workers, disk, gate),
+        Command::Quota(limit) => read_bound(alloc, source, limit, disk),
         Command::Show => (show(alloc, &mut disk), disk),
         Command::Gen(number, size) => (run_generated(alloc, number, size), disk),
         Command::Imports => (read_checks(alloc, source), disk),
@@ -260,6 +279,29 @@ fn read_watch<R: Threads + Wait + Sync, S: Source, D: Disk + Send, G: Gate + Syn
 {
     match bytes_of(alloc, source, RECORDING_LIMIT, Status::TooLarge.refusal()) {
         Ok(bytes) => watch(rt, alloc, bytes, workers, disk, gate),
+        Err(unread) => (unread, disk),
+    }
+}
+
+// The report of a recording that is read from the source and run under a limit, and the disk.
+fn read_bound<S: Source, D: Disk>(
+    alloc: Global,
+    source: &mut S,
+    limit: u32,
+    disk: D,
+) -> (Result<Report, NoMemory>, D)
+    ensures bounds { IfOk result.0 (λ report. ReadsThen RECORDING_LIMIT (refusal_text Status.TooLarge)
+        (S.left source.old) (S.faults source.old) (S.faults source.new)
+        (Bounds D.Disk disk result.1 limit) (result.1 ≡ disk) report.status report.text) }
+    ensures no_memory { OnErr result.0 (LeavesWithoutMemory D.Disk disk result.1
+        (S.left source.old) (command.Quota limit)) }
+    ensures reads { S.reads source.new ≤ S.reads source.old + (RECORDING_LIMIT + 2) }
+    ensures consumed { ConsumesSome (S.left source.old) (S.left source.new) }
+    ensures end { IfOk result.0 (λ report. HasReadAll report.status
+        → IsAtEnd (S.left source.new)) }
+{
+    match bytes_of(alloc, source, RECORDING_LIMIT, Status::TooLarge.refusal()) {
+        Ok(bytes) => bound(alloc, bytes, limit, disk),
         Err(unread) => (unread, disk),
     }
 }

@@ -7,13 +7,14 @@ ghost use Rattle.std.specs.Io.KnownBytes.{IsAtEnd};
 ghost use Rattle.std.specs.IoError.{error_kind};
 ghost use Rattle.std.specs.Process.{exit_status};
 ghost use Rattle.std.specs.Vec.Iter.{into_iter_items};
+ghost use Rattle.sw_bounded.specs.declared.ends.BoundedEnd.TheVariants as bounded_end;
 ghost use Rattle.sw_data.specs.Faults.{Rose};
 ghost use Rattle.sw_data.specs.Streams.{ConsumesSome};
 ghost use Rattle.sw_disk.specs.Files.{has_file};
 ghost use Rattle.sw_disk.specs.declared.part.Part.{Part};
 ghost use Rattle.sw_host.specs.declared.command.Command.TheVariants as command;
 ghost use Rattle.sw_host.specs.declared.statuses.Status.{Status};
-ghost use Rattle.sw_host.specs.Stands.{HasEnded, HasReadAll, LeavesWithoutMemory, Stands};
+ghost use Rattle.sw_host.specs.Stands.{HasEnded, HasEndedWithin, HasReadAll, LeavesWithoutMemory, Stands};
 ghost use Rattle.sw_host.specs.Texts.{code_of};
 ghost use Rattle.sw_host.specs.Words.{command_of, needs_disk, reads_source, source_limit};
 ghost use Rattle.sw_io.specs.Taking.{Takes, TakesNothing, TakesPrefix};
@@ -58,6 +59,15 @@ fn ended<R: Threads + Wait + Sync, S: Source, K: Sink, D: Disk + Send, G: Gate +
         → (workers : ℕ) → command_of words.now ≡ command.Replay workers
         → (text : List ℕ) × (spent : Spent)
         × HasEnded D.Disk disk result.1 workers (S.left source.old) (drive_end.Spent spent) text
+        × Takes K.Sink sink.old sink.new text }
+    ensures done_within { exit_status result.0 ≡ 0
+        → (limit : ℕ) → command_of words.now ≡ command.Quota limit → (text : List ℕ)
+        × HasEndedWithin D.Disk disk result.1 limit (S.left source.old) bounded_end.Done text
+        × Takes K.Sink sink.old sink.new text }
+    ensures stalled_within { exit_status result.0 ≡ 9
+        → (limit : ℕ) → command_of words.now ≡ command.Quota limit
+        → (text : List ℕ) × (lane : ℕ)
+        × HasEndedWithin D.Disk disk result.1 limit (S.left source.old) (bounded_end.Stalled lane) text
         × Takes K.Sink sink.old sink.new text }
 
     // The exit status is the number of a status, which has its cause.

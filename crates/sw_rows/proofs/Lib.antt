@@ -1,4 +1,5 @@
 mod AddressRows
+mod Bounded
 mod Chosen
 mod Excluded
 mod GeneratedRows

@@ -66,7 +66,7 @@ opened changes =
     }
 
 -- one more event
-abbrev with_event : Played → Event → Outcome → Played
+abbrev pub with_event : Played → Event → Outcome → Played
 with_event played happened outcome = record {
   history = played.history ++ entry_of happened outcome ∷ [];
   state = outcome.told.state;
@@ -87,7 +87,7 @@ played recording (suc more) so_far =
     ]
 
 -- how a history has ended at which nothing is next: at the lowest lane with actions left, or done
-abbrev ending : Recording → List Entry → End
+abbrev pub ending : Recording → List Entry → End
 ending recording history =
     elim (find (λ lane. not (is_none (next_action recording history lane))) (range_with_len 0 (length recording.lanes))) [
       | Some lane ↦ end.Stalled lane

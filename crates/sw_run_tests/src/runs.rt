@@ -165,34 +165,62 @@ fn a_fault_at_a_checkpoint_is_told_of_a_watched_run(rt: HostRuntime) {
     assert!(rt; status.code() == 6 && sink.bytes() == CUT_FAILED.as_bytes());
 }
 
-const PAGE: &str =
-    "{\"fetch\":\"https://a.test/sw.js\",\"status\":200,\"headers\":[[\"Content-Type\",\"text/javascript\"]],\"text\":\"// v1\",\"install\":{\"calls\":[{\"do\":\"cacheOpen\",\"name\":\"v1\"},{\"do\":\"addAll\",\"name\":\"v1\",\"requests\":[\"/\",\"/app.css\"]}]}}\n{\"fetch\":\"https://a.test/\",\"status\":200,\"text\":\"<p>hi\"}\n{\"fetch\":\"https://a.test/app.css\",\"status\":200,\"text\":\"p{}\"}\n{\"lane\":0,\"do\":\"open\",\"client\":1,\"url\":\"https://a.test/\"}\n{\"lane\":0,\"do\":\"register\",\"client\":1,\"script\":\"/sw.js\"}\n{\"lane\":0,\"do\":\"await\",\"of\":1}\n{\"lane\":0,\"do\":\"ready\",\"client\":1}\n{\"lane\":0,\"do\":\"match\",\"at\":\"https://a.test/\",\"request\":\"/app.css\"}\n";
+// A recording, the lines of the entries that change what is kept, in order, and what is shown before the first of these and
+// after each.
+struct Kept {
+    lines: &'static str,
+    changing: &'static [&'static str],
+    shown: &'static [&'static str],
+}
 
-// The lines of the entries that change what is kept, in order.
-const CHANGING: [&str; 5] = [
-    "cacheOpen -> made",
-    "added a0 -> ok",
-    "installed j0 -> ok",
-    "tryactivate r0 -> w0",
-    "activated w0 -> ok",
-];
+const PAGE: Kept = Kept {
+    lines: "{\"fetch\":\"https://a.test/sw.js\",\"status\":200,\"headers\":[[\"Content-Type\",\"text/javascript\"]],\"text\":\"// v1\",\"install\":{\"calls\":[{\"do\":\"cacheOpen\",\"name\":\"v1\"},{\"do\":\"addAll\",\"name\":\"v1\",\"requests\":[\"/\",\"/app.css\"]}]}}\n{\"fetch\":\"https://a.test/\",\"status\":200,\"text\":\"<p>hi\"}\n{\"fetch\":\"https://a.test/app.css\",\"status\":200,\"text\":\"p{}\"}\n{\"lane\":0,\"do\":\"open\",\"client\":1,\"url\":\"https://a.test/\"}\n{\"lane\":0,\"do\":\"register\",\"client\":1,\"script\":\"/sw.js\"}\n{\"lane\":0,\"do\":\"await\",\"of\":1}\n{\"lane\":0,\"do\":\"ready\",\"client\":1}\n{\"lane\":0,\"do\":\"match\",\"at\":\"https://a.test/\",\"request\":\"/app.css\"}\n",
+    changing: &[
+        "cacheOpen -> made",
+        "added a0 -> ok",
+        "installed j0 -> ok",
+        "tryactivate r0 -> w0",
+        "activated w0 -> ok",
+    ],
+    shown: &[
+        "registrations 0\ncaches 0\n",
+        "registrations 0\ncaches 1\ncache \"https://a.test\" \"v1\" 0\n",
+        "registrations 0\ncaches 1\ncache \"https://a.test\" \"v1\" 2\n",
+        "registrations 1\nregistration \"https://a.test\" \"https://a.test/\" imports\n waiting installed \"https://a.test/sw.js\" classic 5\ncaches 1\ncache \"https://a.test\" \"v1\" 2\n",
+        "registrations 1\nregistration \"https://a.test\" \"https://a.test/\" imports\n active activating \"https://a.test/sw.js\" classic 5\ncaches 1\ncache \"https://a.test\" \"v1\" 2\n",
+        "registrations 1\nregistration \"https://a.test\" \"https://a.test/\" imports\n active activated \"https://a.test/sw.js\" classic 5\ncaches 1\ncache \"https://a.test\" \"v1\" 2\n",
+    ],
+};
 
-// What is shown before the first of these, and after each.
-const SHOWN: [&str; 6] = [
-    "registrations 0\ncaches 0\n",
-    "registrations 0\ncaches 1\ncache \"https://a.test\" \"v1\" 0\n",
-    "registrations 0\ncaches 1\ncache \"https://a.test\" \"v1\" 2\n",
-    "registrations 1\nregistration \"https://a.test\" \"https://a.test/\" imports\n waiting installed \"https://a.test/sw.js\" classic 5\ncaches 1\ncache \"https://a.test\" \"v1\" 2\n",
-    "registrations 1\nregistration \"https://a.test\" \"https://a.test/\" imports\n active activating \"https://a.test/sw.js\" classic 5\ncaches 1\ncache \"https://a.test\" \"v1\" 2\n",
-    "registrations 1\nregistration \"https://a.test\" \"https://a.test/\" imports\n active activated \"https://a.test/sw.js\" classic 5\ncaches 1\ncache \"https://a.test\" \"v1\" 2\n",
-];
+// Within a limit of 24 bytes each cache takes the place of the one before.
+const FORGOTTEN: Kept = Kept {
+    lines: "{\"lane\":0,\"do\":\"cacheOpen\",\"at\":\"https://a.test/\",\"name\":\"v\"}\n{\"lane\":0,\"do\":\"cacheOpen\",\"at\":\"https://b.test/\",\"name\":\"v\"}\n{\"lane\":0,\"do\":\"cacheOpen\",\"at\":\"https://a.test/\",\"name\":\"w\"}\n",
+    changing: &[
+        "L0.0 cacheOpen -> made",
+        "L0.1 cacheOpen -> made",
+        "- forget \"https://a.test\" -> ok",
+        "L0.2 cacheOpen -> made",
+        "- forget \"https://b.test\" -> ok",
+    ],
+    shown: &[
+        "registrations 0\ncaches 0\n",
+        "registrations 0\ncaches 1\ncache \"https://a.test\" \"v\" 0\n",
+        "registrations 0\ncaches 2\ncache \"https://a.test\" \"v\" 0\ncache \"https://b.test\" \"v\" 0\n",
+        "registrations 0\ncaches 1\ncache \"https://b.test\" \"v\" 0\n",
+        "registrations 0\ncaches 2\ncache \"https://b.test\" \"v\" 0\ncache \"https://a.test\" \"w\" 0\n",
+        "registrations 0\ncaches 1\ncache \"https://a.test\" \"w\" 0\n",
+    ],
+};
 
 // How many of the changing entries were acknowledged.
-fn acknowledged(transcript: &[u8]) -> usize {
+fn acknowledged(of: &Kept, transcript: &[u8]) -> usize {
     let Ok(text) = str::from_utf8(transcript) else {
         return 0;
     };
-    CHANGING.iter().filter(|line| text.contains(**line)).count()
+    of.changing
+        .iter()
+        .filter(|line| text.contains(**line))
+        .count()
 }
 
 // A run that is stopped at a call of its disk, which is then crashed, with what was in doubt picked in one way, keeps what
@@ -201,16 +229,17 @@ fn keeps<R: Threads + Wait + Sync + Abort>(
     rt: &R,
     alloc: Global,
     line: &str,
+    of: &Kept,
     after: u64,
     pick: &[u8],
 ) -> bool {
     let disk = stopping(rt, alloc, after);
-    let (status, sink, disk) = ran(rt, alloc, line, PAGE, disk, &NoGate);
-    let least = acknowledged(sink.bytes());
+    let (status, sink, disk) = ran(rt, alloc, line, of.lines, disk, &NoGate);
+    let least = acknowledged(of, sink.bytes());
     let left = disk.crash(pick).expect(rt, "a crash");
-    let kept = shown(rt, alloc, left);
+    let kept = shown(rt, alloc, of, left);
     matches!(kept, Some(count) if count >= least)
-        && (status != Status::Done || least == CHANGING.len())
+        && (status != Status::Done || least == of.changing.len())
         && (status == Status::Done || after < CALLS)
 }
 
@@ -218,10 +247,11 @@ fn keeps<R: Threads + Wait + Sync + Abort>(
 fn shown<R: Threads + Wait + Sync + Abort>(
     rt: &R,
     alloc: Global,
+    of: &Kept,
     disk: MemoryDisk,
 ) -> Option<usize> {
     let (_, shown, _) = ran(rt, alloc, "show", "", disk, &NoGate);
-    SHOWN
+    of.shown
         .iter()
         .position(|text| text.as_bytes() == shown.bytes())
 }
@@ -240,7 +270,22 @@ const PICKS: [[u8; 16]; 7] = [
 fn a_crash_leaves_what_was_acknowledged(rt: HostRuntime) {
     for after in 0..=CALLS {
         for pick in &PICKS {
-            assert!(rt; keeps(&rt, rt.alloc(), "replay", after, pick), "{after}");
+            assert!(rt;
+                keeps(&rt, rt.alloc(), "replay", &PAGE, after, pick),
+                "{after}"
+            );
+        }
+    }
+}
+
+#[test]
+fn a_crash_leaves_what_a_run_within_a_limit_acknowledged(rt: HostRuntime) {
+    for after in 0..=CALLS {
+        for pick in &PICKS {
+            assert!(rt;
+                keeps(&rt, rt.alloc(), "quota 24", &FORGOTTEN, after, pick),
+                "{after}"
+            );
         }
     }
 }
@@ -249,7 +294,10 @@ fn a_crash_leaves_what_was_acknowledged(rt: HostRuntime) {
 fn a_crash_leaves_what_sixteen_workers_acknowledged(rt: HostRuntime) {
     for after in 0..=CALLS {
         for pick in [&PICKS[1], &PICKS[5]] {
-            assert!(rt; keeps(&rt, rt.alloc(), "replay 16", after, pick), "{after}");
+            assert!(rt;
+                keeps(&rt, rt.alloc(), "replay 16", &PAGE, after, pick),
+                "{after}"
+            );
         }
     }
 }

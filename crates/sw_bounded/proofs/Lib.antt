@@ -1,0 +1,3 @@
+pub mod EvictLemmas
+pub mod PlayLemmas
+pub mod RunLemmas

@@ -1,0 +1,4 @@
+pub mod Usage
+pub mod Laws
+pub mod Rows
+pub mod Counted
