@@ -14,7 +14,7 @@ use Rattle.sw_rules.specs.State.{State, Registration}
 use Rattle.sw_rules.specs.Told.{Told, followed, quiet}
 use Rattle.sw_activate.specs.Claiming.{activated_by_claim, activated_by_claims, activated_by_release, activated_by_unload}
 use Rattle.sw_activate.specs.Counting.{Users, activated, emptied, may_activate, moved, step_activated, step_users, steps_activated, used_by, users_in}
-use Rattle.sw_activate.proofs.Leaving.{IsOwned, SameNames, not_activated, not_released, released_activated, released_keeps, same_owner, used_is, workers_of}
+use Rattle.sw_activate.proofs.Leaving.{IsOrderly, SameNames, is_one, not_activated, not_number, not_released, released_activated, released_keeps, same_owner, used_is, workers_of}
 use Rattle.sw_activate.proofs.Rows.{changed_there, count_least, count_replaced, count_two, found_there, numbers_same}
 use Rattle.sw_activate.proofs.Steps.{claimed_activated, claimed_users, passed_activated, passed_users}
 
@@ -28,14 +28,10 @@ claims_same old new same worker registration client =
 abbrev freed : ClientRow → ClientRow
 freed row = record row { controller = None }
 
-is_one : (o : Option ℕ) (n : ℕ) → is_number o n ≡ true → o ≡ Some n
-is_one None n is = absurd cc
-is_one (Some m) n is = ap (λ (k : ℕ). Some k) (grind (arith, nat_tests, is))
-
 own_number : (n : ℕ) → is_number (Some n) n ≡ true
 own_number n = grind (arith, nat_tests)
 
-module _ (first : State) (is_owned : IsOwned first) (worker registration : ℕ) (owner : registration_of first worker ≡ Some registration) where
+module _ (first : State) (orderly : IsOrderly first) (worker registration : ℕ) (owner : registration_of first worker ≡ Some registration) where
   abbrev uses_it : ℕ → ClientRow → Bool
   uses_it q client = is_number (used_by first client) q
 
@@ -107,7 +103,7 @@ module _ (first : State) (is_owned : IsOwned first) (worker registration : ℕ) 
         ap (λ (clients : List ClientRow). users_in first clients q) left_clients ∙ grind (arith, counted, passes, now)
 
     left_used : (q : ℕ) → used ≡ Some q → is_used left q ≡ nat_lt 0 (users q - 1)
-    left_used q is = used_is first is_owned left goes.names q ∙ ap (nat_lt 0) (left_users q is)
+    left_used q is = used_is first orderly.owned left goes.names q ∙ ap (nat_lt 0) (left_users q is)
 
     -- where the last user leaves a registration, its workers are as before
     loyal : (q : ℕ) → used ≡ Some q → (users q - 1 == 0) ≡ true → workers_of q state.workers ≡ workers_of q first.workers
@@ -177,7 +173,7 @@ module _ (first : State) (is_owned : IsOwned first) (worker registration : ℕ) 
       where
         by : (b : Bool) → (users q - 1 == 0) ≡ b → Left (followed (quiet left) (λ next. release next q))
         by true last =
-            let keeps = released_keeps first left is_owned q goes.registrations goes.events goes.names (loyal q is last) (unused q is last) in record {
+            let keeps = released_keeps first left orderly q goes.registrations goes.events goes.names (loyal q is last) (unused q is last) in record {
               registrations = keeps.registrations ∙ goes.registrations;
               events = keeps.events ∙ goes.events;
               names = keeps.names ∙ goes.names;
@@ -218,7 +214,7 @@ module _ (first : State) (is_owned : IsOwned first) (worker registration : ℕ) 
 
         by : (b : Bool) → (users q - 1 == 0) ≡ b → activated_by_release left q ≡ option_to_list (activated first (is_last q (users q - 1 == 0)))
         by true last =
-            released_activated first left is_owned q goes.registrations goes.events goes.names (loyal q is last) (unused q is last)
+            released_activated first left orderly q goes.registrations goes.events goes.names (loyal q is last) (unused q is last)
             ∙ (one_or_none (may_activate first q) ∙ sym (ap (λ (b : Bool). option_to_list (activated first (is_last q b))) last))
         by false last =
             not_activated left q (still_used q is last)
@@ -240,16 +236,9 @@ module _ (first : State) (is_owned : IsOwned first) (worker registration : ℕ) 
         let before = goes.counted q in
         omega (arith, replaced, now, least, before)
 
-    not_it : (q : ℕ) → (q ≡ registration → ⊥) → is_number (Some registration) q ≡ false
-    not_it q other = by (is_number (Some registration) q) refl
-      where
-        by : (b : Bool) → is_number (Some registration) q ≡ b → is_number (Some registration) q ≡ false
-        by true is = absurd (other (grind (arith, nat_tests, is)))
-        by false is = is
-
     moved_elsewhere : (q : ℕ) → (q ≡ registration → ⊥) → moved used registration users q ≡ users q - (if is_number used q then 1 else 0)
     moved_elsewhere q other =
-        let none = ap {B = ℕ} (λ (b : Bool). if b then 1 else 0) (not_it q other) in
+        let none = ap {B = ℕ} (λ (b : Bool). if b then 1 else 0) (not_number registration q other) in
         omega (arith, none)
 
     last_gone : (q : ℕ) → (q ≡ registration → ⊥) → 0 < moved used registration users q → is_number used q ≡ true → (users q - 1 == 0) ≡ true → ⊥

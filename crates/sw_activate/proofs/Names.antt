@@ -4,12 +4,14 @@ use Rattle.std.specs.Prelude.{find, IfSome}
 use Rattle.sw_client.specs.Table as clients
 use Rattle.sw_data.specs.declared.rows.ClientRow.{ClientRow}
 use Rattle.sw_data.specs.declared.rows.WorkerRow.{WorkerRow}
+use Rattle.sw_data.specs.declared.workers.Phase.TheVariants as phase
+use Rattle.sw_data.specs.declared.workers.Slot.{Slot}
+use Rattle.sw_data.specs.declared.workers.Slot.TheVariants as slot
 use Rattle.sw_data.specs.declared.workers.WorkerState.{WorkerState}
 use Rattle.sw_data.specs.declared.workers.WorkerState.TheVariants as worker_state
 use Rattle.sw_reg.specs.Table as registrations
 use Rattle.sw_rules.specs.Registrations as rules
-use Rattle.sw_rules.specs.Registrations.{promote}
-use Rattle.sw_rules.specs.Told.{Told, quiet}
+use Rattle.sw_rules.specs.Told.{Told, followed, keep, quiet}
 use Rattle.sw_rules.specs.Rows as rows_of
 use Rattle.sw_rules.specs.Rows.{changed, has_pending_worker, is_used}
 use Rattle.sw_rules.specs.State.{State, Registration, Worker}
@@ -38,24 +40,38 @@ pub map_map : {X Y Z : Type 0} (g : Y → Z) (f : X → Y) (xs : List X) → map
 map_map g f [] = refl
 map_map g f (x ∷ xs) = grind (arith, map_map g f xs)
 
-pub promoted : (state : WorkerState) (row : Worker) → of_worker (promote (record row { state = state })) ≡ of_worker row
-promoted worker_state.Parsed row = refl
-promoted worker_state.Installing row = refl
-promoted worker_state.Installed row = refl
-promoted worker_state.Activating row = refl
-promoted worker_state.Activated row = refl
-promoted worker_state.Redundant row = refl
-
 same : (state : State) → Alike state state
 same state = record { registrations = refl; workers = refl; clients = refl }
 
-pub clear_alike : (state : State) (registration : ℕ) → Alike state (rules.clear state registration).state
-unfolding rules.clear
-clear_alike state registration = record {
+alike_then : (one two three : State) → Alike one two → Alike two three → Alike one three
+alike_then one two three a b = record {
+  registrations = b.registrations ∙ a.registrations;
+  workers = b.workers ∙ a.workers;
+  clients = b.clients ∙ a.clients;
+}
+
+become_alike : (state : State) (worker : ℕ) (to : WorkerState) → Alike state (rules.become state worker to).state
+unfolding rules.become
+become_alike state worker to = record {
   registrations = refl;
-  workers = seen_same of_worker (λ row. row.registration == registration) (λ row. record row { state = rules.clear_state row.state }) (λ row. refl) state.workers;
+  workers = seen_same of_worker (rows_of.is_worker worker) (λ row. record row { state = to }) (λ row. refl) state.workers;
   clients = refl;
 }
+
+retire_alike : (state : State) (place : Slot) (registration : ℕ) → Alike state (rules.retire state place registration).state
+unfolding rules.retire
+retire_alike state place registration = by (rows_of.slot_worker state place registration)
+  where
+    by : (o : Option Worker) → Alike state (let told : Told = elim o [ None ↦ quiet state | Some old ↦ rules.become state old.number worker_state.Redundant ] in told.state)
+    by None = same state
+    by (Some old) = become_alike state old.number worker_state.Redundant
+
+pub clear_alike : (state : State) (registration : ℕ) → Alike state (rules.clear state registration).state
+unfolding rules.clear followed
+clear_alike state registration =
+    let one = (rules.retire state slot.Installing registration).state in
+    let two = (rules.retire one slot.Waiting registration).state in
+    alike_then state one _ (retire_alike state slot.Installing registration) (alike_then one two _ (retire_alike one slot.Waiting registration) (retire_alike two slot.Active registration))
 
 pub try_clear_alike : (state : State) (registration : ℕ) → Alike state (rules.try_clear state registration).state
 unfolding rules.try_clear
@@ -65,13 +81,21 @@ try_clear_alike state registration = by (is_used state registration || has_pendi
     by true = same state
     by false = clear_alike state registration
 
-pub activate_alike : (state : State) (registration worker : ℕ) → Alike state (rules.activate state registration worker).state
-unfolding rules.activate
-activate_alike state registration worker = record {
+-- a worker is the controller of each client of a registration, and its handler starts
+begun_alike : (state : State) (registration worker : ℕ) → Alike state (rules.start_handler (rules.take_over state registration worker).state worker phase.Activate).state
+unfolding rules.take_over rules.start_handler
+begun_alike state registration worker = record {
   registrations = refl;
-  workers = seen_same of_worker (λ row. row.registration == registration) promote (λ row. promoted row.state row) state.workers;
+  workers = seen_same of_worker (rows_of.is_worker worker) (λ row. record row { handler = Some (rules.new_handler phase.Activate) }) (λ row. refl) state.workers;
   clients = seen_same (λ (row : ClientRow). row.number) (rows_of.uses state.workers registration) (rules.controlled_by worker) (λ row. refl) state.clients;
 }
+
+pub activate_alike : (state : State) (registration worker : ℕ) → Alike state (rules.activate state registration worker).state
+unfolding rules.activate followed keep
+activate_alike state registration worker =
+    let retired = (rules.retire state slot.Active registration).state in
+    let activating = (rules.become retired worker worker_state.Activating).state in
+    alike_then state retired _ (retire_alike state slot.Active registration) (alike_then retired activating _ (become_alike retired worker worker_state.Activating) (begun_alike activating registration worker))
 
 pub try_activate_alike : (state : State) (registration : ℕ) → Alike state (rules.try_activate state registration).state
 unfolding rules.try_activate

@@ -87,7 +87,7 @@ module _ {X : Type 0} (owner : X → ℕ) where
       by true later = ap (λ (rest : Bool). test x || rest) later
       by false later = later
 
-  -- a change of the rows of one owner doesn't touch those of another
-  pub others_kept : (f : X → X) → ((x : X) → owner (f x) ≡ owner x) → (n m : ℕ) → (n ≡ m → ⊥) → (xs : List X) → of_owner n (changed (λ row. owner row == m) f xs) ≡ of_owner n xs
-  others_kept f keeps n m other [] = refl
-  others_kept f keeps n m other (x ∷ xs) = grind (arith, nat_tests, keeps x, other, others_kept f keeps n m other xs)
+  -- a change of rows that pass doesn't touch those of an owner of which none passes
+  pub others_kept : (test : X → Bool) (f : X → X) → ((x : X) → owner (f x) ≡ owner x) → (n : ℕ) (xs : List X) → list_any (λ row. test row && owner row == n) xs ≡ false → of_owner n (changed test f xs) ≡ of_owner n xs
+  others_kept test f keeps n [] none = refl
+  others_kept test f keeps n (x ∷ xs) none = grind (arith, nat_tests, keeps x, none, others_kept test f keeps n xs)

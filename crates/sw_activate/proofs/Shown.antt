@@ -3,6 +3,7 @@ use Rattle.std.proofs.Common.{◌≡◌, ◌∙◌, ◌<◌, ◌≤◌, ◌+◌,
 use Rattle.std.specs.List.{range_with_len, IsDistinct}
 use Rattle.std.specs.Option.{option_map_or}
 use Rattle.std.proofs.Math.ListN.{get_or-eq_default}
+use Rattle.std.proofs.lemmas.Bool.{and_parts}
 use Rattle.std.proofs.lemmas.Bool.Decides.{nat_tests}
 use Rattle.std.proofs.lemmas.List.{drop_more, length-map, take-append-drop}
 use Rattle.std.proofs.lemmas.List.Elements.{All-head, All-nil, All-tail}
@@ -15,19 +16,23 @@ use Rattle.sw_client.specs.Table.{clients_of, is_open, users_of, uses}
 use Rattle.sw_client.specs.declared.OpenClient.{OpenClient}
 use Rattle.sw_data.specs.declared.rows.ClientRow.{ClientRow}
 use Rattle.sw_data.specs.declared.rows.RegistrationRow.{RegistrationRow}
+use Rattle.sw_data.specs.declared.rows.WorkerRow.{WorkerRow}
+use Rattle.sw_data.specs.declared.workers.Slot.TheVariants as slot
 use Rattle.sw_reg.specs.Table as registrations
-use Rattle.sw_reg.specs.Table.{registration_at}
+use Rattle.sw_reg.specs.Table.{registration_at, slot_of}
 use Rattle.sw_rules.specs.Clients.{claims}
 use Rattle.sw_rules.specs.Rows as rows_of
 use Rattle.sw_rules.specs.Rows.{is_number}
 use Rattle.sw_rules.specs.State.{State, Worker}
 use Rattle.sw_scope.specs.Scopes.{Scopes}
+use Rattle.sw_tables.proofs.Lookups.{worker_shown}
 use Rattle.sw_tables.proofs.Rows.{any_at, within}
 use Rattle.sw_tables.specs.Lent.{Rest, lent, shown_worker}
 use Rattle.sw_tables.specs.Linked.{ArePlaces, IsNoted, Linked, registration_of}
 use Rattle.sw_worker.specs.Table as workers
+use Rattle.sw_worker.specs.Table.{worker_at}
 use Rattle.sw_activate.specs.Counting.{Counts, counted, used_by, users_in}
-use Rattle.sw_activate.proofs.Leaving.{IsOwned}
+use Rattle.sw_activate.proofs.Leaving.{IsOrderly, IsOwned, waits}
 use Rattle.sw_activate.proofs.Names.{map_map, owner_there, registration_shown}
 use Rattle.sw_activate.proofs.Rows.{found_there}
 
@@ -56,10 +61,30 @@ module _ (scopes : Scopes) (of_workers : workers.Table) (of : registrations.Tabl
   owned_by registration None = refl
   owned_by registration (Some row) = refl
 
-  pub all_owned : (rest : Rest) → IsOwned (lent scopes of_workers of of_clients rest)
+  all_owned : (rest : Rest) → IsOwned (lent scopes of_workers of of_clients rest)
   all_owned rest registration number =
       any_at (λ (row : Worker). row.number) (λ row. row.registration == registration) number (map shown_worker of_workers.rows) workers_placed
       ∙ owned_by registration (find (rows_of.is_worker number) (map shown_worker of_workers.rows))
+
+  -- a worker that waits stands in the slot
+  slot_known : (registration number : ℕ) → rows_of.has_worker (waits registration) (map shown_worker of_workers.rows) number ≡ true → slot_of slot.Waiting registration of.rows ≡ Some number
+  slot_known registration number is =
+      by (worker_at number of_workers.rows) refl
+      (sym (any_at (λ (row : Worker). row.number) (waits registration) number (map shown_worker of_workers.rows) workers_placed
+      ∙ ap (λ (o : Option Worker). option_map_or (waits registration) o false) (worker_shown number of_workers.rows)) ∙ is)
+    where
+      by : (o : Option WorkerRow) → worker_at number of_workers.rows ≡ o → option_map_or (waits registration) (option_map shown_worker o) false ≡ true → slot_of slot.Waiting registration of.rows ≡ Some number
+      by None there none = absurd cc
+      by (Some row) there stands =
+          let parts = and_parts (row.registration == registration) (rows_of.in_slot slot.Waiting row.state) stands in
+          let own : row.registration ≡ registration = grind (arith, nat_tests, parts.0) in
+          ap (λ (n : ℕ). slot_of slot.Waiting n of.rows) (sym own) ∙ (linked.slots.rows number row there).slots slot.Waiting parts.1
+
+  pub all_orderly : (rest : Rest) → IsOrderly (lent scopes of_workers of of_clients rest)
+  all_orderly rest = record {
+    owned = all_owned rest;
+    waiting = λ registration one other is was. let first = slot_known registration one is in let second = slot_known registration other was in cc (first, second);
+  }
 
   -- ---- users
 

@@ -52,12 +52,6 @@ stands_first job rows runs =
     let found = there (may rows) (find (is_job job) rows) runs in
     passing (is_first rows) (find (is_job job) rows) found.0 found.1 (and_parts (is_in_phase is_waiting found.0) (is_first rows found.0) found.2).1
 
-pub joins_none : (job : ℕ) (rows : List JobRow) → has_job (may rows) job rows ≡ true → has_job (λ row. is_none row.leader) job rows ≡ true
-joins_none job rows runs =
-    let found = there (may rows) (find (is_job job) rows) runs in
-    passing (λ row. is_none row.leader) (find (is_job job) rows) found.0 found.1
-    (and_parts (is_none found.0.leader) (is_waiting found.0.phase) (and_parts (is_in_phase is_waiting found.0) (is_first rows found.0) found.2).0).0
-
 -- ---- the run
 
 module _ (state : State) (before after : NoticeList) (new : State) (job : Job) (number : ℕ) (own : job.number ≡ number) where

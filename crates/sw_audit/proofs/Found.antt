@@ -33,7 +33,7 @@ use Rattle.sw_rules.specs.Tasks.{add_all_lines}
 use Rattle.sw_rules.specs.Told.{Outcome}
 use Rattle.sw_tables.specs.Lent.{shown_worker}
 use Rattle.sw_tables.proofs.Lookups.{worker_shown}
-use Rattle.sw_work.specs.Hosted.{Hosted, state_of}
+use Rattle.sw_state.specs.Hosted.{Hosted, state_of}
 use Rattle.sw_worker.specs.Table.{worker_at}
 
 -- ---- calls

@@ -369,10 +369,6 @@ further Stands Later recording before state text rest next count reached entry s
   same = λ n. ((λ goes. (same n).0 ((reached.same n).0 goes)), (λ goes. (reached.same n).1 ((same n).1 goes)));
 }
 
--- the line of an entry isn't empty
-pub line_shorter : (entry : Entry) (text rest : List ℕ) → text ≡ line_of_entry entry ++ rest → length rest < length text
-line_shorter entry text rest is = omega (arith, ap length is, length-append (line_of_entry entry) rest, line_length entry)
-
 -- the entry of a restart from a content
 pub a_restart : (base : Kept) → (entry : Entry) × IsOpening base entry
 a_restart base = (

@@ -20,7 +20,7 @@ use Rattle.sw_rules.specs.History.{IsOpening, moved}
 use Rattle.sw_rules.specs.Restart.{restart}
 use Rattle.sw_rules.specs.State.{State}
 use Rattle.sw_rules.specs.Step.{enabled}
-use Rattle.sw_work.specs.Hosted.{Hosted, state_of}
+use Rattle.sw_state.specs.Hosted.{Hosted, state_of}
 
 -- what an entry that is there has
 pub there_on : {E : Type 0} (result : Result (Option Entry) E) (entry : Entry) (P : Entry → Type 0) → result ≡ Ok (Some entry) → P entry

@@ -9,7 +9,7 @@ use Rattle.sw_lane.specs.Recorded.{AreLanesOf}
 use Rattle.sw_laws.specs.Coherent.{Coherent}
 use Rattle.sw_rules.specs.History.{IsStep, moved}
 use Rattle.sw_rules.specs.State.{State}
-use Rattle.sw_work.specs.Hosted.{Hosted, state_of}
+use Rattle.sw_state.specs.Hosted.{Hosted, state_of}
 
 -- own: a host, what is left of the lanes of a recording, and its fetch lines
 pub record Following : Type 0 where

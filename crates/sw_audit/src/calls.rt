@@ -7,12 +7,11 @@ ghost use Rattle.sw_data.specs.declared.events.Event.TheVariants as event;
 ghost use Rattle.sw_data.specs.declared.events.Who.TheVariants as maker;
 ghost use Rattle.sw_rules.specs.Installing.{calls_of};
 ghost use Rattle.sw_tables.specs.Lent.{shown_worker};
-ghost use Rattle.sw_work.specs.Hosted.{state_of};
+ghost use Rattle.sw_state.specs.Hosted.{state_of};
 
 use std::alloc::Global;
-use sw_copy::copy_call;
 use sw_core::Core;
-use sw_data::{Call, Event, HandlerRow, NoMemory, Phase, Who, WorkerRow};
+use sw_data::{Call, Event, HandlerRow, NoMemory, Phase, Who, WorkerRow, copy_call};
 
 // The calls of a worker's handler.
 fn calls_of(row: &WorkerRow, phase: Phase) -> &[Call]

@@ -6,7 +6,7 @@ ghost use Rattle.sw_audit.specs.Continuing.{Opens};
 ghost use Rattle.sw_data.specs.Events.{who_of};
 ghost use Rattle.sw_laws.specs.Coherent.{Coherent};
 ghost use Rattle.sw_rules.specs.Step.{enabled};
-ghost use Rattle.sw_work.specs.Hosted.{state_of};
+ghost use Rattle.sw_state.specs.Hosted.{state_of};
 
 use std::alloc::Global;
 use sw_core::Core;

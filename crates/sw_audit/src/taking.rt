@@ -6,7 +6,7 @@ ghost use Rattle.sw_audit.specs.Named.{host_event};
 ghost use Rattle.sw_audit.specs.declared.marks.Mark.TheVariants as mark;
 ghost use Rattle.sw_data.specs.declared.recordings.Recording.{Recording};
 ghost use Rattle.sw_lane.specs.Left.{Left};
-ghost use Rattle.sw_work.specs.Hosted.{state_of};
+ghost use Rattle.sw_state.specs.Hosted.{state_of};
 
 use crate::calls::running_event;
 use crate::laning::lane_event;

@@ -16,3 +16,6 @@ pub mod Grown
 pub mod Filling
 pub mod Listed
 pub mod Due
+pub mod EvictLemmas
+pub mod PlayLemmas
+pub mod RunLemmas

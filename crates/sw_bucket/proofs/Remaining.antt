@@ -12,6 +12,7 @@ use Rattle.sw_data.specs.declared.recordings.ClientScope.{ClientScope}
 use Rattle.sw_data.specs.declared.rows.ClientRow.{ClientRow}
 use Rattle.sw_data.specs.declared.rows.JobRow.{JobRow}
 use Rattle.sw_data.specs.declared.workers.Slot.{Slot}
+use Rattle.sw_data.specs.declared.workers.Slot.TheVariants as slot
 use Rattle.sw_data.specs.Addresses.{address_of}
 use Rattle.sw_data.specs.Events.{is_handler, is_lane, who_of}
 use Rattle.sw_data.specs.Keys.{key_of}
@@ -20,17 +21,18 @@ use Rattle.sw_rules.specs.Caching.{add_cache, add_task, carry_out, drop_cache, s
 use Rattle.sw_rules.specs.Forgetting.{forget_key, is_mapped_of}
 use Rattle.sw_rules.specs.Calls.{is_next_call, make_call, note_call, noted}
 use Rattle.sw_rules.specs.Clients.{add_client, add_event, claim_client, claim_clients, claim_of, claims, leave, open_at, open_client, remove_client, remove_event, take_control, with_slot}
-use Rattle.sw_rules.specs.Installing.{become_waiting, begin_install, discard, end_handler, fail_install, finish_install, make_worker, reject_and_drop, tell_update, throw}
+use Rattle.sw_rules.specs.Installing.{begin_install, end_handler, fail_install, finish_install, make_worker, reject_and_drop, remember, tell_update, throw}
 use Rattle.sw_rules.specs.Jobs.{finish, promise, schedule, settle}
 use Rattle.sw_rules.specs.Preloading.{set_preload}
 use Rattle.sw_rules.specs.Registering.{fetch_script}
-use Rattle.sw_rules.specs.Registrations.{activate, clear, controlled_by, drop_registration, map_registration, set_mode, unload, unmap}
-use Rattle.sw_rules.specs.Rows.{changed, client_row, is_active, is_client, mapped_registration, named_scope, registration_row, slot_worker, uses, without, worker_row}
+use Rattle.sw_rules.specs.Registrations.{activate, become, controlled_by, drop_registration, map_registration, retire, set_mode, start_handler, take_over, unload, unmap}
+use Rattle.sw_rules.specs.Rows.{changed, client_row, is_active, is_client, mapped_registration, named_scope, registration_row, slot_worker, without, worker_row}
 use Rattle.sw_rules.specs.State.{State, Worker, Awaited}
 use Rattle.sw_rules.specs.Step.{state_after, step}
-use Rattle.sw_rules.specs.Told.{Told, Outcome, followed}
+use Rattle.sw_rules.specs.Told.{Told, Outcome, followed, keep}
+use Rattle.sw_laws.proofs.AtOnce.{clear_only, retire_only, waiting_leaves}
 use Rattle.sw_laws.proofs.Events.{gives_control, step-law}
-use Rattle.sw_laws.proofs.Forgotten.{all_forgotten}
+use Rattle.sw_laws.proofs.Forgotten.{forgotten_leaves}
 use Rattle.sw_laws.proofs.Lists.{bound_holds, by_option, by_test, mapped_holds}
 use Rattle.sw_laws.proofs.Split.{IsLaw, IsRecheckLaw, unload-law}
 
@@ -75,13 +77,20 @@ remain_without gone clients number key is = by (number == gone) refl
 abbrev pub Law : State → Told → Type 0
 Law state told = Remain state.clients told.state.clients
 
+-- where the clients are as they were
+same_remain : (old new : List ClientRow) → new ≡ old → Remain old new
+same_remain old new same number key is = sym (ap (λ (clients : List ClientRow). key_in clients number) same) ∙ is
+
 rechecks : IsRecheckLaw Law
-unfolding followed activate clear
+unfolding followed activate keep become take_over start_handler
 rechecks = record {
   nothing = λ state number key is. is;
   further = λ state told next one other number key is. one number key (other number key is);
-  activating = λ state registration worker is. remain_changed (uses state.workers registration) (controlled_by worker) (λ x. refl) (λ x. refl) state.clients;
-  clearing = λ state registration gone unused calm number key is. is;
+  activating = λ state registration worker chosen number key is.
+      let retired = retire state slot.Active registration in
+      same_remain state.clients retired.state.clients (ap (λ (s : State). s.clients) (retire_only state slot.Active registration).rest) number key
+      (remain_changed _ (controlled_by worker) (λ x. refl) (λ x. refl) retired.state.clients number key is);
+  clearing = λ state registration gone unused calm. same_remain state.clients _ (ap (λ (s : State). s.clients) (clear_only state registration).rest);
 }
 
 unload_remains : (state : State) (client : ℕ) → Law state (unload state client)
@@ -99,17 +108,17 @@ promise_remains state (who.Lane lane at) awaited number key is = is
 promise_remains state (who.Handler worker in_phase at) awaited number key is = is
 
 throw_remains : (state : State) (job registration worker : ℕ) → Law state (throw state job registration worker)
-unfolding throw reject_and_drop drop_registration followed finish unmap settle discard
+unfolding throw reject_and_drop drop_registration followed finish unmap settle become
 throw_remains state job registration worker =
     by_test (λ (told : Told). Remain state.clients (finish told.state job).state.clients) _ _ _ (λ gone number key is. is) (λ stays number key is. is)
 
 fail_remains : (state : State) (row : JobRow) (registration worker : ℕ) → Law state (fail_install state row registration worker)
-unfolding fail_install followed finish unmap discard end_handler
+unfolding fail_install followed finish unmap become end_handler
 fail_remains state row registration worker =
     by_test (λ (told : Told). Remain state.clients (finish told.state row.job.number).state.clients) (is_none row.remembered) _ _ (λ none number key is. is) (λ there number key is. is)
 
 pub remain_law : IsLaw Law false
-unfolding followed schedule settle finish map_registration unmap set_mode set_preload fetch_script make_worker begin_install tell_update end_handler become_waiting finish_install become_activated add_event remove_event add_cache drop_cache carry_out forget_key add_task settle_task note_call
+unfolding followed schedule settle finish map_registration unmap set_mode set_preload fetch_script make_worker begin_install remember become start_handler tell_update end_handler finish_install become_activated keep add_event remove_event add_cache drop_cache carry_out forget_key add_task settle_task note_call
 remain_law = record {
   rechecks = rechecks;
   scheduling = λ state job numbered number key is. is;
@@ -125,7 +134,7 @@ remain_law = record {
   throwing = λ state row registration worker at made. throw_remains state row.job.number registration worker.number;
   beginning = λ state row registration worker at made number key is. is;
   failing = λ state row registration worker handler ends. fail_remains state row registration worker.number;
-  installing = λ state row registration worker handler ends number key is. is;
+  installing = λ state row registration worker handler ends. same_remain state.clients _ (ap (λ (s : State). s.clients) (waiting_leaves (end_handler state worker.number).state registration worker));
   paying = λ state registration told owed holds. holds;
   activated = λ state worker handler next found ended rest number key is.
       rest (become_activated (end_handler state worker.number).state worker.registration worker.number).state number key is;
@@ -138,7 +147,7 @@ remain_law = record {
   caching = λ state place name free number key is. is;
   dropping = λ state place name number key is. is;
   carrying = λ state place name ops pairs new there is_new number key is. is;
-  forgetting = λ state place free number key is. sym (ap (λ (s : State). key_in s.clients number) (all_forgotten state (filter (is_mapped_of place) state.registrations))) ∙ is;
+  forgetting = λ state place free. same_remain state.clients _ (ap (λ (s : State). s.clients) (forgotten_leaves state (filter (is_mapped_of place) state.registrations)));
   awaiting = λ state maker place name requests runs number key is. is;
   answering = λ state task result faulted may number key is. is;
   noting = λ state worker faulted number key is. is;

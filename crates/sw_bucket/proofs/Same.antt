@@ -1,18 +1,22 @@
 -- What the host's forget leaves: the keys of clients, jobs, registrations, workers and addAlls.
-use Rattle.std.proofs.Common.{◌≡◌, ◌∙◌, ℕ, Bool, false, ◌==◌, List, [], ◌∷◌, Option, Some, None, option_map, refl, sym, ap, arith}
+use Rattle.std.proofs.Common.{◌≡◌, ◌∙◌, ℕ, Bool, false, List, [], ◌∷◌, Option, Some, None, option_map, refl, sym, ap, arith}
 use Rattle.std.specs.Prelude.{find, filter, option_and_then}
 use Rattle.std.specs.Option.{option_or}
 use Rattle.sw_data.specs.declared.events.Event.{Event}
 use Rattle.sw_data.specs.declared.events.Event.TheVariants as event
 use Rattle.sw_data.specs.declared.events.Who.TheVariants as who
+use Rattle.sw_data.specs.declared.workers.Slot.{Slot}
+use Rattle.sw_data.specs.declared.workers.Slot.TheVariants as slot
+use Rattle.sw_data.specs.declared.workers.WorkerState.{WorkerState}
+use Rattle.sw_data.specs.declared.workers.WorkerState.TheVariants as worker_state
 use Rattle.sw_rules.specs.Caching.{place_key}
 use Rattle.sw_rules.specs.Forgetting.{forget, forget_key, forget_registrations, is_busy, is_mapped_of}
-use Rattle.sw_rules.specs.Registrations.{clear, clear_state, unmap}
-use Rattle.sw_rules.specs.Rows.{changed, is_registration, is_worker, key_of_worker, registration_of, registration_row}
+use Rattle.sw_rules.specs.Registrations.{become, clear, retire, unmap}
+use Rattle.sw_rules.specs.Rows.{changed, is_registration, is_worker, key_of_worker, registration_of, registration_row, slot_worker}
 use Rattle.sw_rules.specs.State.{State, Registration, Worker}
 use Rattle.sw_rules.specs.Step.{state_after, step}
-use Rattle.sw_rules.specs.Told.{Outcome, followed}
-use Rattle.sw_laws.proofs.Lists.{by_result, by_test}
+use Rattle.sw_rules.specs.Told.{Told, Outcome, followed}
+use Rattle.sw_laws.proofs.Lists.{by_option, by_result, by_test}
 use Rattle.sw_bucket.specs.Eviction.{forget_event, forget_page}
 use Rattle.sw_bucket.specs.Noted.{IsForgottenFrom, all_forgotten}
 use Rattle.sw_bucket.specs.Uses.{client_key, job_key, named_client, named_key, named_page, page_key, registration_key, task_key, work_key}
@@ -70,22 +74,51 @@ same_workers old new owners keys number =
 
 -- ---- forget
 
--- a registration that leaves the map and is cleared
-one_same : (state : State) (number : ℕ) → SameKeys state (clear (unmap state number).state number).state
-unfolding unmap clear
-one_same state number =
-    let new = (clear (unmap state number).state number).state in
+-- a registration leaves the map
+unmapped_same : (state : State) (number : ℕ) → SameKeys state (unmap state number).state
+unfolding unmap
+unmapped_same state number =
+    let new = (unmap state number).state in
     let keys : (n : ℕ) → registration_key new n ≡ registration_key state n =
     λ n. found_shows (is_registration n) (λ (row : Registration). row.key) (is_registration number) (λ row. record row { mapped = false }) (λ x. refl) (λ x. refl) state.registrations in
-    let owners : (n : ℕ) → registration_of new n ≡ registration_of state n =
-    λ n. found_shows (is_worker n) (λ (row : Worker). row.registration) (λ row. row.registration == number) (λ worker. record worker { state = clear_state worker.state }) (λ x. refl) (λ x. refl) state.workers in
     record {
       clients = λ n. refl;
       jobs = λ n. refl;
       registrations = keys;
-      workers = same_workers state new owners keys;
+      workers = same_workers state new (λ n. refl) keys;
       tasks = λ n. refl;
     }
+
+-- the state of a worker becomes another
+become_same : (state : State) (worker : ℕ) (to : WorkerState) → SameKeys state (become state worker to).state
+unfolding become
+become_same state worker to = record {
+  clients = λ n. refl;
+  jobs = λ n. refl;
+  registrations = λ n. refl;
+  workers =
+      same_workers state (become state worker to).state
+      (λ n. found_shows (is_worker n) (λ (row : Worker). row.registration) (is_worker worker) (λ row. record row { state = to }) (λ x. refl) (λ x. refl) state.workers)
+      (λ n. refl);
+  tasks = λ n. refl;
+}
+
+retire_same : (state : State) (place : Slot) (registration : ℕ) → SameKeys state (retire state place registration).state
+unfolding retire
+retire_same state place registration =
+    by_option (λ (told : Told). SameKeys state told.state) (slot_worker state place registration) _ _ (λ none. same_keys state) (λ old is. become_same state old.number worker_state.Redundant)
+
+-- a registration leaves the map and is cleared
+one_same : (state : State) (number : ℕ) → SameKeys state (clear (unmap state number).state number).state
+unfolding clear followed
+one_same state number =
+    let unmapped = (unmap state number).state in
+    let one = (retire unmapped slot.Installing number).state in
+    let two = (retire one slot.Waiting number).state in
+    let three = (retire two slot.Active number).state in
+    both_same state unmapped three (unmapped_same state number)
+    (both_same unmapped one three (retire_same unmapped slot.Installing number)
+    (both_same one two three (retire_same one slot.Waiting number) (retire_same two slot.Active number)))
 
 registrations_same : (rows : List Registration) (state : State) → SameKeys state (forget_registrations state rows).state
 unfolding forget_registrations followed

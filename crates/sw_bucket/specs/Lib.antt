@@ -6,3 +6,6 @@ pub mod Choosing
 pub mod Turns
 pub mod Touched
 pub mod Filling
+pub mod Bounded
+pub mod Evicting
+pub mod Running

@@ -10,8 +10,9 @@ ghost use Rattle.sw_rules.specs.History.{Legal, after};
 ghost use Rattle.sw_rules.specs.Storage.{IsMade};
 ghost use Rattle.sw_sizes.specs.Rows.{ArePartsOf};
 ghost use Rattle.sw_sizes.specs.Usage.{usage};
-ghost use Rattle.sw_work.specs.Hosted.{state_of};
+ghost use Rattle.sw_state.specs.Hosted.{state_of};
 
+use crate::Bound;
 use crate::order::Order;
 use crate::places::forget_event;
 use crate::storage::counted_usage;
@@ -20,7 +21,6 @@ use crate::uses::Uses;
 use crate::victims::keys_of;
 use std::alloc::Global;
 use std::marker::Model;
-use sw_bounded::Bound;
 use sw_change::changes_of;
 use sw_core::Core;
 use sw_data::{Entry, Event, Kept, NoMemory, Text};

@@ -4,7 +4,7 @@ ghost use Rattle.std.specs.Prelude.{◌≡◌, option_and_then, IfOk};
 ghost use Rattle.std.specs.Option.{option_copied};
 ghost use Rattle.sw_bucket.specs.Uses.{caller_key, client_key, job_key, named_client, named_key, named_page, page_key, registration_key, work_key};
 ghost use Rattle.sw_rules.specs.Rows.{key_of_worker};
-ghost use Rattle.sw_work.specs.Hosted.{state_of};
+ghost use Rattle.sw_state.specs.Hosted.{state_of};
 
 use crate::naming::{named_client, named_page};
 use crate::places::page_key;

@@ -9,7 +9,7 @@ ghost use Rattle.sw_bucket.specs.Turns.{GetTurns, LoseTurns, Turn as turns, has_
 ghost use Rattle.sw_rules.specs.Durable.{durable};
 ghost use Rattle.sw_sizes.specs.Rows.{ArePartsOf};
 ghost use Rattle.sw_sizes.specs.Usage.{usage_of};
-ghost use Rattle.sw_work.specs.Hosted.{state_of};
+ghost use Rattle.sw_state.specs.Hosted.{state_of};
 
 use crate::storage::counted_key_usage;
 use crate::turn::Turn;

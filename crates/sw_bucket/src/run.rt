@@ -1,18 +1,18 @@
 //! A recording within a limit on the usage.
 
 ghost use Rattle.std.specs.Prelude.{◌≡◌, ◌≢◌, ◌^◌, IfOk, OnErr};
-ghost use Rattle.sw_bounded.specs.Bounded.{HasEnded, bounded_way};
-ghost use Rattle.sw_bounded.specs.declared.ends.BoundedEnd.TheVariants as end;
+ghost use Rattle.sw_bucket.specs.Bounded.{HasEnded, bounded_way};
+ghost use Rattle.sw_bucket.specs.declared.ends.BoundedEnd.TheVariants as end;
 ghost use Rattle.sw_bucket.specs.Eviction.{next_forget};
 ghost use Rattle.sw_rules.specs.Durable.{durable};
 ghost use Rattle.sw_rules.specs.History.{after};
 ghost use Rattle.sw_sizes.specs.Usage.{usage};
 ghost use Rattle.sw_store.specs.Opened.{HasOpened, IsFresh};
 
+use crate::BoundedEnd;
 use crate::bucket::Bucket;
 use std::alloc::Global;
 use std::snapshot::Snapshot;
-use sw_bounded::BoundedEnd;
 use sw_data::{Entry, NoMemory, Recording};
 use sw_disk::Disk;
 use sw_store::Store;
@@ -38,7 +38,7 @@ pub fn run_bounded<D: Disk>(
     ensures same { OnErr result (disk.new ≡ disk.old) }
 {
     let mut bucket = Bucket::new(alloc, limit);
-    match sw_bounded::run_bounded(alloc, store, &mut bucket, disk, recording, start) {
+    match crate::playing::run_under(alloc, store, &mut bucket, disk, recording, start) {
         Ok((history, end)) => Ok((history, end, bucket.usage())),
         Err(NoMemory) => Err(NoMemory),
     }

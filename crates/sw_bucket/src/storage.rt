@@ -4,7 +4,7 @@ ghost use Rattle.std.specs.Prelude.{◌≡◌, IfOk};
 ghost use Rattle.sw_rules.specs.Durable.{durable};
 ghost use Rattle.sw_sizes.specs.Rows.{ArePartsOf};
 ghost use Rattle.sw_sizes.specs.Usage.{usage, usage_of};
-ghost use Rattle.sw_work.specs.Hosted.{state_of};
+ghost use Rattle.sw_state.specs.Hosted.{state_of};
 
 use std::alloc::Global;
 use sw_core::Core;

@@ -10,7 +10,7 @@ ghost use Rattle.sw_data.specs.declared.histories.Entry as past;
 ghost use Rattle.sw_data.specs.declared.storage.Kept.{Kept};
 ghost use Rattle.sw_rules.specs.History.{Legal, after};
 ghost use Rattle.sw_rules.specs.Rows.{is_number};
-ghost use Rattle.sw_work.specs.Hosted.{state_of};
+ghost use Rattle.sw_state.specs.Hosted.{state_of};
 
 use crate::keys::{client_key, copied, named_key};
 use crate::naming::moved_client;

@@ -9,7 +9,7 @@ ghost use Rattle.sw_data.specs.declared.histories.Entry.{Entry};
 ghost use Rattle.sw_data.specs.declared.storage.Kept as storage;
 ghost use Rattle.sw_rules.specs.Durable.{durable};
 ghost use Rattle.sw_sizes.specs.Usage.{keys_of_kept};
-ghost use Rattle.sw_work.specs.Hosted.{state_of};
+ghost use Rattle.sw_state.specs.Hosted.{state_of};
 
 use crate::keys::copied;
 use crate::places::is_reached;

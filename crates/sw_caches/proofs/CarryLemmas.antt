@@ -5,7 +5,7 @@ use Rattle.std.proofs.lemmas.List.{length-map, length-set}
 use Rattle.std.proofs.lemmas.List.Sums.{sum_by-append}
 use Rattle.std.proofs.lemmas.Option.{slice_get-map, slice_get_within}
 use Rattle.sw_data.specs.declared.storage.KeptCache.{KeptCache}
-use Rattle.sw_index.specs.Named.{values}
+use Rattle.sw_list.specs.Named.{values}
 use Rattle.sw_caches.specs.declared.sums.Sums.{Sums}
 use Rattle.sw_caches.specs.declared.table.CachePlan.{CachePlan}
 use Rattle.sw_caches.specs.Bytes.{cache_size, made_size, put_size, puts_size}

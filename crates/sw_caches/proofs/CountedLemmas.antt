@@ -11,7 +11,7 @@ use Rattle.std.proofs.lemmas.List.Sums.{get_or-le-sum_by, sum_by-cons, sum_by-le
 use Rattle.std.proofs.lemmas.Option.{get_or_from_slice_get, slice_get_within}
 use Rattle.sw_data.specs.declared.storage.KeptCache.{KeptCache}
 use Rattle.sw_rules.specs.Storage.{is_cache}
-use Rattle.sw_index.specs.Named.{values}
+use Rattle.sw_list.specs.Named.{values}
 use Rattle.sw_caches.specs.declared.sums.Sums.{Sums}
 use Rattle.sw_caches.specs.Bytes.{bytes_of, cache_size, key_bytes, made_size}
 use Rattle.sw_caches.specs.Sums.{at_key, held}

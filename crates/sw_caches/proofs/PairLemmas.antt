@@ -3,14 +3,14 @@ use Rattle.std.proofs.Common.{◌≡◌, ◌<◌, length, arith, Some, None, Bor
 use Rattle.std.specs.Prelude.{◌^◌, bytes_eq, Option, option_map}
 use Rattle.std.specs.Option.{IfSome}
 use Rattle.sw_caches.specs.declared.entry.Entry.{Entry}
-use Rattle.sw_index.proofs.FindLemmas.{found_low}
+use Rattle.sw_list.proofs.FindLemmas.{found_low}
 use Rattle.std.specs.Cmp.Lexicographic.{bytes_decides}
 use Rattle.std.proofs.lemmas.Bool.{cases_Bool, and_parts}
 use Rattle.sw_data.specs.declared.exchange.Request.{Request}
 use Rattle.sw_data.specs.declared.exchange.Options.{Options}
 use Rattle.sw_data.specs.Addresses.{without_fragment, without_query}
 use Rattle.sw_rules.specs.Matching.{Pair, finds_nothing, first_match, matches_pair, same_address}
-use Rattle.sw_index.specs.Slots.{digest, mixed}
+use Rattle.sw_list.specs.Marks.{digest, mixed}
 use Rattle.sw_caches.specs.Slots.{address_digest}
 use Rattle.sw_caches.specs.Entries.{pair, pair_digest, pairs}
 

@@ -4,8 +4,8 @@ use Rattle.std.specs.Prelude.{◌^◌}
 use Rattle.std.specs.List.{AllPairs, enumerate_from}
 use Rattle.std.specs.BTreeSet.{BTreeSet}
 use Rattle.std.proofs.lemmas.Bool.{cases_order, cases_Bool, cases_lt, lt-leb}
-use Rattle.sw_index.specs.Slots.{Slot, has, NoneBetween}
-use Rattle.sw_index.specs.Numbered.{IsIndexed, NoneOfNumber, StandsAt}
+use Rattle.sw_list.specs.Marks.{Slot, has, NoneBetween}
+use Rattle.sw_list.specs.Numbered.{IsIndexed, NoneOfNumber, StandsAt}
 use Rattle.sw_caches.specs.Places.{places_by, places_up_to}
 
 module _ {X Y : Type 0} (number : X → ℕ) (item : X → Y) (m : Y → Bool) where

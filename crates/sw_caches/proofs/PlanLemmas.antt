@@ -6,11 +6,11 @@ use Rattle.std.specs.BTreeSet.{BTreeSet}
 use Rattle.std.proofs.lemmas.Bool.{cases_Bool, cases_lt}
 use Rattle.std.proofs.lemmas.List.Elements.{All-push}
 use Rattle.std.proofs.lemmas.List.Folds.{list_any_more}
-use Rattle.sw_index.specs.declared.slots.Mark.{Mark}
-use Rattle.sw_index.specs.Slots.{AreFrom, HasLost, IsFree, KeepsBelow, KeepsSlots, OnlyAdds, Slot, has, is_marked, is_under}
-use Rattle.sw_index.specs.Numbered.{AllBelow, AllFrom, mark_of}
-use Rattle.sw_index.proofs.SlotLemmas.{stays_out, under_either, under_reads}
-use Rattle.sw_index.proofs.IndexLemmas.{added, kept_below, marked_low, marks_joined, more_marks}
+use Rattle.sw_list.specs.declared.marks.Mark.{Mark}
+use Rattle.sw_list.specs.Marks.{AreFrom, HasLost, IsFree, KeepsBelow, KeepsSlots, OnlyAdds, Slot, has, is_marked, is_under}
+use Rattle.sw_list.specs.Numbered.{AllBelow, AllFrom, mark_of}
+use Rattle.sw_list.proofs.DigestLemmas.{stays_out, under_either, under_reads}
+use Rattle.sw_list.proofs.IndexLemmas.{added, kept_below, marked_low, marks_joined, more_marks}
 use Rattle.sw_caches.specs.declared.entry.Entry.{Entry}
 use Rattle.sw_caches.specs.declared.plan.PairsPlan.{PairsPlan}
 use Rattle.sw_caches.specs.Entries.{AreIndexed, AreTight, marks, number, pair, pair_digest}

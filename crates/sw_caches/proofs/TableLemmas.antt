@@ -14,7 +14,7 @@ use Rattle.sw_rules.specs.Batch.{batch}
 use Rattle.sw_rules.specs.Caching.{pairs_of, with_pairs}
 use Rattle.sw_rules.specs.Matching.{Pair}
 use Rattle.sw_rules.specs.Storage.{with_cache}
-use Rattle.sw_index.specs.Named.{is_at, values, with_value}
+use Rattle.sw_list.specs.Named.{is_at, values, with_value}
 use Rattle.sw_caches.specs.declared.fault.BatchFault.{BatchFault}
 use Rattle.sw_caches.specs.declared.table.CachePlan.{CachePlan}
 use Rattle.sw_caches.specs.Bytes.{puts_size}

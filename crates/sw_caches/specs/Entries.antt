@@ -3,10 +3,10 @@ use Rattle.std.specs.Prelude.{ℕ, Bool, List, map}
 use Rattle.std.specs.BTreeSet.{BTreeSet}
 use Rattle.sw_rules.specs.Matching.{Pair}
 use Rattle.sw_caches.specs.declared.entry.Entry.{Entry}
-use Rattle.sw_index.specs.declared.slots.Mark.{Mark}
-use Rattle.sw_index.specs.Slots.{Slot}
+use Rattle.sw_list.specs.declared.marks.Mark.{Mark}
+use Rattle.sw_list.specs.Marks.{Slot}
 use Rattle.sw_caches.specs.Slots.{address_digest}
-use Rattle.sw_index.specs.Numbered.{DropsMarks, IsIndexed, IsTight, marks_of}
+use Rattle.sw_list.specs.Numbered.{DropsMarks, IsIndexed, IsTight, marks_of}
 
 abbrev pub number : Entry → ℕ
 number entry = entry.number

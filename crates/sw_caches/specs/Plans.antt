@@ -13,8 +13,8 @@ use Rattle.sw_rules.specs.Batch as rules
 use Rattle.sw_caches.specs.declared.fault.BatchFault.{BatchFault}
 use Rattle.sw_caches.specs.declared.fault.BatchFault.TheVariants as fault
 use Rattle.sw_caches.specs.declared.plan.PairsPlan.{PairsPlan}
-use Rattle.sw_index.specs.Slots.{Slot, has, is_marked}
-use Rattle.sw_index.specs.Numbered.{AllBelow, AllFrom}
+use Rattle.sw_list.specs.Marks.{Slot, has, is_marked}
+use Rattle.sw_list.specs.Numbered.{AllBelow, AllFrom}
 use Rattle.sw_caches.specs.Entries.{AreIndexed, marks, number, pairs}
 
 -- a pair is taken out by one of the queries, or by a put in whose place it stands

@@ -1,8 +1,8 @@
 -- What a pair is found by in the index of a cache.
 use Rattle.std.specs.Prelude.{ℕ, Bool, true, false, List}
 use Rattle.sw_data.specs.Addresses.{without_fragment, without_query}
-use Rattle.sw_index.specs.declared.slots.Mark.{Mark}
-use Rattle.sw_index.specs.Slots.{digest, mixed}
+use Rattle.sw_list.specs.declared.marks.Mark.{Mark}
+use Rattle.sw_list.specs.Marks.{digest, mixed}
 
 -- what an address is found by: where queries are ignored, its digest without fragment and query, marked by a `#`, and else its digest without fragment
 unfoldable pub address_digest : Bool → List ℕ → ℕ

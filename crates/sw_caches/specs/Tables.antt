@@ -13,8 +13,8 @@ use Rattle.sw_caches.specs.declared.fault.BatchFault.{BatchFault}
 use Rattle.sw_caches.specs.declared.fault.BatchFault.TheVariants as fault
 use Rattle.sw_caches.specs.declared.sums.Sums.{Sums}
 use Rattle.sw_caches.specs.declared.table.CachePlan.{CachePlan}
-use Rattle.sw_index.specs.Named as named
-use Rattle.sw_index.specs.Named.{Label, Listing, values}
+use Rattle.sw_list.specs.Named as named
+use Rattle.sw_list.specs.Named.{Label, Listing, values}
 use Rattle.sw_caches.specs.Bytes.{bytes_of, cache_size, key_bytes, made_size, names_size, puts_size}
 use Rattle.sw_caches.specs.Entries.{pairs}
 use Rattle.sw_caches.specs.Plans.{Fits, Indexed, IsThrown, carried}

@@ -1,7 +1,7 @@
 //! A plan is carried out: pairs are taken out where all room was made before.
 
 ghost use Rattle.std.specs.Prelude.{◌≡◌, ◌≤◌, [], vec_capacity, vec_len};
-ghost use Rattle.sw_index.specs.Numbered.{KeepsAbove};
+ghost use Rattle.sw_list.specs.Numbered.{KeepsAbove};
 ghost use Rattle.sw_caches.specs.Bytes.{made_size};
 ghost use Rattle.sw_caches.specs.Entries.{AreIndexed, DropMarks, number, pairs};
 ghost use Rattle.sw_caches.specs.Plans.{left_by};
@@ -10,7 +10,7 @@ use crate::entries::drop_matching;
 use crate::entry::Entry;
 use crate::plan::NO_OPTIONS;
 use sw_data::{Options, Request};
-use sw_index::Slots;
+use sw_list::Slots;
 
 // Takes out what the queries match, and its bytes; it takes no memory.
 pub(crate) fn drop_deleted(

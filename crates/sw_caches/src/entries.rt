@@ -4,7 +4,7 @@ ghost use Rattle.std.specs.Prelude.{◌≡◌, ◌<◌, ◌≤◌, true, MatchOp
 ghost use Rattle.std.specs.List.{All, AllPairs};
 ghost use Rattle.sw_rules.specs.Matching.{first_match, matches_pair, query_of};
 ghost use Rattle.sw_rules.specs.Batch.{matches_added, without_matching};
-ghost use Rattle.sw_index.specs.Numbered.{KeepsAbove, NoneOfNumber, StandsAt, first_by};
+ghost use Rattle.sw_list.specs.Numbered.{KeepsAbove, NoneOfNumber, StandsAt, first_by};
 ghost use Rattle.sw_caches.specs.Bytes.{made_size, puts_size};
 ghost use Rattle.sw_caches.specs.Places.{places_by};
 ghost use Rattle.sw_caches.specs.Entries.{AreIndexed, DropMarks, marks, number, pair, pairs};
@@ -14,7 +14,7 @@ use crate::rules::sum;
 use crate::slots::{address_digest, mark_of};
 use std::alloc::Global;
 use sw_data::{Items, NoMemory, Options, Request};
-use sw_index::{Mark, Slots, next_number, take_mark};
+use sw_list::{Mark, Slots, next_number, take_mark};
 use sw_match::{finds_nothing, matches_pair, number_of};
 
 // The place of the entry of a number.
@@ -81,7 +81,7 @@ fn first_matching<'a>(
 }
 
 // A query matches one of the pairs.
-#[tactic(auto, using(sw_index::proofs::FindLemmas::found_any))]
+#[tactic(auto, using(sw_list::proofs::FindLemmas::found_any))]
 pub(crate) fn has_matching(
     entries: &[Entry],
     slots: &Slots,

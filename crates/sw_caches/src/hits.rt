@@ -7,13 +7,13 @@ ghost use Rattle.sw_rules.specs.Caching as rules;
 ghost use Rattle.sw_rules.specs.Caching.{asked_caches};
 ghost use Rattle.sw_caches.specs.Hits.{found_answer};
 ghost use Rattle.sw_caches.specs.Tables.{caches_of, hit_from, hit_in, kept_row};
-ghost use Rattle.sw_index.specs.Named.{named_row};
+ghost use Rattle.sw_list.specs.Named.{named_row};
 
 use crate::pairs::Pairs;
 use crate::rows::{next_asked, next_cache};
 use crate::table::Hit;
 use sw_data::{Options, Request, Response, Text};
-use sw_index::{Named, Row};
+use sw_list::{Named, Row};
 
 // The cache has this name, or no name is given.
 fn is_asked(row: &Row<Pairs>, name: Option<&Text>) -> bool

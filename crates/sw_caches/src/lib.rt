@@ -4,8 +4,8 @@
 //! index finds the numbers of an address by its digests, without fragment and also without query.
 //! It has no other number but those of a plan that was made and isn't carried out yet. A number that
 //! it finds is looked up, and its pair is tested. So no other pair is moved, copied or compared for
-//! a put or a query. In the same way the caches stand in the order of their creation, and an index
-//! finds those of a key, and that of a key and a name.
+//! a put or a query. The caches stand in the order of their creation, and those of a key, and that of
+//! a key and a name, are found by maps.
 #![tactic(auto)]
 
 mod carry;

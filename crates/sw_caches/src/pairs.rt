@@ -6,7 +6,7 @@ ghost use Rattle.std.specs.Option.{IfSome};
 ghost use Rattle.sw_rules.specs.Matching.{Pair, first_match, query_of};
 ghost use Rattle.sw_data.specs.Sizes.{op_size};
 ghost use Rattle.sw_rules.specs.Batch.{batch};
-ghost use Rattle.sw_index.specs.Slots.{KeepsBelow, KeepsSlots};
+ghost use Rattle.sw_list.specs.Marks.{KeepsBelow, KeepsSlots};
 ghost use Rattle.sw_caches.specs.Bytes.{made_size, puts_size};
 ghost use Rattle.sw_caches.specs.Entries.{marks, pairs};
 ghost use Rattle.sw_caches.specs.Plans.{Fits, IsDraft, IsThrown, carried};
@@ -21,7 +21,7 @@ use std::alloc::Global;
 use std::collections::BTreeSet;
 use std::marker::Model;
 use sw_data::{Items, NoMemory, Op, Options, Request};
-use sw_index::{Mark, Slots, take_marks};
+use sw_list::{Mark, Slots, take_marks};
 use sw_match::number_of;
 
 // The most pairs that a cache may have.
@@ -44,7 +44,7 @@ pub(crate) struct Pairs {
 
 impl Model for Pairs {
     ghost use Rattle.std.specs.Prelude.{◌≡◌, ◌<◌, ◌-◌, ◌^◌, length, vec_len, vec_capacity};
-    ghost use Rattle.sw_index.specs.Numbered.{AllBelow};
+    ghost use Rattle.sw_list.specs.Numbered.{AllBelow};
     ghost use Rattle.sw_caches.specs.Bytes.{made_size};
     ghost use Rattle.sw_caches.specs.Entries.{AreIndexed, AreTight, number, pairs};
     ghost use Rattle.sw_caches.specs.Plans.{Indexed};

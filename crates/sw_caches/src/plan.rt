@@ -5,8 +5,8 @@ ghost use Rattle.sw_data.specs.declared.exchange.Op.{Op};
 ghost use Rattle.sw_data.specs.declared.exchange.Op.TheVariants as op;
 ghost use Rattle.sw_rules.specs.Matching.{Pair};
 ghost use Rattle.sw_rules.specs.Batch.{go, put_fault};
-ghost use Rattle.sw_index.specs.Slots.{HasLost, KeepsBelow, KeepsSlots, has};
-ghost use Rattle.sw_index.specs.Numbered.{AllFrom};
+ghost use Rattle.sw_list.specs.Marks.{HasLost, KeepsBelow, KeepsSlots, has};
+ghost use Rattle.sw_list.specs.Numbered.{AllFrom};
 ghost use Rattle.sw_caches.specs.Entries.{AreTight, marks, number, pairs};
 ghost use Rattle.sw_caches.specs.Plans.{IsDraft, IsThrown, carried, left_by};
 
@@ -17,7 +17,7 @@ use crate::rules::{put_fault, put_size};
 use crate::slots::mark_of;
 use std::alloc::Global;
 use sw_data::{NoMemory, Op, Options, Request, Response};
-use sw_index::{Slots, put_mark, take_mark};
+use sw_list::{Slots, put_mark, take_mark};
 use sw_match::finds_nothing;
 
 // No option is set.

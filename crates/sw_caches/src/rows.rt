@@ -2,7 +2,7 @@
 
 ghost use Rattle.std.specs.Prelude.{◌≡◌, ◌<◌, ◌^◌, [], Some, MatchOption, IfOk, filter, map, option_copied, slice_get};
 ghost use Rattle.std.specs.List.{All};
-ghost use Rattle.sw_index.specs.Named.{named_row, named_rows, values};
+ghost use Rattle.sw_list.specs.Named.{named_row, named_rows, values};
 ghost use Rattle.sw_rules.specs.Storage.{is_cache};
 ghost use Rattle.sw_caches.specs.Bytes.{bytes_of, made_size};
 ghost use Rattle.sw_caches.specs.Hits.{is_asked};
@@ -14,7 +14,7 @@ use crate::pairs::Pairs;
 use crate::table::CachePlan;
 use std::alloc::Global;
 use sw_data::{KeptCache, NoMemory, Text};
-use sw_index::{Named, Row};
+use sw_list::{Named, Row};
 
 // The first cache of a key at a place or behind it, and the place behind that; it takes no memory.
 pub(crate) fn next_cache<'a>(

@@ -5,7 +5,7 @@ ghost use Rattle.sw_caches.specs.Slots.{address_digest, address_mark};
 
 use sw_data::Text;
 use sw_data::address::{without_fragment, without_query};
-use sw_index::{Mark, digest, mixed};
+use sw_list::{Mark, digest, mixed};
 
 // The digest of an address without its fragment, or also without its query.
 #[tactic(auto, unfolding(crate::specs::Slots::address_digest))]

@@ -29,7 +29,7 @@ use crate::sums::Sums;
 use std::alloc::Global;
 use std::marker::Model;
 use sw_data::{KeptCache, NoMemory, Op, Options, Request, Response, Text};
-use sw_index::{Named, NewRow};
+use sw_list::{Named, NewRow};
 
 /// The caches of all keys, in order of creation (Service Workers, "name to cache map"). An index
 /// finds those of a key, or that of a key and a name, in the time that they take themselves. Their

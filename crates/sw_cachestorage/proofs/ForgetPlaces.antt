@@ -1,5 +1,5 @@
 -- Registrations that are forgotten place by place.
-use Rattle.std.proofs.Common.{◌≡◌, ◌∙◌, ◌+◌, ◌*◌, ◌<◌, ◌≤◌, ℕ, zero, suc, Bool, true, false, List, [], ◌∷◌, ◌++◌, bytes_eq, filter, map, drop, length, inl, inr, Option, Some, None, option_map, option_and_then, refl, sym, ap, arith, if◌then◌else◌}
+use Rattle.std.proofs.Common.{◌≡◌, ◌∙◌, ◌+◌, ◌*◌, ◌<◌, ◌≤◌, ◌&&◌, ◌==◌, ℕ, zero, suc, Bool, true, false, List, [], ◌∷◌, ◌++◌, bytes_eq, filter, map, drop, length, inl, inr, Option, Some, None, option_map, option_and_then, refl, sym, ap, arith, if◌then◌else◌}
 use Rattle.std.specs.Prelude.{not, slice_get}
 use Rattle.std.specs.List.{range_with_len}
 use Rattle.std.specs.Option.{option_map_or}
@@ -12,14 +12,18 @@ use Rattle.sw_cachestorage.specs.Forgetting.{forget_place, forget_row, is_mapped
 use Rattle.sw_data.specs.declared.answers.Notice.{Notice}
 use Rattle.sw_data.specs.declared.rows.RegistrationRow.{RegistrationRow}
 use Rattle.sw_data.specs.declared.storage.KeptCache.{KeptCache}
+use Rattle.sw_data.specs.declared.workers.Slot.{Slot}
+use Rattle.sw_data.specs.declared.workers.Slot.TheVariants as slot
+use Rattle.sw_data.specs.declared.workers.WorkerState.TheVariants as worker_state
 use Rattle.sw_reg.specs.Table as registrations
 use Rattle.sw_rules.specs.Forgetting.{forget_key, forget_registrations, is_mapped_of}
 use Rattle.sw_rules.specs.Noticing.{Did, NoticeList}
-use Rattle.sw_rules.specs.Registrations.{clear, unmap}
-use Rattle.sw_rules.specs.Rows.{changed, is_registration}
-use Rattle.sw_rules.specs.State.{State, Registration}
+use Rattle.sw_rules.specs.Registrations.{become, clear, retire, unmap}
+use Rattle.sw_rules.specs.Rows.{changed, has_pending, has_pending_worker, is_registration, is_worker, slot_worker}
+use Rattle.sw_rules.specs.State.{State, Registration, Worker}
 use Rattle.sw_rules.specs.Told.{Told, followed, quiet}
 use Rattle.sw_scope.specs.Scopes.{Scopes}
+use Rattle.sw_tables.proofs.Rows.{any_same}
 use Rattle.sw_tables.specs.Lent.{Rest, lent, shown_registration}
 use Rattle.sw_tables.specs.Linked.{ArePlaces}
 use Rattle.sw_worker.specs.Table as workers
@@ -51,24 +55,64 @@ module _ (key : List ℕ) (scopes : Scopes) (of_workers : workers.Table) (of_reg
       ap (λ row. option_map_or (forget_row key state) row (quiet state)) (slice_get-map (shown_registration scopes rest) of_registrations.rows place)
       ∙ told_as (slice_get of_registrations.rows place)
 
+-- ---- what stays
+
+-- own: registrations stay, and what is pending on their workers
+record StayCalm (old : State) (told : Told) : Type 0 where
+  registrations : told.state.registrations ≡ old.registrations
+  pending : (m : ℕ) → has_pending_worker told.state m ≡ has_pending_worker old m
+
+retire_calm : (from : State) (place : Slot) (registration : ℕ) → StayCalm from (retire from place registration)
+unfolding retire become
+retire_calm from place registration = by (slot_worker from place registration)
+  where
+    by : (o : Option Worker) → StayCalm from (elim o [ None ↦ quiet from | Some old ↦ become from old.number worker_state.Redundant ])
+    by None = record { registrations = refl; pending = λ m. refl }
+    by (Some old) = record {
+      registrations = refl;
+      pending = λ m. any_same (λ row. row.registration == m && has_pending from row) (λ row. if is_worker old.number row then record row { state = worker_state.Redundant } else row) (λ row. grind arith) from.workers;
+    }
+
+clear_calm : (from : State) (registration : ℕ) → StayCalm from (clear from registration)
+unfolding clear followed
+clear_calm from registration =
+    let one = (retire from slot.Installing registration).state in
+    let two = (retire one slot.Waiting registration).state in
+    let first = retire_calm from slot.Installing registration in
+    let second = retire_calm one slot.Waiting registration in
+    let third = retire_calm two slot.Active registration in
+    record {
+      registrations = third.registrations ∙ (second.registrations ∙ first.registrations);
+      pending = λ m. third.pending m ∙ (second.pending m ∙ first.pending m);
+    }
+
+-- the registrations when this one has left the map
+abbrev pub left_map : ℕ → List Registration → List Registration
+left_map number rows = changed (is_registration number) (λ row. record row { mapped = false }) rows
+
+pub one_registrations : (from : State) (number : ℕ) → (one_told from number).state.registrations ≡ left_map number from.registrations
+unfolding unmap followed
+one_registrations from number = (clear_calm (unmap from number).state number).registrations
+
+pub one_pending : (from : State) (number m : ℕ) → has_pending_worker (one_told from number).state m ≡ has_pending_worker from m
+unfolding unmap followed
+one_pending from number = (clear_calm (unmap from number).state number).pending
+
 -- ---- the rows behind a place stay
 
-abbrev unmapped : Registration → Registration
-unmapped row = record row { mapped = false }
-
 behind_from : (base place : ℕ) (rows : List Registration) (row : Registration) → map (λ row. row.number) rows ≡ range_with_len base (length rows) → slice_get rows place ≡ Some row
-    → drop (suc place) (changed (is_registration row.number) unmapped rows) ≡ drop (suc place) rows
+    → drop (suc place) (left_map row.number rows) ≡ drop (suc place) rows
 behind_from base place [] row are is = absurd cc
 behind_from base zero (first ∷ rows) row are is =
     let here : row.number ≡ base = cc in
-    past_stay (λ (r : Registration). r.number) unmapped row.number (base + 1) (omega (arith, here)) rows cc
+    past_stay (λ (r : Registration). r.number) (λ r. record r { mapped = false }) row.number (base + 1) (omega (arith, here)) rows cc
 behind_from base (suc place) (first ∷ rows) row are is = behind_from (base + 1) place rows row (cc) is
 
 behind : (place : ℕ) (rows : List Registration) (row : Registration) → ArePlaces (λ row. row.number) rows → slice_get rows place ≡ Some row
-    → drop (place + 1) (changed (is_registration row.number) unmapped rows) ≡ drop (place + 1) rows
+    → drop (place + 1) (left_map row.number rows) ≡ drop (place + 1) rows
 behind place rows row are is =
     let next : place + 1 ≡ suc place = omega arith in
-    ap (λ n. drop n (changed (is_registration row.number) unmapped rows)) next ∙ behind_from 0 place rows row are is ∙ ap (λ n. drop n rows) (sym next)
+    ap (λ n. drop n (left_map row.number rows)) next ∙ behind_from 0 place rows row are is ∙ ap (λ n. drop n rows) (sym next)
 
 front : {X : Type 0} (xs : List X) (place : ℕ) (x : X) → slice_get xs place ≡ Some x → drop place xs ≡ x ∷ drop (place + 1) xs
 front xs place x is = drop_more xs place x (slice_get_within xs place x is) ∙ ap (λ y. y ∷ drop (place + 1) xs) (get_or_from_slice_get xs place x x is)
@@ -94,7 +138,7 @@ module _ (key : List ℕ) (from : State) (row : Registration) (rows : List Regis
       by false is = rw is refl
 
   first_notices : (forget_of key from (row ∷ rows)).notices ≡ (forget_row key from row).notices ++ (forget_of key (forget_row key from row).state rows).notices
-  unfolding forget_registrations forget_row unmap clear followed
+  unfolding forget_registrations forget_row unmap followed
   first_notices = by (is_mapped_of key row) refl
     where
       by : (b : Bool) → is_mapped_of key row ≡ b → (forget_of key from (row ∷ rows)).notices ≡ (forget_row key from row).notices ++ (forget_of key (forget_row key from row).state rows).notices
@@ -110,11 +154,11 @@ module _ (key : List ℕ) (place : ℕ) (from to : State) (before after : Notice
   becomes = sym (did.state ∙ ap (λ (t : Told). t.state) told)
 
   pub others_stay : drop (place + 1) to.registrations ≡ drop (place + 1) from.registrations
-  unfolding forget_row unmap clear followed
+  unfolding forget_row
   others_stay = ap (λ (s : State). drop (place + 1) s.registrations) (sym becomes) ∙ by (is_mapped_of key row) refl
     where
       by : (b : Bool) → is_mapped_of key row ≡ b → drop (place + 1) (forget_row key from row).state.registrations ≡ drop (place + 1) from.registrations
-      by true is = rw is (behind place from.registrations row are here)
+      by true is = rw is (ap (drop (place + 1)) (one_registrations from row.number) ∙ behind place from.registrations row are here)
       by false is = rw is refl
 
   abbrev left : List Registration
@@ -191,12 +235,12 @@ module _ (key : List ℕ) (place : ℕ) (scopes : Scopes) (from : List Registrat
       by false count ask = omega (arith, count, ask, room, used)
 
 told_length : (key : List ℕ) (from : State) (o : Option Registration) → length (option_map_or (forget_row key from) o (quiet from)).state.registrations ≡ length from.registrations
-unfolding forget_row unmap clear followed
+unfolding forget_row
 told_length key from None = refl
 told_length key from (Some row) = by (is_mapped_of key row)
   where
     by : (b : Bool) → length (if b then one_told from row.number else quiet from).state.registrations ≡ length from.registrations
-    by true = length-map from.registrations (λ r. if is_registration row.number r then record r { mapped = false } else r)
+    by true = ap length (one_registrations from row.number) ∙ length-map from.registrations (λ r. if is_registration row.number r then record r { mapped = false } else r)
     by false = refl
 
 pub rows_shown : (scopes : Scopes) (rest : Rest) (rows : List RegistrationRow) → ArePlaces (λ (r : RegistrationRow). r.number) rows → ArePlaces (λ (r : Registration). r.number) (map (shown_registration scopes rest) rows)

@@ -19,7 +19,6 @@ use Rattle.sw_scope.specs.Scopes.{Scopes}
 use Rattle.sw_tables.proofs.OneMoves.{StaysPut, put_linked, put_slots}
 use Rattle.sw_tables.proofs.Rows.{at_changed, at_others}
 use Rattle.sw_tables.proofs.Shown.{seen_changed}
-use Rattle.sw_tables.proofs.Standing.{flipped}
 use Rattle.sw_tables.specs.Happened.{CountsTasks, unsettled_of}
 use Rattle.sw_tables.specs.Lent.{Rest, lent, shown_worker}
 use Rattle.sw_tables.specs.Linked.{ArePlaces, HasSlots, Linked}
@@ -49,7 +48,7 @@ workers_shown : (maker : Option ℕ) (fault : Bool) (rows : List WorkerRow)
 workers_shown None fault rows = nobody (λ row. record row { handler = option_map (noted_task fault) row.handler }) (map shown_worker rows)
 workers_shown (Some worker) fault rows =
     seen_changed shown_worker (is_worker worker) (noted fault) (is_maker (Some worker)) (λ row. record row { handler = option_map (noted_task fault) row.handler })
-    (λ row. flipped worker row.number) (noted_shown fault) rows
+    (λ row. grind (arith, nat_tests)) (noted_shown fault) rows
 
 pub settled_state : (task : ℕ) (value : Settlement) (fault : Bool) (maker : Option ℕ) (tasks after : List AddAll) (old new : workers.Table)
     → maker ≡ maker_of task tasks → after ≡ changed (is_task task) (λ row. record row { settled = Some value }) tasks

@@ -1,12 +1,12 @@
 -- A key stays quiet where a registration of it is forgotten.
-use Rattle.std.proofs.Common.{◌≡◌, ◌∙◌, ◌&&◌, ◌==◌, ◌+◌, ◌≤◌, ℕ, zero, suc, Bool, true, false, List, [], ◌∷◌, map, length, bytes_eq, is_some, Option, Some, None, option_map, option_and_then, refl, sym, ap, arith, if◌then◌else◌}
+use Rattle.std.proofs.Common.{◌≡◌, ◌∙◌, ◌+◌, ◌≤◌, ℕ, zero, suc, Bool, true, false, List, [], ◌∷◌, map, length, bytes_eq, is_some, Option, Some, None, option_map, option_and_then, refl, sym, ap, arith, if◌then◌else◌}
 use Rattle.std.specs.Prelude.{find, slice_get}
 use Rattle.std.specs.List.{range_with_len}
 use Rattle.std.specs.Option.{option_map_or}
 use Rattle.std.proofs.lemmas.Bool.{and_parts}
 use Rattle.std.proofs.lemmas.Bool.Decides.{nat_tests}
 use Rattle.sw_client.specs.Table as clients
-use Rattle.sw_cachestorage.proofs.ForgetPlaces.{one_told}
+use Rattle.sw_cachestorage.proofs.ForgetPlaces.{left_map, one_pending, one_registrations, one_told}
 use Rattle.sw_cachestorage.proofs.Quiet.{quiet_one}
 use Rattle.sw_cachestorage.specs.Forgetting.{AreQuiet, is_mapped_row, mapped_at}
 use Rattle.sw_data.specs.declared.rows.RegistrationRow.{RegistrationRow}
@@ -14,13 +14,11 @@ use Rattle.sw_data.specs.declared.workers.Slot.{Slot}
 use Rattle.sw_data.specs.declared.workers.Slot.TheVariants as place
 use Rattle.sw_reg.specs.Table as registrations
 use Rattle.sw_reg.specs.Table.{has_registration, is_there, registration_at, slot_of}
-use Rattle.sw_rules.specs.Registrations.{clear, clear_state, shift, unmap}
-use Rattle.sw_rules.specs.Rows.{changed, has_pending, has_pending_worker, is_number, is_registration}
-use Rattle.sw_rules.specs.State.{State, Registration, Worker}
-use Rattle.sw_rules.specs.Told.{followed}
+use Rattle.sw_rules.specs.Rows.{has_pending_worker, is_number, is_registration}
+use Rattle.sw_rules.specs.State.{State, Registration}
 use Rattle.sw_scope.specs.Scopes.{Scopes, maps}
 use Rattle.sw_tables.proofs.Pending.{pending_worker}
-use Rattle.sw_tables.proofs.Rows.{any_same, find_map, find_same}
+use Rattle.sw_tables.proofs.Rows.{find_map, find_same}
 use Rattle.sw_tables.specs.Lent.{Rest, lent, shown_registration}
 use Rattle.sw_tables.specs.Linked.{ArePlaces, HasSlots}
 use Rattle.sw_tables.specs.Shifts.{IsQuiet, is_pending_in}
@@ -66,35 +64,13 @@ mapped_there key scopes rows place number are is = by (slice_get rows place) ref
     by None here same = absurd cc
     by (Some row) here same = one row (is_mapped_row key scopes row) here refl same
 
--- ---- what is pending stays
-
--- a registration that left the map and was cleared
-abbrev one_gone : State → ℕ → State
-one_gone state number = record state {
-  registrations = changed (is_registration number) (λ row. record row { mapped = false }) state.registrations;
-  workers = shift number clear_state state.workers;
-}
-
-gone : (state : State) (number : ℕ) → (one_told state number).state ≡ one_gone state number
-unfolding followed unmap clear
-gone state number = refl
-
-pends_same : (state : State) (number m : ℕ) → has_pending_worker (one_gone state number) m ≡ has_pending_worker state m
-pends_same state number m = any_same (λ row. row.registration == m && has_pending state row) cleared (λ row. by row (row.registration == number)) state.workers
-  where
-    cleared : Worker → Worker
-    cleared row = if row.registration == number then record row { state = clear_state row.state } else row
-
-    by : (row : Worker) (b : Bool) → (let new = if b then record row { state = clear_state row.state } else row in new.registration == m && has_pending state new)
-        ≡ (row.registration == m && has_pending state row)
-    by row true = refl
-    by row false = refl
+-- ---- what is quiet stays so
 
 module _ (key : List ℕ) where
   abbrev key_at : ℕ → List Registration → Bool
   key_at m rows = option_map_or (λ (row : Registration). bytes_eq row.key key) (find (is_registration m) rows) false
 
-  keys_same : (m number : ℕ) (rows : List Registration) → key_at m (map (λ row. if is_registration number row then record row { mapped = false } else row) rows) ≡ key_at m rows
+  keys_same : (m number : ℕ) (rows : List Registration) → key_at m (left_map number rows) ≡ key_at m rows
   keys_same m number rows =
       ap (λ o. option_map_or (λ (row : Registration). bytes_eq row.key key) o false) (find_same (is_registration m) unmapped (λ row. numbers row (is_registration number row)) rows)
       ∙ by (find (is_registration m) rows)
@@ -139,18 +115,17 @@ no_pending of_workers of scopes of_clients rest m has quiet =
         by None is = refl
         by (Some n) is = quiet p n is
 
--- what is quiet stays so
 pub quiet_after : (key : List ℕ) (number : ℕ) (scopes after : Scopes) (old new : workers.Table) (from to : registrations.Table) (of_clients : clients.Table) (rest : Rest)
     → HasSlots old from → HasSlots new to → lent after new to of_clients rest ≡ (one_told (lent scopes old from of_clients rest) number).state
     → AreQuiet key old from → AreQuiet key new to
 quiet_after key number scopes after old new from to of_clients rest has has_now did quiet m own =
-    let is = did ∙ gone (lent scopes old from of_clients rest) number in
+    let before = lent scopes old from of_clients rest in
     let own_before =
     sym (keys_shown key scopes rest m from.rows)
-    ∙ (sym (keys_same key m number (map (shown_registration scopes rest) from.rows))
-    ∙ (ap (λ (state : State). key_at key m state.registrations) (sym is)
+    ∙ (sym (keys_same key m number before.registrations)
+    ∙ (ap (key_at key m) (sym (ap (λ (state : State). state.registrations) did ∙ one_registrations before number))
     ∙ (keys_shown key after rest m to.rows ∙ own))) in
     quiet_one new to has_now after of_clients rest m
-    (ap (λ state. has_pending_worker state m) is
-    ∙ (pends_same (lent scopes old from of_clients rest) number m
+    (ap (λ state. has_pending_worker state m) did
+    ∙ (one_pending before number m
     ∙ no_pending old from scopes of_clients rest m has (quiet m own_before)))

@@ -5,8 +5,7 @@ ghost use Rattle.sw_data.specs.declared.storage.Change.TheVariants as change;
 ghost use Rattle.sw_rules.specs.Caching.{batch_changes};
 
 use std::alloc::Global;
-use sw_copy::copy_ops;
-use sw_data::{Change, Items, NoMemory, Op, Text};
+use sw_data::{Change, Items, NoMemory, Op, Text, copy_ops};
 
 // One change.
 fn one(alloc: Global, change: Change) -> Result<Items<Change>, NoMemory>

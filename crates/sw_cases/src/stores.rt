@@ -17,10 +17,9 @@ use crate::table::Table;
 use serde_json::Value;
 use std::alloc::Global;
 use sw_caches::{BatchFault, Caches, apply_ops};
-use sw_copy::{copy_call, same_call};
-use sw_data::{Bytes, CacheBatch, Call, Items, Op, Request, Response, Text};
+use sw_data::{Bytes, CacheBatch, Call, Items, Op, Request, Response, Text, copy_call, same_call};
 use sw_forms::{batch_parts, match_parts, put_parts};
-use sw_index::Named;
+use sw_list::Named;
 use sw_match::{combined, query};
 
 fn combined_value(alloc: Global, parts: &[Value]) -> Answer {

@@ -14,7 +14,7 @@ use Rattle.sw_data.specs.declared.storage.KeptRegistration.{KeptRegistration}
 use Rattle.sw_data.specs.declared.storage.KeptWorker.{KeptWorker}
 use Rattle.sw_data.specs.declared.workers.Mode.{Mode}
 use Rattle.sw_rules.specs.Storage.{is_registration, with_registration, first_waiting, with_waiting, promoted}
-use Rattle.sw_index.specs.Named.{is_at, values, with_value}
+use Rattle.sw_list.specs.Named.{is_at, values, with_value}
 use Rattle.sw_change.specs.declared.registration.Registration.{Registration}
 use Rattle.sw_change.specs.Table.{Place, is_same, kept_row, kept_rows, promoted_registration}
 use Rattle.sw_change.proofs.Apart.{apart-push, none-all}

@@ -9,7 +9,7 @@ use crate::registration::{Edit, Registration};
 use std::alloc::Global;
 use std::marker::Model;
 use sw_data::{KeptRegistration, KeptWorker, Mode, NoMemory, Text};
-use sw_index::Named;
+use sw_list::Named;
 
 // The kept registrations, found by key and scope.
 #[derive(Drop)]

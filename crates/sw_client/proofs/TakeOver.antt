@@ -5,7 +5,7 @@ use Rattle.std.specs.Option.{option_to_list}
 use Rattle.std.proofs.lemmas.Bool.Decides.{nat_tests}
 use Rattle.std.specs.List.{IsDistinct}
 use Rattle.std.specs.Map.{keys_of, values_of}
-use Rattle.sw_order.specs.Sequence.{with_value_at}
+use Rattle.sw_list.specs.Sequence.{with_value_at}
 use Rattle.sw_rules.specs.Rows.{changed}
 use Rattle.sw_client.specs.declared.OpenClient.{OpenClient}
 use Rattle.sw_client.specs.Keyed.{keyed}

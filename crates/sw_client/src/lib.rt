@@ -14,7 +14,7 @@ mod counts;
 use std::alloc::Global;
 use std::marker::Model;
 use sw_data::{ClientRow, NoMemory, Notice, Text};
-use sw_order::Ordered;
+use sw_list::Ordered;
 use sw_rules::Notices;
 
 /// A client that is open, with the registration of its controller where it has one.

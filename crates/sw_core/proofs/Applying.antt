@@ -7,7 +7,7 @@ use Rattle.sw_data.specs.declared.events.Event.{Event}
 use Rattle.sw_rules.specs.State.{State}
 use Rattle.sw_rules.specs.Step.{Step, step}
 use Rattle.sw_rules.specs.Told.{Outcome}
-use Rattle.sw_work.specs.Hosted.{Hosted}
+use Rattle.sw_state.specs.Hosted.{Hosted}
 use Rattle.sw_work.specs.Plans.{Means}
 use Rattle.sw_work.specs.declared.plan.Work.{Work}
 

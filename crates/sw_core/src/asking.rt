@@ -14,7 +14,7 @@ ghost use Rattle.sw_rules.specs.History.{mapped_registrations};
 ghost use Rattle.sw_rules.specs.Rows.{task_row};
 ghost use Rattle.sw_rules.specs.Step.{enabled};
 ghost use Rattle.sw_rules.specs.Tasks as rules;
-ghost use Rattle.sw_work.specs.Hosted.{state_of};
+ghost use Rattle.sw_state.specs.Hosted.{state_of};
 
 use crate::core_tables::Core;
 use std::alloc::Global;
@@ -24,7 +24,7 @@ use sw_next::{
     busy, cache_count, enabled, event_of, fetches, has_settled, is_ready, mapped_count, may_begin,
     next_task, ready, task_key,
 };
-use sw_work::HostTables;
+use sw_state::HostTables;
 
 // The registrations that a claim by this worker would activate, on the tables of a host.
 fn claimed_of(alloc: Global, host: &HostTables, worker: u32) -> Result<Vec<u32>, NoMemory>

@@ -20,7 +20,7 @@ pub struct CoreBoard<'a> {
 
 impl Board for CoreBoard<'_> {
     ghost use Rattle.sw_lane.specs.Picked as lane;
-    ghost use Rattle.sw_work.specs.Hosted.{state_of};
+    ghost use Rattle.sw_state.specs.Hosted.{state_of};
 
     ghost state = { λ board. state_of board.core.now };
 

@@ -2,11 +2,11 @@
 
 ghost use Rattle.std.specs.Prelude.{◌≡◌};
 ghost use Rattle.sw_rules.specs.State.{initial};
-ghost use Rattle.sw_work.specs.Hosted.{state_of};
+ghost use Rattle.sw_state.specs.Hosted.{state_of};
 
 use std::alloc::Global;
 use std::marker::Model;
-use sw_work::HostTables;
+use sw_state::HostTables;
 
 /// A host: its tables, which nobody else changes.
 #[derive(Drop)]
@@ -15,7 +15,7 @@ pub struct Core {
 }
 
 impl Model for Core {
-    ghost use Rattle.sw_work.specs.Hosted.{Hosted};
+    ghost use Rattle.sw_state.specs.Hosted.{Hosted};
 
     ghost Value = { Hosted };
 

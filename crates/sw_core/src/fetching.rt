@@ -8,13 +8,12 @@ ghost use Rattle.sw_lane.specs.Picked.{is_task};
 ghost use Rattle.sw_laws.specs.Coherent.{Coherent};
 ghost use Rattle.sw_rules.specs.Step.{enabled};
 ghost use Rattle.sw_rules.specs.Tasks.{ready_tasks};
-ghost use Rattle.sw_work.specs.Hosted.{state_of};
+ghost use Rattle.sw_state.specs.Hosted.{state_of};
 
 use crate::core_tables::Core;
 use std::alloc::Global;
-use sw_copy::copy_line;
 use sw_data::address::without_fragment;
-use sw_data::{Event, FetchLine, Items, NoMemory, Task, Text, Who};
+use sw_data::{Event, FetchLine, Items, NoMemory, Task, Text, Who, copy_line};
 use sw_net::Net;
 
 // The line that a fetch gets.

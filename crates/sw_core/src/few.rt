@@ -3,7 +3,7 @@
 ghost use Rattle.std.specs.Prelude.{◌≡◌, ◌<◌, ◌≤◌, ◌^◌, length, map};
 ghost use Rattle.std.specs.List.{range_with_len};
 ghost use Rattle.sw_laws.specs.Coherent.{Coherent};
-ghost use Rattle.sw_work.specs.Hosted.{state_of};
+ghost use Rattle.sw_state.specs.Hosted.{state_of};
 
 use crate::core_tables::Core;
 use sw_data::{JobRow, RegistrationRow, WorkerRow};

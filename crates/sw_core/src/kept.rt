@@ -8,7 +8,7 @@ ghost use Rattle.sw_rules.specs.Storage.{IsMade};
 ghost use Rattle.sw_tables.specs.Happened.{CountsTasks};
 ghost use Rattle.sw_tables.specs.Lent.{lent};
 ghost use Rattle.sw_tables.specs.Linked.{Linked};
-ghost use Rattle.sw_work.specs.Hosted.{state_of};
+ghost use Rattle.sw_state.specs.Hosted.{state_of};
 
 use crate::core_tables::Core;
 use crate::keeping::kept;
@@ -19,7 +19,7 @@ use sw_change::Content;
 use sw_data::{Kept, NoMemory};
 use sw_ledgers::{Draws, Promises, Tasks};
 use sw_queue::Queues;
-use sw_work::HostTables;
+use sw_state::HostTables;
 
 // The host of the tables of a restart, which has nothing else. It takes no memory.
 fn host_of(alloc: Global, tables: Restored) -> HostTables

@@ -6,7 +6,7 @@ ghost use Rattle.sw_data.specs.declared.events.Event as events;
 ghost use Rattle.sw_laws.specs.Coherent.{Coherent};
 ghost use Rattle.sw_rules.specs.Step.{changes_of, enabled, step};
 ghost use Rattle.sw_rules.specs.Told.{Outcome};
-ghost use Rattle.sw_work.specs.Hosted.{state_of};
+ghost use Rattle.sw_state.specs.Hosted.{state_of};
 ghost use Rattle.sw_work.specs.Planned.{Fits};
 ghost use Rattle.sw_work.specs.Plans.{Means};
 

@@ -78,7 +78,7 @@ fn to_activating(worker: u32, workers: &mut Workers)
 }
 
 // A new worker becomes activated, or activating with its activate handler started. It takes no memory.
-#[tactic(auto, using(crate::proofs::LastRows::may_end, crate::proofs::LastRows::is_idle_still, crate::proofs::LastRows::advanced_twice, sw_tables::proofs::Shifting::begun_twice))]
+#[tactic(auto, using(crate::proofs::LastRows::may_end, crate::proofs::LastRows::is_idle_still, crate::proofs::LastRows::advanced_twice, sw_tables::proofs::TakeOver::begun_twice))]
 fn raise(worker: u32, activated: bool, workers: &mut Workers)
     requires { has_worker is_fresh worker workers.old.rows ≡ true }
     ensures { workers.new ≡ record workers.old {
@@ -139,8 +139,8 @@ fn seat(registration: u32, worker: u32, registrations: &mut Registrations)
     } }
 {
     registrations.to_installing(registration, worker);
-    let _ = registrations.to_waiting(registration);
-    let _ = registrations.to_active(registration);
+    registrations.to_waiting(registration);
+    registrations.to_active(registration);
 }
 
 // Adds the worker of a registration that was kept, which becomes its active one.

@@ -1,6 +1,6 @@
 -- What is read from a source and written to a sink. Either may tell its bytes or tell nothing.
-use Rattle.std.specs.Prelude.{◌≡◌, ℕ, List, Option, None, Some, ◌++◌}
-use Rattle.std.specs.Io.KnownBytes.{Appends, Consumes}
+use Rattle.std.specs.Prelude.{◌≡◌, ℕ, List, Option, None, Some}
+use Rattle.std.specs.Io.KnownBytes.{Consumes}
 
 -- own: these are the bytes that are told; where none are told, any may be
 abbrev pub Tells : Option (List ℕ) → List ℕ → Type 0
@@ -10,7 +10,3 @@ Tells (Some told) bytes = bytes ≡ told
 -- own: a source lost some bytes at its front, and nothing else, where it tells what it has left
 abbrev pub ConsumesSome : Option (List ℕ) → Option (List ℕ) → Type 0
 ConsumesSome old new = (front : List ℕ) × Consumes old new front
-
--- own: a sink got some first part of these bytes, and nothing else, where it tells what it holds
-abbrev pub AppendsPrefix : Option (List ℕ) → Option (List ℕ) → List ℕ → Type 0
-AppendsPrefix old new bytes = (front rest : List ℕ) × (bytes ≡ front ++ rest) × Appends old new front

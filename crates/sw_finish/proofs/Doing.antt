@@ -26,7 +26,7 @@ use Rattle.sw_tables.specs.Linked.{IsNoted, registration_of}
 use Rattle.sw_worker.specs.Table as workers
 use Rattle.sw_worker.specs.Table.{event_at, worker_at}
 use Rattle.sw_ledgers.specs.Promised as promises
-use Rattle.sw_work.specs.Hosted.{Hosted, IsJoined, rest_of, state_of}
+use Rattle.sw_state.specs.Hosted.{Hosted, IsJoined, rest_of, state_of}
 use Rattle.sw_work.specs.Plans as plans
 use Rattle.sw_work.specs.declared.plan.Then.{Then}
 use Rattle.sw_work.specs.declared.plan.Then.TheVariants as then

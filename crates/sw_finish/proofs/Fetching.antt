@@ -1,7 +1,7 @@
 -- A fetch that fits a host fits it whatever its navigation preloads are.
 use Rattle.std.specs.Prelude.{ℕ}
 use Rattle.sw_ledgers.specs.Preloaded as preloads
-use Rattle.sw_work.specs.Hosted.{Hosted}
+use Rattle.sw_state.specs.Hosted.{Hosted}
 use Rattle.sw_work.specs.Plans.{FitsFetch}
 use Rattle.sw_work.specs.declared.plan.NewFetch.{NewFetch}
 

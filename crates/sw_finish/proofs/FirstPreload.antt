@@ -9,7 +9,7 @@ use Rattle.sw_rules.specs.State.{Registration}
 use Rattle.sw_tables.proofs.Rows.{map_on, within}
 use Rattle.sw_tables.specs.Lent.{shown_registration}
 use Rattle.sw_tables.specs.Linked.{ArePlaces}
-use Rattle.sw_work.specs.Hosted.{Hosted, rest_of, state_of}
+use Rattle.sw_state.specs.Hosted.{Hosted, rest_of, state_of}
 
 -- what a call leaves of the others than the one that it changes
 pub at_others : {A : Type 0} (n one bound : ℕ) (new given old : A) → new ≡ (if n == one then given else old) → one ≡ bound → (n == bound) ≡ false → new ≡ old

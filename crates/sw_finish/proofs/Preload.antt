@@ -8,7 +8,7 @@ use Rattle.sw_rules.specs.Rows.{changed, is_registration}
 use Rattle.sw_rules.specs.State.{Registration}
 use Rattle.sw_scope.specs.Scopes.{Scopes}
 use Rattle.sw_tables.specs.Lent.{Rest, shown_registration}
-use Rattle.sw_work.specs.Hosted.{Hosted, rest_of, state_of}
+use Rattle.sw_state.specs.Hosted.{Hosted, rest_of, state_of}
 
 module _ (scopes : Scopes) (old new : Rest) (registration : ℕ) (on : Bool) (text : List ℕ)
     (flags : (n : ℕ) → new.preload n ≡ (if n == registration then on else old.preload n))

@@ -19,7 +19,7 @@ use Rattle.sw_rules.specs.Rows.{is_task, is_unsettled_of, maker_worker}
 use Rattle.sw_rules.specs.State.{State, AddAll}
 use Rattle.sw_rules.specs.Told.{Outcome}
 use Rattle.sw_tables.specs.Happened.{CountsTasks, unsettled_of}
-use Rattle.sw_work.specs.Hosted.{Hosted, state_of}
+use Rattle.sw_state.specs.Hosted.{Hosted, state_of}
 use Rattle.sw_work.specs.Plans.{Goes}
 use Rattle.sw_worker.specs.Table as workers
 use Rattle.sw_worker.specs.Table.{has_unsettled, has_worker, worker_at}

@@ -9,7 +9,7 @@ use Rattle.sw_rules.specs.Rows.{is_unsettled_of, maker_worker}
 use Rattle.sw_rules.specs.State.{AddAll}
 use Rattle.sw_rules.specs.Told.{Told, quiet}
 use Rattle.sw_tables.specs.Happened.{CountsTasks, unsettled_of}
-use Rattle.sw_work.specs.Hosted.{Hosted, state_of}
+use Rattle.sw_state.specs.Hosted.{Hosted, state_of}
 use Rattle.sw_work.specs.Plans.{told_by_start}
 use Rattle.sw_worker.specs.Table as workers
 

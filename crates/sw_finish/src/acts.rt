@@ -18,7 +18,7 @@ ghost use Rattle.sw_rules.specs.Preloading.{set_preload};
 ghost use Rattle.sw_rules.specs.Rows.{maker_worker};
 ghost use Rattle.sw_rules.specs.Told.{Outcome, Told};
 ghost use Rattle.sw_tables.specs.Linked.{IsNoted, registration_of};
-ghost use Rattle.sw_work.specs.Hosted.{state_of};
+ghost use Rattle.sw_state.specs.Hosted.{state_of};
 ghost use Rattle.sw_work.specs.Plans.{FitsAdded, FitsAsked, FitsPageAct, FitsStart, FitsTheAct, FitsThen, Goes, act_room, has_calls_left, outcome_of, page_room, started_outcome, told_by_act, told_by_caches, told_by_start, told_then, with_promise};
 ghost use Rattle.sw_worker.specs.Fits.{FitsEvent};
 
@@ -32,8 +32,9 @@ use sw_ledgers::{NewPreload, NewPromise};
 use sw_pages::PageAct;
 use sw_queue::NewJob;
 use sw_rules::Notices;
+use sw_state::HostTables;
 use sw_tables::{add, note_call, remove};
-use sw_work::{Act, Asked, HostTables, Then};
+use sw_work::{Act, Asked, Then};
 use sw_worker::NewEvent;
 
 // A client is added last.

@@ -4,7 +4,7 @@ ghost use Rattle.std.specs.Prelude.{◌≡◌, ◌≤◌};
 ghost use Rattle.sw_work.specs.Planned.{Fits};
 ghost use Rattle.sw_laws.specs.Coherent.{Coherent};
 ghost use Rattle.sw_rules.specs.Told.{Outcome};
-ghost use Rattle.sw_work.specs.Hosted.{state_of};
+ghost use Rattle.sw_state.specs.Hosted.{state_of};
 ghost use Rattle.sw_work.specs.Plans.{FitsWork, Goes, Means, work_room};
 
 use crate::acts::{do_added, do_asked, do_start};
@@ -14,7 +14,8 @@ use crate::hosting::{
 };
 use sw_data::Answer;
 use sw_rules::Notices;
-use sw_work::{HostTables, Plan, Reply, Work};
+use sw_state::HostTables;
+use sw_work::{Plan, Reply, Work};
 
 // What a work comes to; none exactly where it isn't enabled.
 fn carry_out(host: &mut HostTables, work: Work, notices: &mut Notices) -> Option<Answer>

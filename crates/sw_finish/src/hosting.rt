@@ -10,16 +10,17 @@ ghost use Rattle.sw_rules.specs.Activating as activating;
 ghost use Rattle.sw_rules.specs.Installing as installing;
 ghost use Rattle.sw_rules.specs.Registering as registering;
 ghost use Rattle.sw_tables.specs.Happened.{Happened};
-ghost use Rattle.sw_work.specs.Hosted.{state_of};
+ghost use Rattle.sw_state.specs.Hosted.{state_of};
 ghost use Rattle.sw_work.specs.Plans.{FitsFetched, FitsPreload, FitsRegister, FitsUpdate, IsUnregister, job_room, users_with};
 
 use sw_data::{Answer, Fault};
 use sw_install::{FetchOutcome, Rows};
 use sw_ledgers::NewPreload;
 use sw_rules::Notices;
+use sw_state::HostTables;
 use sw_work::{
-    HostTables, NewFetch, activate_answer, draw_where, evaluated_answer, fetched_answer,
-    finished_answer, installed_answer, ok_answer, ran_answer,
+    NewFetch, activate_answer, draw_where, evaluated_answer, fetched_answer, finished_answer,
+    installed_answer, ok_answer, ran_answer,
 };
 
 // An event adds no rows.

@@ -1,8 +1,8 @@
 -- A run under a limit that has ended, and what its status says of it.
 use Rattle.std.proofs.Common.{◌≡◌, ◌⊎◌, ◌∙◌, ◌++◌, inl, inr, ℕ, List, Option, Result, Ok, Err, refl, sym, ap, subst}
 use Rattle.std.specs.Prelude.{IfOk, OnErr}
-use Rattle.sw_bounded.specs.declared.ends.BoundedEnd.{BoundedEnd}
-use Rattle.sw_bounded.specs.declared.ends.BoundedEnd.TheVariants as end
+use Rattle.sw_bucket.specs.declared.ends.BoundedEnd.{BoundedEnd}
+use Rattle.sw_bucket.specs.declared.ends.BoundedEnd.TheVariants as end
 use Rattle.sw_data.specs.declared.histories.Entry.{Entry}
 use Rattle.sw_data.specs.declared.recordings.Recording.{Recording}
 use Rattle.sw_data.specs.declared.storage.Kept.{Kept}

@@ -1,8 +1,8 @@
 -- A recording that is run under a limit of what is kept: the status and the transcript of its end, and the line behind it.
 use Rattle.std.specs.Prelude.{◌≡◌, ◌≢◌, ◌++◌, ℕ, List, map, codes, decimal}
-use Rattle.sw_bounded.specs.Bounded as bounded
-use Rattle.sw_bounded.specs.declared.ends.BoundedEnd.{BoundedEnd}
-use Rattle.sw_bounded.specs.declared.ends.BoundedEnd.TheVariants as bounded_end
+use Rattle.sw_bucket.specs.Bounded as bounded
+use Rattle.sw_bucket.specs.declared.ends.BoundedEnd.{BoundedEnd}
+use Rattle.sw_bucket.specs.declared.ends.BoundedEnd.TheVariants as bounded_end
 use Rattle.sw_bucket.specs.Eviction.{next_forget}
 use Rattle.sw_data.specs.declared.histories.End.{End}
 use Rattle.sw_data.specs.declared.histories.End.TheVariants as end

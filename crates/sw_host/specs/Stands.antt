@@ -3,7 +3,7 @@ use Rattle.std.specs.Prelude.{◌≡◌, ◌⊎◌, ◌+◌, ◌≤◌, ◌<◌,
 use Rattle.sw_audit.specs.Accepted.{Says}
 use Rattle.sw_audit.specs.declared.verdicts.Verdict.{Verdict}
 use Rattle.sw_audit.specs.declared.verdicts.Verdict.TheVariants as verdict
-use Rattle.sw_bounded.specs.declared.ends.BoundedEnd.{BoundedEnd}
+use Rattle.sw_bucket.specs.declared.ends.BoundedEnd.{BoundedEnd}
 use Rattle.sw_data.specs.declared.histories.Entry.{Entry}
 use Rattle.sw_data.specs.declared.recordings.Recording.{Recording}
 use Rattle.sw_data.specs.declared.storage.Kept.{Kept}

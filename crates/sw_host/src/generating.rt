@@ -11,7 +11,7 @@ ghost use Rattle.sw_record.specs.Grammar.{recording_of};
 ghost use Rattle.sw_rules.specs.History.{mapped_registrations};
 ghost use Rattle.sw_rules.specs.Storage.{nothing};
 ghost use Rattle.sw_turns.specs.Turns.{IsAtRest};
-ghost use Rattle.sw_work.specs.Hosted.{state_of};
+ghost use Rattle.sw_state.specs.Hosted.{state_of};
 
 use crate::ending::{open_for, printed};
 use crate::report::Report;

@@ -2,7 +2,7 @@
 
 ghost use Rattle.std.specs.Prelude.{◌≡◌, ◌≢◌, ◌⊎◌, ◌+◌, ◌≤◌, ℕ, List, Some, true, false, IfOk, OnErr};
 ghost use Rattle.std.specs.Io.KnownBytes.{IsAtEnd};
-ghost use Rattle.sw_bounded.specs.declared.ends.BoundedEnd.TheVariants as bounded_end;
+ghost use Rattle.sw_bucket.specs.declared.ends.BoundedEnd.TheVariants as bounded_end;
 ghost use Rattle.sw_data.specs.Faults.{Rose};
 ghost use Rattle.sw_data.specs.Streams.{ConsumesSome};
 ghost use Rattle.sw_host.specs.declared.command.Command.TheVariants as command;

@@ -1,15 +1,16 @@
 -- Activate, and the end of an activate handler, keep a state coherent.
-use Rattle.std.proofs.Common.{◌≡◌, ℕ, Bool, true, false, not, ◌&&◌, ◌||◌, ◌==◌, List, map, Option, Some, None, refl, ap, arith, if◌then◌else◌}
+use Rattle.std.proofs.Common.{◌≡◌, ℕ, Bool, true, false, not, ◌&&◌, ◌||◌, ◌==◌, List, map, Option, Some, None, refl, ap, arith, if◌then◌else◌, subst, sym}
 use Rattle.std.specs.List.{list_all, list_any}
 use Rattle.std.specs.Prelude.{bytes_eq, option_and_then}
 use Rattle.std.proofs.lemmas.Bool.{and_parts}
 use Rattle.std.proofs.lemmas.Bool.Decides.{nat_tests}
 use Rattle.sw_data.specs.declared.rows.ClientRow.{ClientRow}
 use Rattle.sw_data.specs.declared.workers.Slot.TheVariants as slot
-use Rattle.sw_rules.specs.Registrations.{activate, chosen, controlled_by, may_replace, promote}
+use Rattle.sw_rules.specs.Registrations.{activate, chosen, controlled_by, may_replace}
 use Rattle.sw_rules.specs.Rows.{has_pending, has_worker, in_slot, is_activated, is_activating, is_active, slot_worker, uses}
 use Rattle.sw_rules.specs.State.{State, Registration, Worker}
 use Rattle.sw_laws.specs.Coherent.{Coherent, apart, has_its_handler, is_of_key, is_secured, share_slot}
+use Rattle.sw_laws.proofs.AtOnce.{activated_at_once, are_apart, promote}
 use Rattle.sw_laws.proofs.Lists.{all_both, all_changed, all_there, all_weaker, any_changed, apart_changed, find_any, find_passes}
 use Rattle.sw_laws.proofs.Moves.{Keeps, from_any, keys-moved, tasks-moved, work-moved, workers-moved}
 use Rattle.sw_laws.proofs.Places.{all_as_found, all_not_found, any_known, both_numbered, places_apart}
@@ -102,8 +103,7 @@ module _ (state : State) (registration worker : ℕ) (picked : IsChosen state re
   given_key client is kept = grind (arith, is, kept, key_of_registration client, new_key client)
 
   pub activate-coherent : Coherent (activate state registration worker).state
-  unfolding activate
-  activate-coherent = record {
+  activate-coherent = subst Coherent (sym (activated_at_once state registration worker picked.waiting (are_apart state.registrations rows sound.workers) picked.found picked.number)) (record {
     registrations = sound.registrations;
     workers = workers-moved f (promoted_keeps registration) known rows knows state.registrations (λ x y a b fine. promoted_slots registration x y fine) (λ x a is. grind (arith, a, is)) sound.workers;
     jobs = sound.jobs;
@@ -121,4 +121,4 @@ module _ (state : State) (registration worker : ℕ) (picked : IsChosen state re
     };
     caches = sound.caches;
     promises = sound.promises;
-  }
+  })

@@ -9,12 +9,13 @@ use Rattle.sw_data.specs.declared.answers.Settlement.{Settlement}
 use Rattle.sw_data.specs.declared.answers.Settlement.TheVariants as settlement
 use Rattle.sw_data.specs.declared.rows.JobPhase.TheVariants as job_phase
 use Rattle.sw_data.specs.declared.rows.JobRow.{JobRow}
-use Rattle.sw_rules.specs.Installing.{begin_install, installing, job_worker, tell_update}
+use Rattle.sw_rules.specs.Installing.{begin_install, job_worker, remember, tell_update}
 use Rattle.sw_rules.specs.Jobs.{gets_value, settle}
 use Rattle.sw_rules.specs.Rows.{changed, has_worker, is_in_phase, is_evaluating, is_installing, is_job, is_number, is_unfinished, is_waiting, is_worker, newest_worker, worker_row}
 use Rattle.sw_rules.specs.State.{State, Registration, Worker}
 use Rattle.sw_rules.specs.Told.{followed}
 use Rattle.sw_laws.specs.Coherent.{Coherent, SoundJobs, SoundWork, apart, has_its_handler, has_its_job, has_its_worker, has_own_registration, has_worker_row, is_being_installed, is_early, is_parsed, is_place, is_settled_phase, share_slot, share_worker}
+use Rattle.sw_laws.proofs.AtOnce.{begun_at_once, installing}
 use Rattle.sw_laws.proofs.EndSteps.{IsMaker, alone, alone_has, other_number, pass_on, same_place}
 use Rattle.sw_laws.proofs.FetchSteps.{bytes_joined}
 use Rattle.sw_laws.proofs.InstallSteps.{made_of, parsed_of}
@@ -297,8 +298,9 @@ module _ (state : State) (row : JobRow) (registration : ℕ) (worker : Worker) (
       }
 
   pub begin-coherent : Coherent (followed (begin_install state row.job.number registration worker.number) (λ begun. followed (settle begun row.job.number (settlement.Registration registration)) (λ settled. tell_update settled registration))).state
-  unfolding begin_install settle tell_update followed
+  unfolding settle tell_update followed remember
   begin-coherent =
+      subst (λ s. Coherent (tell_update (settle s job result).state registration).state) (sym (begun_at_once state job registration number)) (
       let known = λ (w : Worker). may_install number registration w && has_its_handler w in
       let knows : list_all known state.workers ≡ true = all_both _ _ state.workers knows_workers sound.workers.handlers in
       record {
@@ -316,4 +318,4 @@ module _ (state : State) (row : JobRow) (registration : ℕ) (worker : Worker) (
         events = events-moved f (installing_keeps number) known state.workers knows state.fetch_events (λ x a is. grind (arith, a, is)) sound.events;
         caches = sound.caches;
         promises = all_weaker _ _ (λ p is. there_of_jobs (settled_with job result) rows state.tasks p.awaited (there_of_jobs (begun job newest) state.jobs state.tasks p.awaited is)) state.promises sound.promises;
-      }
+      })

@@ -1,5 +1,5 @@
 -- Claim keeps a state coherent: the worker that claims stays active while other clients' registrations are rechecked.
-use Rattle.std.proofs.Common.{◌≡◌, ◌∙◌, ℕ, Bool, true, false, not, ◌&&◌, ◌||◌, ◌==◌, List, [], ◌∷◌, Option, Some, None, option_map, refl, sym, ap, arith, if◌then◌else◌}
+use Rattle.std.proofs.Common.{◌≡◌, ◌∙◌, ℕ, Bool, true, false, not, ◌&&◌, ◌||◌, ◌==◌, List, [], ◌∷◌, Option, Some, None, option_map, refl, sym, ap, arith, if◌then◌else◌, subst}
 use Rattle.std.specs.List.{list_all, list_any}
 use Rattle.std.specs.Prelude.{bytes_eq, option_and_then}
 use Rattle.std.specs.Option.{option_map_or}
@@ -7,16 +7,17 @@ use Rattle.std.proofs.lemmas.Bool.{and_from, and_parts}
 use Rattle.std.proofs.lemmas.Bool.Decides.{nat_tests}
 use Rattle.sw_data.specs.declared.rows.ClientRow.{ClientRow}
 use Rattle.sw_rules.specs.Clients.{claim_client, claim_clients, claims, leave, take_control}
-use Rattle.sw_rules.specs.Registrations.{activate, chosen, clear, left_by, recheck, release, try_activate, try_clear, unload, used_registration}
-use Rattle.sw_rules.specs.Rows.{client_row, has_pending_worker, has_worker, is_active, is_client, is_mapped, is_number, is_used, is_worker, matched_registration_number, registration_of, uses, worker_row}
+use Rattle.sw_rules.specs.Registrations.{activate, clear, left_by, unload, used_registration}
+use Rattle.sw_rules.specs.Rows.{client_row, has_worker, is_active, is_client, is_number, is_worker, matched_registration_number, registration_of, uses, worker_row}
 use Rattle.sw_rules.specs.State.{State, Registration, Worker}
 use Rattle.sw_rules.specs.Told.{Told, followed, quiet}
 use Rattle.sw_laws.specs.Coherent.{Coherent, is_controlled, is_of_key, is_secured, same_client, share_slot}
-use Rattle.sw_laws.proofs.ActivateSteps.{activate-coherent, is_chosen}
+use Rattle.sw_laws.proofs.ActivateSteps.{IsChosen, activate-coherent, is_chosen}
+use Rattle.sw_laws.proofs.AtOnce.{activated_at_once, are_apart, cleared_at_once}
 use Rattle.sw_laws.proofs.Lists.{all_both, all_changed, any_changed, any_weaker, apart_changed, by_option, by_test, find_any, find_passes, found_same, not_true}
 use Rattle.sw_laws.proofs.Places.{all_as_found, all_at_found, found_any, found_numbered, places_apart}
 use Rattle.sw_laws.proofs.RowSteps.{left_by-coherent, matched_key, remove_client-coherent}
-use Rattle.sw_laws.proofs.Split.{IsRecheckLaw, unload-law}
+use Rattle.sw_laws.proofs.Split.{IsRecheckLaw, IsRecheckLawOf, release-law, unload-law}
 use Rattle.sw_laws.proofs.WorkerSteps.{clear-coherent}
 
 -- ---- the leaving of a registration
@@ -51,42 +52,33 @@ pub record MayClaim (registration worker number : ℕ) (state : State) : Type 0 
   pub active : has_worker (λ row. row.registration == registration && is_active row.state) state.workers worker ≡ true
   pub client : list_all (may_have state registration number) state.clients ≡ true
 
--- what other registrations do leaves the worker and the client's place
+-- what another registration does leaves the worker and the client's place
 module _ (registration worker number other : ℕ) (differ : (other == registration) ≡ false) where
   abbrev Stays : State → Told → Type 0
-  Stays state told = MayClaim registration worker number state → MayClaim registration worker number told.state
+  Stays state told = Coherent state → Coherent told.state × (MayClaim registration worker number state → MayClaim registration worker number told.state)
 
-  cleared : (state : State) → Stays state (clear state other)
-  unfolding clear
-  cleared state may = record {
-    active = any_changed (λ row. row.number == worker && (row.registration == registration && is_active row.state)) _ _ (λ row here. grind (arith, nat_tests, here, differ)) state.workers may.active;
-    client = may.client;
+  activated : (state : State) (picked : ℕ) → IsChosen state other picked → Coherent state → MayClaim registration worker number state → MayClaim registration worker number (activate state other picked).state
+  activated state picked is sound may =
+      subst (MayClaim registration worker number) (sym (activated_at_once state other picked is.waiting (are_apart state.registrations state.workers sound.workers) is.found is.number)) (record {
+        active = any_changed (λ row. row.number == worker && (row.registration == registration && is_active row.state)) _ _ (λ row here. grind (arith, nat_tests, here, differ)) state.workers may.active;
+        client = all_changed _ _ _ (λ client here. by_test (λ c. may_have state registration number c ≡ true) (uses state.workers other client) _ client (λ used. here) (λ unused. here)) state.clients may.client;
+      })
+
+  cleared : (state : State) → Coherent state → MayClaim registration worker number state → MayClaim registration worker number (clear state other).state
+  cleared state sound may =
+      subst (MayClaim registration worker number) (sym (cleared_at_once state other (are_apart state.registrations state.workers sound.workers))) (record {
+        active = any_changed (λ row. row.number == worker && (row.registration == registration && is_active row.state)) _ _ (λ row here. grind (arith, nat_tests, here, differ)) state.workers may.active;
+        client = may.client;
+      })
+
+  stays_law : IsRecheckLawOf other Stays
+  unfolding followed
+  stays_law = record {
+    nothing = λ state sound. (sound, λ may. may);
+    further = λ state told next one rest sound. let first = one sound in let second = rest first.0 in (second.0, λ may. second.1 (first.1 may));
+    activating = λ state picked is sound. (rechecks_coherently.activating state other picked is sound, activated state picked (is_chosen state other picked is sound) sound);
+    clearing = λ state gone unused calm sound. (rechecks_coherently.clearing state other gone unused calm sound, cleared state sound);
   }
-
-  activated : (state : State) (chosen_worker : ℕ) → Stays state (activate state other chosen_worker)
-  unfolding activate
-  activated state chosen_worker may = record {
-    active = any_changed (λ row. row.number == worker && (row.registration == registration && is_active row.state)) _ _ (λ row here. grind (arith, nat_tests, here, differ)) state.workers may.active;
-    client = all_changed _ _ _ (λ client here. by_test (λ c. may_have state registration number c ≡ true) (uses state.workers other client) _ client (λ used. here) (λ unused. here)) state.clients may.client;
-  }
-
-  tried : (state : State) → Stays state (try_activate state other)
-  unfolding try_activate
-  tried state = by_option (Stays state) (chosen state other) _ _ (λ none may. may) (λ picked is may. activated state picked may)
-
-  try_cleared : (state : State) → Stays state (try_clear state other)
-  unfolding try_clear
-  try_cleared state = by_test (Stays state) (is_used state other || has_pending_worker state other) _ _ (λ used may. may) (λ free may. cleared state may)
-
-  rechecked : (state : State) → Stays state (recheck state other)
-  unfolding recheck followed
-  rechecked state may =
-      tried (if is_mapped state other then quiet state else try_clear state other).state
-      (by_test (Stays state) (is_mapped state other) _ _ (λ mapped kept. kept) (λ gone kept. try_cleared state kept) may)
-
-  released : (state : State) → Stays state (release state other)
-  unfolding release
-  released state = by_test (Stays state) (is_used state other) _ _ (λ used may. may) (λ free may. rechecked state may)
 
 left_may : (registration worker number client : ℕ) (state : State) → MayClaim registration worker number state → MayClaim registration worker number (left_by client state)
 left_may registration worker number client state may = record {
@@ -184,7 +176,7 @@ unloaded state worker registration number client there claims_it sound may =
     (λ other is.
     let controller : option_and_then (registration_of state) client.controller ≡ Some other = rw there at is in
     let differ = left_by_worker state worker registration sound client.controller other (all_at_found (is_client number) (is_controlled state.workers) state.clients client there sound.clients.controllers) (grind (arith, claims_it)) controller may.active in
-    released registration worker number other differ (left_by number state) (left_may registration worker number number state may))
+    (release-law (Stays registration worker number other differ) other (stays_law registration worker number other differ) (left_by number state) (left_by-coherent state number sound)).1 (left_may registration worker number number state may))
 
 -- the worker stays active while one client is claimed
 pub record IsClaimed (registration worker : ℕ) (told : Told) : Type 0 where
@@ -226,3 +218,36 @@ claimed (number ∷ numbers) state worker registration active sound =
 
 pub claim-coherent : (state : State) (worker : Worker) (numbers : List ℕ) → has_worker (λ row. row.registration == worker.registration && is_active row.state) state.workers worker.number ≡ true → Coherent state → Coherent (claim_clients state worker.number worker.registration numbers).state
 claim-coherent state worker numbers active sound = (claimed numbers state worker.number worker.registration active sound).coherent
+
+-- ---- a law of a claim
+
+-- a state stays coherent, and the law holds
+abbrev pub Beside : (State → Told → Type 0) → State → Told → Type 0
+Beside Law state told = Coherent state → Coherent told.state × Law state told
+
+-- of a coherent state, a law that holds where a registration is rechecked, where a client leaves one and where a client
+-- gets a controller holds of a claim
+module _ (Law : State → Told → Type 0) (law : IsRecheckLaw (Beside Law)) (leaving : (state : State) (client : ℕ) → Law state (quiet (left_by client state))) (controlling : (state : State) (worker client : ℕ) → Law state (take_control state worker client)) where
+  pub unload-beside : (state : State) (client : ℕ) → Beside Law state (unload state client)
+  unload-beside state client = unload-law (Beside Law) law (λ before number sound. (left_by-coherent before number sound, leaving before number)) state client
+
+  claim-law : (state : State) (worker registration number : ℕ) → has_worker (λ row. row.registration == registration && is_active row.state) state.workers worker ≡ true → Coherent state → Law state (claim_client state worker registration number)
+  unfolding claim_client followed
+  claim-law state worker registration number active sound =
+      by_test (λ (told : Told). Coherent told.state → Law state told) (option_map_or (claims state worker registration) (client_row state number) false) _ _
+      (λ claims_it fine. (law.further state (unload state number) (λ left. take_control left worker number) (unload-beside state number) (λ left. (fine, controlling (unload state number).state worker number)) sound).1)
+      (λ none_claimed fine. (law.nothing state sound).1)
+      (claimed_one state worker registration number (client_row state number) refl active sound).coherent
+
+  claim-one : (state : State) (worker registration number : ℕ) → has_worker (λ row. row.registration == registration && is_active row.state) state.workers worker ≡ true → Coherent state → IsClaimed registration worker (claim_client state worker registration number)
+  unfolding claim_client
+  claim-one state worker registration number active sound = claimed_one state worker registration number (client_row state number) refl active sound
+
+  pub claims-law : (numbers : List ℕ) (state : State) (worker registration : ℕ) → has_worker (λ row. row.registration == registration && is_active row.state) state.workers worker ≡ true → Coherent state → Law state (claim_clients state worker registration numbers)
+  unfolding claim_clients
+  claims-law [] state worker registration active sound = (law.nothing state sound).1
+  claims-law (number ∷ numbers) state worker registration active sound =
+      let told = claim_client state worker registration number in
+      let one = claim-one state worker registration number active sound in
+      (law.further state told _ (λ fine. (one.coherent, claim-law state worker registration number active sound))
+      (λ fine. ((claimed numbers told.state worker registration one.active one.coherent).coherent, claims-law numbers told.state worker registration one.active one.coherent)) sound).1

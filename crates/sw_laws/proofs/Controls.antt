@@ -11,20 +11,22 @@ use Rattle.sw_data.specs.declared.answers.Notice.{Notice}
 use Rattle.sw_data.specs.declared.answers.Notice.TheVariants as notice
 use Rattle.sw_data.specs.declared.rows.ClientRow.{ClientRow}
 use Rattle.sw_data.specs.declared.workers.Slot.TheVariants as slot
+use Rattle.sw_data.specs.declared.workers.Slot.{Slot}
 use Rattle.sw_data.specs.declared.workers.WorkerState.TheVariants as worker_state
+use Rattle.sw_data.specs.declared.workers.WorkerState.{WorkerState}
 use Rattle.sw_rules.specs.Clients.{claim_client, claim_clients, claims, take_control}
 use Rattle.sw_rules.specs.History.{ControlledIn, HasGiven, IsSomeWorker, tells_change}
-use Rattle.sw_rules.specs.Registrations.{activate, chosen, clear, controlled_by, left_by, recheck, release, tell_redundant, try_activate, try_clear, unload, used_registration}
+use Rattle.sw_rules.specs.Registrations.{activate, become, chosen, clear, controlled_by, left_by, recheck, release, retire, start_handler, take_over, try_activate, try_clear, unload, used_registration}
 use Rattle.sw_rules.specs.Rows.{active_worker_number, changed, client_row, has_pending_worker, has_worker, in_slot, is_active, is_client, is_mapped, is_used, is_worker, slot_worker, uses}
 use Rattle.sw_rules.specs.State.{State, Worker}
-use Rattle.sw_rules.specs.Told.{Told, followed, quiet}
+use Rattle.sw_rules.specs.Told.{Told, followed, keep, quiet}
 use Rattle.sw_laws.specs.Coherent.{Coherent, is_controlled, share_slot}
+use Rattle.sw_laws.proofs.AtOnce.{used_same}
 use Rattle.sw_laws.proofs.ClaimSteps.{claimed_one, claims_may, unload-coherent, unloaded}
 use Rattle.sw_laws.proofs.Held.{HoldsBut, held, or_is, owner_found, owner_of, unload_holds}
 use Rattle.sw_laws.proofs.HeldLaw.{nobody}
 use Rattle.sw_laws.proofs.Lists.{any_weaker, by_option, by_test, find_passes, found_by}
 use Rattle.sw_laws.proofs.Places.{found_numbered, not_there, places_apart}
-use Rattle.sw_laws.proofs.WorkerSteps.{cleared}
 
 -- ---- what a client holds is what it was given
 
@@ -75,51 +77,59 @@ none_used test f (c ∷ cs) none = grind (arith, none, none_used test f cs)
 abbrev tells_nothing : Told → Type 0
 tells_nothing told = (client : ℕ) → list_any (tells_change client) told.notices ≡ false
 
-redundant_quiet : (client : ℕ) (old : Option Worker) → list_any (tells_change client) (tell_redundant old) ≡ false
-redundant_quiet client None = refl
-redundant_quiet client (Some old) = refl
-
 append_quiet : (client : ℕ) (one other : List Notice) → list_any (tells_change client) one ≡ false → list_any (tells_change client) other ≡ false → list_any (tells_change client) (one ++ other) ≡ false
 append_quiet client one other is was = grind (arith, is, was, list_any-append (tells_change client) one other)
 
+unused_after : (registration : ℕ) (f : Worker → Worker) → ((x : Worker) → (f x).number ≡ x.number) → ((x : Worker) → (f x).registration ≡ x.registration) → (workers : List Worker) (clients : List ClientRow) → list_any (uses workers registration) clients ≡ false → list_any (uses (map f workers) registration) clients ≡ false
+unused_after registration f number owner workers [] none = refl
+unused_after registration f number owner workers (c ∷ cs) none = grind (arith, none, used_same registration f number owner workers c, unused_after registration f number owner workers cs)
+
+unused_become : (state : State) (worker registration : ℕ) (to : WorkerState) → is_used state registration ≡ false → is_used (become state worker to).state registration ≡ false
+unfolding become
+unused_become state worker registration to unused = unused_after registration (λ row. if is_worker worker row then record row { state = to } else row) (λ row. grind arith) (λ row. grind arith) state.workers state.clients unused
+
+unused_retire : (state : State) (place : Slot) (registration : ℕ) → is_used state registration ≡ false → is_used (retire state place registration).state registration ≡ false
+unfolding retire
+unused_retire state place registration unused =
+    by_option (λ (told : Told). is_used told.state registration ≡ false) (slot_worker state place registration) _ _ (λ none. unused) (λ old is. unused_become state old.number registration worker_state.Redundant unused)
+
+unused_clear : (state : State) (registration : ℕ) → is_used state registration ≡ false → is_used (clear state registration).state registration ≡ false
+unfolding clear followed
+unused_clear state registration unused =
+    let one = (retire state slot.Installing registration).state in
+    let two = (retire one slot.Waiting registration).state in
+    unused_retire two slot.Active registration (unused_retire one slot.Waiting registration (unused_retire state slot.Installing registration unused))
+
+become_quiet : (state : State) (worker : ℕ) (to : WorkerState) → tells_nothing (become state worker to)
+unfolding become
+become_quiet state worker to client = refl
+
+retire_quiet : (state : State) (place : Slot) (registration : ℕ) → tells_nothing (retire state place registration)
+unfolding retire
+retire_quiet state place registration = by_option tells_nothing (slot_worker state place registration) _ _ (λ none client. refl) (λ old is. become_quiet state old.number worker_state.Redundant)
+
 clear_quiet : (state : State) (registration : ℕ) → tells_nothing (clear state registration)
-unfolding clear
+unfolding clear followed
 clear_quiet state registration client =
-    let one = tell_redundant (slot_worker state slot.Installing registration) in
-    let two = tell_redundant (slot_worker state slot.Waiting registration) in
-    append_quiet client (one ++ two) (tell_redundant (slot_worker state slot.Active registration)) (append_quiet client one two (redundant_quiet client (slot_worker state slot.Installing registration)) (redundant_quiet client (slot_worker state slot.Waiting registration))) (redundant_quiet client (slot_worker state slot.Active registration))
+    let one = retire state slot.Installing registration in
+    let two = retire one.state slot.Waiting registration in
+    let three = retire two.state slot.Active registration in
+    append_quiet client one.notices (two.notices ++ three.notices) (retire_quiet state slot.Installing registration client)
+    (append_quiet client two.notices three.notices (retire_quiet one.state slot.Waiting registration client) (retire_quiet two.state slot.Active registration client))
 
 -- a registration that no client uses
 activate_quiet : (state : State) (registration worker : ℕ) → is_used state registration ≡ false → tells_nothing (activate state registration worker)
-unfolding activate
+unfolding activate followed keep take_over start_handler
 activate_quiet state registration worker unused client =
-    rw (none_used (uses state.workers registration) (λ row. notice.ControllerChange row.number) state.clients unused)
-    (append_quiet client (tell_redundant (slot_worker state slot.Active registration) ++ notice.Worker worker worker_state.Activating ∷ []) []
-    (append_quiet client (tell_redundant (slot_worker state slot.Active registration)) (notice.Worker worker worker_state.Activating ∷ []) (redundant_quiet client (slot_worker state slot.Active registration)) refl) refl)
+    let retired = retire state slot.Active registration in
+    let activating = become retired.state worker worker_state.Activating in
+    rw (none_used (uses activating.state.workers registration) (λ row. notice.ControllerChange row.number) activating.state.clients (unused_become retired.state worker registration worker_state.Activating (unused_retire state slot.Active registration unused)))
+    (append_quiet client retired.notices (activating.notices ++ []) (retire_quiet state slot.Active registration client)
+    (append_quiet client activating.notices [] (become_quiet retired.state worker worker_state.Activating client) refl))
 
 try_activate_quiet : (state : State) (registration : ℕ) → is_used state registration ≡ false → tells_nothing (try_activate state registration)
 unfolding try_activate
 try_activate_quiet state registration unused = by_option tells_nothing (chosen state registration) _ _ (λ none client. refl) (λ worker is. activate_quiet state registration worker unused)
-
-owned_same : (registration : ℕ) (f : Worker → Worker) → ((x : Worker) → (f x).number ≡ x.number) → ((x : Worker) → (f x).registration ≡ x.registration) → (workers : List Worker) (number : ℕ) → has_worker (λ row. row.registration == registration) (map f workers) number ≡ has_worker (λ row. row.registration == registration) workers number
-owned_same registration f number owner [] n = refl
-owned_same registration f number owner (x ∷ xs) n = grind (arith, number x, owner x, owned_same registration f number owner xs n)
-
-used_same : (registration : ℕ) (f : Worker → Worker) → ((x : Worker) → (f x).number ≡ x.number) → ((x : Worker) → (f x).registration ≡ x.registration) → (workers : List Worker) (client : ClientRow) (controller : Option ℕ)
-    → uses (map f workers) registration (record client { controller = controller }) ≡ uses workers registration (record client { controller = controller })
-used_same registration f number owner workers client None = refl
-used_same registration f number owner workers client (Some n) = owned_same registration f number owner workers n
-
-unused_by : (registration : ℕ) (f : Worker → Worker) → ((x : Worker) → (f x).number ≡ x.number) → ((x : Worker) → (f x).registration ≡ x.registration) → (workers : List Worker) (client : ClientRow) → uses (map f workers) registration client ≡ uses workers registration client
-unused_by registration f number owner workers client = used_same registration f number owner workers client client.controller
-
-unused_after : (registration : ℕ) (f : Worker → Worker) → ((x : Worker) → (f x).number ≡ x.number) → ((x : Worker) → (f x).registration ≡ x.registration) → (workers : List Worker) (clients : List ClientRow) → list_any (uses workers registration) clients ≡ false → list_any (uses (map f workers) registration) clients ≡ false
-unused_after registration f number owner workers [] none = refl
-unused_after registration f number owner workers (c ∷ cs) none = grind (arith, none, unused_by registration f number owner workers c, unused_after registration f number owner workers cs)
-
-used_cleared : (state : State) (registration : ℕ) → is_used state registration ≡ false → is_used (clear state registration).state registration ≡ false
-unfolding clear
-used_cleared state registration unused = unused_after registration (cleared registration) (λ row. grind arith) (λ row. grind arith) state.workers state.clients unused
 
 recheck_quiet : (state : State) (registration : ℕ) → is_used state registration ≡ false → tells_nothing (recheck state registration)
 unfolding recheck try_clear followed
@@ -128,7 +138,7 @@ recheck_quiet state registration unused =
     (λ mapped client. try_activate_quiet state registration unused client)
     (λ gone. by_test (λ (told : Told). (client : ℕ) → list_any (tells_change client) (told.notices ++ (try_activate told.state registration).notices) ≡ false) (is_used state registration || has_pending_worker state registration) _ _
     (λ busy client. try_activate_quiet state registration unused client)
-    (λ idle client. append_quiet client (clear state registration).notices (try_activate (clear state registration).state registration).notices (clear_quiet state registration client) (try_activate_quiet (clear state registration).state registration (used_cleared state registration unused) client)))
+    (λ idle client. append_quiet client (clear state registration).notices (try_activate (clear state registration).state registration).notices (clear_quiet state registration client) (try_activate_quiet (clear state registration).state registration (unused_clear state registration unused) client)))
 
 release_quiet : (state : State) (registration : ℕ) → tells_nothing (release state registration)
 unfolding release

@@ -17,11 +17,11 @@ use Rattle.sw_rules.specs.Told.{Outcome}
 use Rattle.sw_laws.specs.Coherent.{Coherent}
 use Rattle.sw_laws.specs.Laws.{DurableIsKept, changes_along, changes_of_history}
 use Rattle.sw_laws.proofs.Contents.{contents, durable_is}
-use Rattle.sw_laws.proofs.DurableLaw.{KeepsAll, all_law}
+use Rattle.sw_laws.proofs.DurableLaw.{all_law}
 use Rattle.sw_laws.proofs.DurableRestart.{restart_orderly}
 use Rattle.sw_laws.proofs.Events.{step-law}
 use Rattle.sw_laws.proofs.KeptCaches.{KeepsCaches, cache_law}
-use Rattle.sw_laws.proofs.KeptRechecks.{Orderly}
+use Rattle.sw_laws.proofs.KeptRechecks.{KeepsAll, Orderly}
 use Rattle.sw_laws.proofs.Reopened.{restart_keeps}
 use Rattle.sw_laws.proofs.Restarts.{made_sound, restart-coherent}
 

@@ -24,9 +24,10 @@ use Rattle.sw_rules.specs.Registrations.{map_registration, set_mode, unmap}
 use Rattle.sw_rules.specs.Rows.{active_worker_number, in_slot, is_activated, is_registration, is_worker, maker_worker, mapped_registration, task_row}
 use Rattle.sw_rules.specs.State.{State, Registration, Worker, AddAll, Awaited}
 use Rattle.sw_rules.specs.Storage.{applied, is_cache, kept_after}
-use Rattle.sw_rules.specs.Told.{Told, followed, quiet}
+use Rattle.sw_rules.specs.Told.{followed, quiet}
 use Rattle.sw_laws.specs.Coherent.{Coherent}
-use Rattle.sw_laws.proofs.ClaimSteps.{StaysCoherent, rechecks_coherently}
+use Rattle.sw_laws.proofs.AtOnce.{are_apart}
+use Rattle.sw_laws.proofs.ClaimSteps.{StaysCoherent}
 use Rattle.sw_laws.proofs.CoherentLaw.{coherent_law}
 use Rattle.sw_laws.proofs.Contents.{slots_in}
 use Rattle.sw_laws.proofs.DurableSteps.{activated_then, begin_keeps, fail_keeps, fetch_keeps, install_keeps, make_keeps, reject_keeps, still_keeps, throw_keeps, unmap_placed}
@@ -34,13 +35,13 @@ use Rattle.sw_laws.proofs.Forgotten.{forgotten_together}
 use Rattle.sw_laws.proofs.HandlerSteps.{activated_from}
 use Rattle.sw_laws.proofs.JobEvents.{leaving}
 use Rattle.sw_laws.proofs.KeptForget.{forget_ordered, forget_rows}
-use Rattle.sw_laws.proofs.KeptRechecks.{KeepsOrder, Orderly, activate_keeps, claims_keep, clear_keeps, further, leave_keeps, nothing_keeps}
+use Rattle.sw_laws.proofs.KeptRechecks.{KeepsAll, KeepsOrder, Orderly, claims_keep, leave_keeps, nothing_keeps, rechecks_keep}
 use Rattle.sw_laws.proofs.KeptRows.{mapped_keeps, mode_ordered, mode_rows, paid_ordered, paid_rows, preload_ordered, preload_rows}
 use Rattle.sw_laws.proofs.Lists.{by_test}
 use Rattle.sw_laws.proofs.Places.{places_apart}
 use Rattle.sw_laws.proofs.RegistrationSteps.{paid-coherent, unmap-coherent}
 use Rattle.sw_laws.proofs.SlotMoves.{LooksSame, slots_plain}
-use Rattle.sw_laws.proofs.Split.{IsLawWhere, IsLeavingLaw, IsRecheckLaw}
+use Rattle.sw_laws.proofs.Split.{IsLawWhere, IsLeavingLaw}
 use Rattle.sw_laws.proofs.Underway.{all_of_them, is_free, mapped_finished, mapped_forgotten, mapped_left, mapped_plain, mapped_pushed, mapped_scheduled, mapped_settled, unregister_free}
 
 -- ---- the steps on registrations, with jobs
@@ -85,12 +86,12 @@ paid_orderly state registration sound orderly = record {
 
 forget_keeps : (state : State) (key : List ℕ) → is_busy state key ≡ false → Coherent state → KeepsOrder state (forget_key state key)
 forget_keeps state key free sound orderly =
-    let same = forgotten_together state key (places_apart (λ (row : Registration). row.number) state.registrations sound.registrations.numbers) in (
+    let same = forgotten_together state key (are_apart state.registrations state.workers sound.workers) (places_apart (λ (row : Registration). row.number) state.registrations sound.registrations.numbers) in (
       subst Orderly (sym same) (record {
         order = forget_ordered state key orderly.order (subst Coherent same (coherent_law.forgetting state key free sound)).registrations;
         jobs = mapped_forgotten state key free sound orderly.jobs;
       }),
-      forget_rows state key orderly.order,
+      forget_rows state key orderly.order (are_apart state.registrations state.workers sound.workers),
     )
 
 promise_keeps : (state : State) (maker : Who) (awaited : Awaited) → KeepsOrder state (promise state maker awaited)
@@ -100,25 +101,6 @@ promise_keeps state (who.Lane lane at) awaited = still_keeps state (promise stat
 promise_keeps state (who.Handler worker in_phase number) awaited = nothing_keeps state
 
 -- ---- each least step
-
--- a coherent and orderly state stays so, and the changes make what is kept after the step
-abbrev pub KeepsAll : State → Told → Type 0
-KeepsAll state told = Coherent state → Coherent told.state × KeepsOrder state told
-
-all_further : (state : State) (told : Told) (next : State → Told) → KeepsAll state told → KeepsAll told.state (next told.state) → KeepsAll state (followed told next)
-unfolding followed
-all_further state told next one other sound =
-    let first = one sound in
-    let second = other first.0 in
-    (second.0, further state told next first.1 second.1)
-
-all_recheck : IsRecheckLaw KeepsAll
-all_recheck = record {
-  nothing = λ state sound. (sound, nothing_keeps state);
-  further = all_further;
-  activating = λ state registration worker is sound. (rechecks_coherently.activating state registration worker is sound, activate_keeps state registration worker is);
-  clearing = λ state registration gone unused calm sound. (rechecks_coherently.clearing state registration gone unused calm sound, clear_keeps state registration gone);
-}
 
 all_leaving : IsLeavingLaw KeepsAll
 all_leaving = record {
@@ -149,7 +131,7 @@ settled_slots state number result faulted n =
 pub all_law : IsLawWhere KeepsAll true false
 unfolding followed schedule settle finish add_client add_event remove_event add_cache drop_cache carry_out add_task settle_task note_call
 all_law = record {
-  rechecks = all_recheck;
+  rechecks = rechecks_keep;
   scheduling = λ state job is sound. (coherent_law.scheduling state job is sound, still_keeps state (schedule state job) refl (λ n. refl) (mapped_scheduled state.registrations job (joined_job state job) state.jobs) (λ kept. refl));
   promising = λ state maker awaited there sound. (coherent_law.promising state maker awaited there sound, promise_keeps state maker awaited);
   settling = λ state job result may sound. (coherent_law.settling state job result may sound, still_keeps state (settle state job result) refl (λ n. refl) (mapped_settled state.registrations (gets_value job) result state.jobs) (λ kept. refl));
@@ -171,9 +153,9 @@ all_law = record {
       let after = rest (become_activated (end_handler state worker.number).state worker.registration worker.number).state (activated_from state worker handler found ended sound) in
       (after.0, activated_then state worker handler next found ended sound after.1);
   opening = λ may state number key url free sound. (coherent_law.opening may state number key url free sound, still_keeps state (add_client state (new_client state number key url)) refl (λ n. refl) (λ is. is) (λ kept. refl));
-  closing = λ state number sound. (coherent_law.closing state number sound, leave_keeps state number);
+  closing = λ state number sound. (coherent_law.closing state number sound, leave_keeps state number sound);
   flagging = λ state worker sound. (coherent_law.flagging state worker sound, still_keeps state (quiet (flagged worker state)) refl (slots_plain (is_worker worker) _ (λ x. looks_plain x _ refl refl refl) state.workers) (λ is. is) (λ kept. refl));
-  claiming = λ may state worker active sound. (coherent_law.claiming may state worker active sound, claims_keep (map (λ client. client.number) state.clients) state worker.number worker.registration);
+  claiming = λ may state worker active sound. (coherent_law.claiming may state worker active sound, claims_keep (map (λ client. client.number) state.clients) state worker.number worker.registration active sound);
   adding = λ state client number row worker there controls ready free sound. (coherent_law.adding state client number row worker there controls ready free sound, still_keeps state (add_event state number worker.number) refl (λ n. refl) (λ is. is) (λ kept. refl));
   ending = λ state number sound. (coherent_law.ending state number sound, still_keeps state (remove_event state number) refl (λ n. refl) (λ is. is) (λ kept. refl));
   caching = λ state key name free sound. (coherent_law.caching state key name free sound, still_keeps state (add_cache state key name) refl (λ n. refl) (λ is. is) (cache_rows key name));

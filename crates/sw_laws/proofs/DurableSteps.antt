@@ -14,24 +14,25 @@ use Rattle.sw_data.specs.declared.storage.Kept.{Kept}
 use Rattle.sw_data.specs.declared.workers.Slot.TheVariants as slot
 use Rattle.sw_data.specs.declared.workers.WorkerState.TheVariants as worker_state
 use Rattle.sw_rules.specs.Activating.{become_activated}
-use Rattle.sw_rules.specs.Installing.{become_waiting, begin_install, discard, end_handler, ended_handler, fail_install, finish_install, first_counter, installing, job_worker, kept_worker, make_worker, placed, reject_and_drop, tell_update, throw}
+use Rattle.sw_rules.specs.Installing.{become_waiting, begin_install, end_handler, ended_handler, fail_install, finish_install, first_counter, job_worker, kept_worker, make_worker, placed, reject_and_drop, remember, tell_update, throw}
 use Rattle.sw_rules.specs.Jobs.{finish, gets_value, settle}
 use Rattle.sw_rules.specs.Registering.{fetch_script}
-use Rattle.sw_rules.specs.Registrations.{drop_registration, unmap}
+use Rattle.sw_rules.specs.Registrations.{become, drop_registration, start_handler, unmap}
 use Rattle.sw_rules.specs.Rows.{changed, in_slot, is_activating, is_evaluating, is_fetching, is_install, is_job, is_mapped_to, is_registration, is_worker, mapped_registration, newest_worker, registration_row, worker_row}
 use Rattle.sw_rules.specs.State.{State, Registration, Worker, Handler}
 use Rattle.sw_rules.specs.Storage.{kept_after}
-use Rattle.sw_rules.specs.Told.{Told, followed, quiet, type_error}
-use Rattle.sw_laws.specs.Coherent.{Coherent, SoundRegistrations, apart, is_being_installed, is_parsed, same_scope, share_slot}
+use Rattle.sw_rules.specs.Told.{Told, followed, keep, quiet, type_error}
+use Rattle.sw_laws.specs.Coherent.{Coherent, SoundRegistrations, apart, is_being_installed, is_parsed, same_scope}
+use Rattle.sw_laws.proofs.AtOnce.{begun_at_once, install_state, installing, shift, waiting_leaves}
 use Rattle.sw_laws.proofs.Contents.{found_in, slots_in}
 use Rattle.sw_laws.proofs.HandlerSteps.{activating_rows, ended_from}
-use Rattle.sw_laws.proofs.InstallSteps.{installing_of, knows_parsed, made_of}
+use Rattle.sw_laws.proofs.InstallSteps.{in_slot_installing, installing_of, knows_parsed, made_of, waits}
 use Rattle.sw_laws.proofs.JobMoves.{jobs_of_number}
 use Rattle.sw_laws.proofs.KeptInstall.{waiting_keeps}
 use Rattle.sw_laws.proofs.KeptRechecks.{KeepsOrder, KeepsRows, followed_orderly, has_mapped, is_underway, rows_further}
 use Rattle.sw_laws.proofs.KeptRows.{unmap_ordered, unmap_rows}
 use Rattle.sw_laws.proofs.KeptWorkers.{activated_keeps, ended_keeps, is_aside, rows_same, slots_aside}
-use Rattle.sw_laws.proofs.Lists.{all_changed, all_true, all_weaker, any_weaker, apart_changed, by_test, find_any, find_passes, found_by}
+use Rattle.sw_laws.proofs.Lists.{all_changed, all_true, all_weaker, any_weaker, apart_changed, by_test, find_any, find_passes}
 use Rattle.sw_laws.proofs.Moves.{all_of_number}
 use Rattle.sw_laws.proofs.Ordered.{Ordered}
 use Rattle.sw_laws.proofs.Places.{all_at_found, found_any, found_numbered, places_apart, places_changed}
@@ -120,11 +121,11 @@ reject_jobs state job registration why free is =
     (λ stays. mapped_finished state.registrations job _ (ended_settled state.registrations job (gets_value job) result state.jobs (all_of_them state.registrations job state.jobs is)))
 
 throw_jobs : (state : State) (job registration worker : ℕ) → AloneAt job registration state.jobs → AllMapped state.registrations state.jobs → let after = (throw state job registration worker).state in AllMapped after.registrations after.jobs
-unfolding throw followed discard
-throw_jobs state job registration worker free is = reject_jobs (discard state worker).state job registration (type_error cause.Threw) free is
+unfolding throw followed become
+throw_jobs state job registration worker free is = reject_jobs (become state worker worker_state.Redundant).state job registration (type_error cause.Threw) free is
 
 fail_jobs : (state : State) (row : JobRow) (registration worker : ℕ) → AloneAt row.job.number registration state.jobs → AllMapped state.registrations state.jobs → let after = (fail_install state row registration worker).state in AllMapped after.registrations after.jobs
-unfolding fail_install followed finish unmap discard end_handler
+unfolding fail_install followed finish unmap become end_handler
 fail_jobs state row registration worker free is =
     let job = row.job.number in
     by_test (λ (told : Told). AllMapped (finish told.state job).state.registrations (finish told.state job).state.jobs) (is_none row.remembered) _ _
@@ -132,10 +133,11 @@ fail_jobs state row registration worker free is =
     (λ stays. mapped_finished state.registrations job _ (all_of_them state.registrations job state.jobs is))
 
 install_jobs : (state : State) (job registration : ℕ) (worker : Worker) → AllMapped state.registrations state.jobs → let after = (finish_install state job registration worker).state in AllMapped after.registrations after.jobs
-unfolding finish_install followed finish become_waiting end_handler
+unfolding finish_install followed finish end_handler
 install_jobs state job registration worker is =
     let rows = changed (is_registration registration) (placed (first_counter state.registrations)) state.registrations in
-    mapped_finished rows job state.jobs (all_of_them rows job state.jobs (mapped_plain (is_registration registration) (placed (first_counter state.registrations)) (λ x. refl) (λ x. refl) state.registrations state.jobs is))
+    subst (λ (s : State). AllMapped (finish s job).state.registrations (finish s job).state.jobs) (sym (waiting_leaves (end_handler state worker.number).state registration worker))
+    (mapped_finished rows job state.jobs (all_of_them rows job state.jobs (mapped_plain (is_registration registration) (placed (first_counter state.registrations)) (λ x. refl) (λ x. refl) state.registrations state.jobs is)))
 
 -- ---- jobs that end
 
@@ -145,13 +147,13 @@ reject_keeps state row registration why at sound orderly =
     let both = reject_placed state row.job.number registration why orderly.order in
     (record { order = both.0; jobs = reject_jobs state row.job.number registration why free orderly.jobs }, both.1)
 
-discard_placed : (state : State) (worker : ℕ) → list_all (λ x. not (x.number == worker) || is_aside x.state) state.workers ≡ true → KeepsPlaced state (discard state worker)
-unfolding discard
-discard_placed state worker knows = placed_still state (discard state worker) refl (slots_aside worker (λ row. record row { state = worker_state.Redundant }) (λ x. refl) (λ x. refl) (λ x. refl) state.workers knows) refl
+discard_placed : (state : State) (worker : ℕ) → list_all (λ x. not (x.number == worker) || is_aside x.state) state.workers ≡ true → KeepsPlaced state (become state worker worker_state.Redundant)
+unfolding become
+discard_placed state worker knows = placed_still state (become state worker worker_state.Redundant) refl (slots_aside worker (λ row. record row { state = worker_state.Redundant }) (λ x. refl) (λ x. refl) (λ x. refl) state.workers knows) refl
 
 throw_placed : (state : State) (job registration worker : ℕ) → list_all (λ x. not (x.number == worker) || is_aside x.state) state.workers ≡ true → KeepsPlaced state (throw state job registration worker)
 unfolding throw
-throw_placed state job registration worker knows = placed_further state (discard state worker) _ (discard_placed state worker knows) (reject_placed (discard state worker).state job registration (type_error cause.Threw))
+throw_placed state job registration worker knows = placed_further state (become state worker worker_state.Redundant) _ (discard_placed state worker knows) (reject_placed (become state worker worker_state.Redundant).state job registration (type_error cause.Threw))
 
 parsed_aside : (x : Worker) → is_parsed x ≡ true → is_aside x.state ≡ true
 parsed_aside x is = grind (arith, is)
@@ -177,10 +179,10 @@ fail_placed : (state : State) (row : JobRow) (registration worker : ℕ) → lis
 unfolding fail_install
 fail_placed state row registration worker knows =
     let one = (end_handler state worker).state in
-    let two = (discard one worker).state in
+    let two = (become one worker worker_state.Redundant).state in
     let three = if is_none row.remembered then unmap two registration else quiet two in
     placed_further state (end_handler state worker) _ (ended_keeps state worker)
-    (placed_further one (discard one worker) _ (discard_placed one worker (ended_aside state worker knows))
+    (placed_further one (become one worker worker_state.Redundant) _ (discard_placed one worker (ended_aside state worker knows))
     (placed_further two three _ (by_test (KeepsPlaced two) (is_none row.remembered) _ _ (λ gone. unmap_placed two registration) (λ there order. (order, λ kept is. is))) (finish_placed three.state row.job.number)))
 
 pub fail_keeps : (state : State) (row : JobRow) (registration : ℕ) (worker : Worker) (handler : Handler) → IsInstalled state row registration worker handler → Coherent state → KeepsOrder state (fail_install state row registration worker.number)
@@ -204,10 +206,6 @@ maps_its : (rows : List Registration) (row : JobRow) (registration : Option ℕ)
 maps_its rows row None number is underway has = absurd cc
 maps_its rows row (Some n) number is underway has = let same : n ≡ number = cc in subst (λ m. list_any (λ found. found.number == m && found.mapped) rows ≡ true) same (grind (arith, underway, has))
 
-installing_found : (state : State) (worker : Worker) (registration : ℕ) → Coherent state → worker_row state worker.number ≡ Some worker → (worker.registration == registration && is_being_installed worker) ≡ true → found_in state.workers slot.Installing registration ≡ Some worker
-installing_found state worker registration sound found is =
-    found_by share_slot (is_worker worker.number) (λ x. x.registration == registration && in_slot slot.Installing x.state) state.workers worker sound.workers.slots found (grind (arith, is)) (λ y here. grind (arith, nat_tests, here, is))
-
 ended_installing : (state : State) (worker registration : ℕ) → option_map kept_worker (found_in (end_handler state worker).state.workers slot.Installing registration) ≡ option_map kept_worker (found_in state.workers slot.Installing registration)
 unfolding end_handler
 ended_installing state worker registration =
@@ -215,17 +213,18 @@ ended_installing state worker registration =
     (λ x know. by_test (λ (w : Worker). (w.registration == registration && in_slot slot.Installing w.state) ≡ (x.registration == registration && in_slot slot.Installing x.state)) (is_worker worker x) _ x (λ a. refl) (λ b. refl))
     (λ x know passes. by_test (λ (w : Worker). kept_worker w ≡ kept_worker x) (is_worker worker x) _ x (λ a. refl) (λ b. refl)) state.workers (all_true state.workers)
 
-waiting_sound : (state : State) (registration : ℕ) (worker : Worker) → SoundRegistrations state.registrations → SoundRegistrations (become_waiting state registration worker).state.registrations
-unfolding become_waiting
-waiting_sound state registration worker sound = sound_moved _ (plain_keeps (is_registration registration) (placed (first_counter state.registrations)) (λ x. refl) (λ x. refl) (λ x. refl) (λ x is. is)) state.registrations sound
+placed_sound : (registration count : ℕ) (rows : List Registration) → SoundRegistrations rows → SoundRegistrations (changed (is_registration registration) (placed count) rows)
+placed_sound registration count rows sound = sound_moved _ (plain_keeps (is_registration registration) (placed count) (λ x. refl) (λ x. refl) (λ x. refl) (λ x is. is)) rows sound
 
 install_placed : (state : State) (job registration : ℕ) (worker : Worker) (row : Registration) → registration_row (end_handler state worker.number).state registration ≡ Some row → row.mapped ≡ true
-    → option_map kept_worker (found_in (end_handler state worker.number).state.workers slot.Installing registration) ≡ Some (kept_worker worker) → KeepsPlaced state (finish_install state job registration worker)
+    → option_map kept_worker (found_in (end_handler state worker.number).state.workers slot.Installing registration) ≡ Some (kept_worker worker)
+    → let one = (end_handler state worker.number).state in (become_waiting one registration worker).state ≡ record one { registrations = changed (is_registration registration) (placed (first_counter one.registrations)) one.registrations; workers = shift registration install_state one.workers }
+    → KeepsPlaced state (finish_install state job registration worker)
 unfolding finish_install
-install_placed state job registration worker row found mapped installs =
+install_placed state job registration worker row found mapped installs at_once =
     let one = (end_handler state worker.number).state in
     placed_further state (end_handler state worker.number) _ (ended_keeps state worker.number)
-    (placed_further one (become_waiting one registration worker) _ (λ order. waiting_keeps one registration worker row found mapped installs order (waiting_sound one registration worker order.sound)) (finish_placed (become_waiting one registration worker).state job))
+    (placed_further one (become_waiting one registration worker) _ (λ order. waiting_keeps one registration worker row found mapped installs order at_once (placed_sound registration (first_counter one.registrations) one.registrations order.sound)) (finish_placed (become_waiting one registration worker).state job))
 
 ended_row : (state : State) (worker registration : ℕ) (row : Registration) → registration_row state registration ≡ Some row → registration_row (end_handler state worker).state registration ≡ Some row
 unfolding end_handler
@@ -236,9 +235,8 @@ install_keeps state row registration worker handler is sound orderly =
     let underway : is_underway row ≡ true = grind (arith, is.at.phase) in
     let maps = maps_its state.registrations row row.registration registration is.at.registered underway (all_at_found (is_job row.job.number) (has_mapped state.registrations) state.jobs row is.at.found orderly.jobs) in
     let found = found_mapped state.registrations registration (places_apart (λ (r : Registration). r.number) state.registrations orderly.order.sound.numbers) maps in
-    let own = (made_of state row.worker worker is.made).1 in
-    let installs = ended_installing state worker.number registration ∙ ap (option_map kept_worker) (installing_found state worker registration sound own (installing_of state row registration worker handler is sound)) in
-    let both = install_placed state row.job.number registration worker found.0 (ended_row state worker.number registration found.0 found.1) found.2 installs orderly.order in
+    let installs = ended_installing state worker.number registration ∙ ap (option_map kept_worker) (in_slot_installing state row registration worker handler is sound) in
+    let both = install_placed state row.job.number registration worker found.0 (ended_row state worker.number registration found.0 found.1) found.2 installs (waits state row registration worker handler is sound) orderly.order in
     (record { order = both.0; jobs = install_jobs state row.job.number registration worker orderly.jobs }, both.1)
 
 -- ---- jobs that go on
@@ -263,12 +261,11 @@ make_keeps state row registration fetched at sound =
     (λ is. goes_on state.registrations state.jobs row.job.number _ (λ x. refl) (jobs_of_number is_underway state.jobs row.job.number row sound.jobs.numbers at.found (grind (arith, at.phase))) is) (λ kept. refl)
 
 begun_slots : (state : State) (job registration worker n : ℕ) → list_all (λ x. not (x.number == worker) || is_aside x.state) state.workers ≡ true → slots_in (begin_install state job registration worker).state.workers n ≡ slots_in state.workers n
-unfolding begin_install
-begun_slots state job registration worker n knows = slots_aside worker installing (λ x. refl) (λ x. refl) (λ x. refl) state.workers knows n
+begun_slots state job registration worker n knows = ap (λ (s : State). slots_in s.workers n) (begun_at_once state job registration worker) ∙ slots_aside worker installing (λ x. refl) (λ x. refl) (λ x. refl) state.workers knows n
 
 pub begin_keeps : (state : State) (row : JobRow) (registration : ℕ) (worker : Worker) → IsAt state is_evaluating row registration → job_worker state row ≡ Some worker → Coherent state
     → KeepsOrder state (followed (begin_install state row.job.number registration worker.number) (λ begun. followed (settle begun row.job.number (settlement.Registration registration)) (λ settled. tell_update settled registration)))
-unfolding followed begin_install settle tell_update
+unfolding followed begin_install remember become start_handler settle tell_update
 begin_keeps state row registration worker at made sound =
     let job = row.job.number in
     let knows : list_all (λ x. not (x.number == worker.number) || is_aside x.state) state.workers ≡ true =
@@ -290,7 +287,7 @@ fetch_keeps state row registration mapped =
 -- ---- an activate handler ends
 
 activated_jobs : (state : State) (worker : Worker) → AllMapped state.registrations state.jobs → let told = become_activated (end_handler state worker.number).state worker.registration worker.number in AllMapped told.state.registrations told.state.jobs
-unfolding become_activated end_handler
+unfolding become_activated followed keep become end_handler
 activated_jobs state worker is = is
 
 pub activated_then : (state : State) (worker : Worker) (handler : Handler) (next : State → Told) → worker_row state worker.number ≡ Some worker → ended_handler state (λ phase. not (is_install phase)) worker ≡ Some handler → Coherent state

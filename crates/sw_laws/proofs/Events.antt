@@ -49,7 +49,7 @@ use Rattle.sw_rules.specs.Told.{Told, Outcome, followed, quiet}
 use Rattle.sw_laws.specs.Coherent.{is_running, is_there}
 use Rattle.sw_laws.proofs.JobEvents.{added-law, evaluated-law, fetched-law, installed-law, rejected-law, run-law, scheduled_by-law}
 use Rattle.sw_laws.proofs.Lists.{bound_holds, by_option, by_result, by_test, find_any, find_passes, length_pushed, mapped_holds}
-use Rattle.sw_laws.proofs.Split.{GetsPreload, IsHostLaw, IsLawBeside, IsLawWhere, IsMoveLaw, recheck-law, try_activate-law}
+use Rattle.sw_laws.proofs.Split.{GetsPreload, IsHostLaw, IsLawBeside, IsLawWhere, IsMoveLaw, law_of, recheck-law, try_activate-law}
 
 worker_by_own : (state : State) (number : ℕ) (worker : Worker) → worker_row state number ≡ Some worker → worker_row state worker.number ≡ Some worker
 worker_by_own state number worker is =
@@ -193,7 +193,7 @@ module _ (Law Own Ends : State → Told → Type 0) (controls : Bool) {anywhere 
   skip_waiting-law : (state : State) (registration worker : ℕ) → Law state (skip_waiting state registration worker)
   unfolding skip_waiting
   skip_waiting-law state registration worker =
-      further state _ _ (law.flagging state worker) (try_activate-law Law law.rechecks _ registration)
+      further state _ _ (law.flagging state worker) (try_activate-law Law registration (law_of registration law.rechecks) _)
 
   -- a worker that was found claims
   claim_of-law : controls ≡ true → (state : State) (test : Worker → Bool) (worker : Worker) → find test state.workers ≡ Some worker → Holds state (claim_of state worker)
@@ -217,7 +217,7 @@ module _ (Law Own Ends : State → Told → Type 0) (controls : Bool) {anywhere 
   end_event-law : (state : State) (number registration : ℕ) → Law state (end_event state number registration)
   unfolding end_event
   end_event-law state number registration =
-      further state (remove_event state number) _ (law.ending state number) (recheck-law Law law.rechecks (remove_event state number).state registration)
+      further state (remove_event state number) _ (law.ending state number) (recheck-law Law registration (law_of registration law.rechecks) (remove_event state number).state)
 
   end-law : (state : State) (number : ℕ) → Holds state (end state number)
   end-law state number =
@@ -231,7 +231,7 @@ module _ (Law Own Ends : State → Told → Type 0) (controls : Bool) {anywhere 
   unfolding pay
   tryactivate-law state registration =
       by_test (HoldsIf state) (is_owed state registration) _ _
-      (λ owed. law.paying state registration _ owed (try_activate-law Law law.rechecks (paid registration state) registration))
+      (λ owed. law.paying state registration _ owed (try_activate-law Law registration (law_of registration law.rechecks) (paid registration state)))
       (λ none. tt)
 
   -- ---- caches
@@ -421,7 +421,7 @@ module _ (Law : State → Told → Type 0) (controls : Bool) {anywhere : Bool} (
   activated-law : (state : State) (worker : Worker) (handler : Handler) → worker_row state worker.number ≡ Some worker → ended_handler state (λ in_phase. not (is_install in_phase)) worker ≡ Some handler → Law state (finish_activate state worker.registration worker.number)
   unfolding finish_activate
   activated-law state worker handler found ended =
-      law.activated state worker handler _ found ended (λ after. recheck-law Law law.rechecks after worker.registration)
+      law.activated state worker handler _ found ended (recheck-law Law worker.registration (law_of worker.registration law.rechecks))
 
   pub step-law : (state : State) (happened : Event) → (gives_control happened ≡ true → controls ≡ true) → IfSome (step state happened) (λ outcome. Law state outcome.told)
   step-law = step-law-beside Law Law controls law Law (λ state told holds. holds) (record {

@@ -1,5 +1,5 @@
 -- What is fetched stays so until the event that ends it.
-use Rattle.std.proofs.Common.{◌≡◌, ◌∙◌, ℕ, Bool, true, false, ◌==◌, Option, Some, None, IfSome, refl, sym, true≢false, arith, if◌then◌else◌}
+use Rattle.std.proofs.Common.{◌≡◌, ◌∙◌, ℕ, Bool, true, false, ◌==◌, Option, Some, None, IfSome, refl, sym, true≢false, arith, if◌then◌else◌, ap}
 use Rattle.std.specs.Prelude.{is_none}
 use Rattle.std.specs.Option.{option_map_or}
 use Rattle.std.proofs.lemmas.Bool.Decides.{nat_tests}
@@ -10,24 +10,26 @@ use Rattle.sw_data.specs.declared.events.Event.{Event}
 use Rattle.sw_data.specs.declared.recordings.Fetched.{Fetched}
 use Rattle.sw_data.specs.declared.rows.Job.{Job}
 use Rattle.sw_data.specs.declared.rows.JobRow.{JobRow}
+use Rattle.sw_data.specs.declared.workers.WorkerState.TheVariants as worker_state
 use Rattle.sw_rules.specs.Activating.{become_activated, finish_activate}
 use Rattle.sw_rules.specs.Caching.{carry_out, settle_task}
-use Rattle.sw_rules.specs.Installing.{become_waiting, begin_install, discard, end_handler, fail_install, finish_install, install, keep_script, make_worker, reject_and_drop, tell_update, throw}
+use Rattle.sw_rules.specs.Installing.{become_waiting, begin_install, end_handler, fail_install, finish_install, install, keep_script, make_worker, reject_and_drop, remember, tell_update, throw}
 use Rattle.sw_rules.specs.Jobs.{finish, resolve_and_finish, settle}
 use Rattle.sw_rules.specs.Registering.{fetch_script, may_run, unregister_mapped}
-use Rattle.sw_rules.specs.Registrations.{drop_registration, map_registration, set_mode, try_clear, unmap}
+use Rattle.sw_rules.specs.Registrations.{become, drop_registration, map_registration, set_mode, start_handler, try_clear, unmap}
 use Rattle.sw_rules.specs.Rows.{is_in_phase, is_fetching, is_task, job_row}
 use Rattle.sw_rules.specs.State.{State, Worker, AddAll}
 use Rattle.sw_rules.specs.Step.{state_after, step}
-use Rattle.sw_rules.specs.Told.{Told, Outcome, followed, quiet}
+use Rattle.sw_rules.specs.Told.{Outcome, Told, followed, keep, quiet}
 use Rattle.sw_laws.specs.Coherent.{Coherent}
 use Rattle.sw_laws.specs.Laws.{FetchesStay, ends_add_all, ends_fetch}
+use Rattle.sw_laws.proofs.AtOnce.{waiting_leaves}
 use Rattle.sw_laws.proofs.Events.{activated-by, step-law-by}
 use Rattle.sw_laws.proofs.Fetching.{Stay, Stays, drop_stays, fetch_stays, fetches, further, others, others_fetch, others_open, rechecks_stay, settle_stays, stay_law, try_clear_stays, unmoved}
 use Rattle.sw_laws.proofs.JobEvents.{IsAddLaw, IsFetchLaw, IsRunLaw, added-by, evaluated-by, fetched-by, installed-by, run-by}
 use Rattle.sw_laws.proofs.Lists.{by_test, by_truth, find_passes}
 use Rattle.sw_laws.proofs.Places.{found_numbered, places_apart}
-use Rattle.sw_laws.proofs.Split.{IsHostLaw, recheck-law}
+use Rattle.sw_laws.proofs.Split.{IsHostLaw, law_of, recheck-law}
 
 -- ---- what the events of a job leave of the other jobs
 
@@ -90,12 +92,12 @@ module _ (tasks : ℕ → Bool) where
   -- ---- the evaluation of a script, and the end of an install handler
 
   threw_spares : (state : State) (job registration worker : ℕ) → Spares job state (throw state job registration worker)
-  unfolding throw discard
+  unfolding throw become
   threw_spares state job registration worker =
-      then_spares job state (discard state worker) _ (quiet_spares job state _ refl refl) (rejected_spares (discard state worker).state job registration _)
+      then_spares job state (become state worker worker_state.Redundant) _ (quiet_spares job state _ refl refl) (rejected_spares (become state worker worker_state.Redundant).state job registration _)
 
   begun_spares : (state : State) (job registration worker : ℕ) → Spares job state (begin_install state job registration worker)
-  unfolding begin_install
+  unfolding begin_install followed remember become start_handler
   begun_spares state job registration worker = record { fetching = others_fetch job _ state.jobs; unsettled = λ task of is. is }
 
   installing_spares : (state : State) (job : Job) (registration worker : ℕ) → Spares job.number state (install state job registration worker)
@@ -110,11 +112,11 @@ module _ (tasks : ℕ → Bool) where
       (then_spares number begun.state settled _ (settle_stays (others number) tasks begun.state number (settlement.Registration registration)) (quiet_spares number settled.state _ refl refl)))
 
   failed_spares : (state : State) (row : JobRow) (registration worker : ℕ) → Spares row.job.number state (fail_install state row registration worker)
-  unfolding fail_install end_handler discard unmap
+  unfolding fail_install end_handler become unmap
   failed_spares state row registration worker =
       let number = row.job.number in
       let ended = end_handler state worker in
-      let discarded = discard ended.state worker in
+      let discarded = become ended.state worker worker_state.Redundant in
       let left = if is_none row.remembered then unmap discarded.state registration else quiet discarded.state in
       then_spares number state ended _ (quiet_spares number state _ refl refl)
       (then_spares number ended.state discarded _ (quiet_spares number ended.state _ refl refl)
@@ -123,12 +125,13 @@ module _ (tasks : ℕ → Bool) where
       (finish_spares left.state number)))
 
   installed_spares : (state : State) (job registration : ℕ) (worker : Worker) → Spares job state (finish_install state job registration worker)
-  unfolding finish_install end_handler become_waiting
+  unfolding finish_install end_handler
   installed_spares state job registration worker =
       let ended = end_handler state worker.number in
       let waiting = become_waiting ended.state registration worker in
+      let leaves = waiting_leaves ended.state registration worker in
       then_spares job state ended _ (quiet_spares job state _ refl refl)
-      (then_spares job ended.state waiting _ (quiet_spares job ended.state _ refl refl) (finish_spares waiting.state job))
+      (then_spares job ended.state waiting _ (quiet_spares job ended.state _ (ap (λ s. s.jobs) leaves) (ap (λ s. s.tasks) leaves)) (finish_spares waiting.state job))
 
 -- ---- each event
 
@@ -196,13 +199,17 @@ module _ (jobs tasks : ℕ → Bool) where
     refusing = λ why sound. settled_lasts state row.number (settlement.Fault why) true none;
   }
 
+  active_stays : (state : State) (registration worker : ℕ) → Stays jobs tasks state (become_activated state registration worker)
+  unfolding become_activated followed keep become
+  active_stays state registration worker = unmoved jobs tasks state _ refl refl
+
   activated_stays : (state : State) (registration worker : ℕ) → Stays jobs tasks state (finish_activate state registration worker)
-  unfolding finish_activate end_handler become_activated
+  unfolding finish_activate end_handler
   activated_stays state registration worker =
       let ended = end_handler state worker in
       let active = become_activated ended.state registration worker in
       further jobs tasks state ended _ (unmoved jobs tasks state _ refl refl)
-      (further jobs tasks ended.state active _ (unmoved jobs tasks ended.state _ refl refl) (recheck-law (Stays jobs tasks) (rechecks_stay jobs tasks) active.state registration))
+      (further jobs tasks ended.state active _ (active_stays ended.state registration worker) (recheck-law (Stays jobs tasks) registration (law_of registration (rechecks_stay jobs tasks)) active.state))
 
   host_law : IsHostLaw EndsNone Lasts
   host_law = record {

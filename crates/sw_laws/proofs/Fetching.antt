@@ -17,11 +17,12 @@ use Rattle.sw_rules.specs.Clients.{add_client, add_event, claim_client, claim_cl
 use Rattle.sw_rules.specs.Jobs.{gets_value, promise, schedule, settle}
 use Rattle.sw_rules.specs.Preloading.{set_preload}
 use Rattle.sw_rules.specs.Registering.{fetch_script}
-use Rattle.sw_rules.specs.Registrations.{activate, clear, drop_registration, map_registration, set_mode, try_clear, unload, unmap}
+use Rattle.sw_rules.specs.Registrations.{clear, drop_registration, map_registration, set_mode, try_clear, unload, unmap}
 use Rattle.sw_rules.specs.Rows.{changed, client_row, has_pending_worker, is_in_phase, is_fetching, is_job, is_task, is_used, newest_worker}
 use Rattle.sw_rules.specs.State.{State, AddAll, Awaited}
 use Rattle.sw_rules.specs.Told.{Told, followed}
-use Rattle.sw_laws.proofs.Forgotten.{all_forgotten}
+use Rattle.sw_laws.proofs.AtOnce.{activate_leaves, clear_only}
+use Rattle.sw_laws.proofs.Forgotten.{forgotten_leaves}
 use Rattle.sw_laws.proofs.Lists.{any_changed, by_test}
 use Rattle.sw_laws.proofs.Split.{IsLawBeside, IsRecheckLaw, unload-law}
 
@@ -89,13 +90,15 @@ module _ (jobs tasks : ℕ → Bool) where
   unfolding followed
   further state told next = both state told.state (next told.state).state
 
+  clear_stays : (state : State) (registration : ℕ) → Stays state (clear state registration)
+  clear_stays state registration = let only = clear_only state registration in unmoved state _ (ap (λ s. s.jobs) only.rest) (ap (λ s. s.tasks) only.rest)
+
   pub rechecks_stay : IsRecheckLaw Stays
-  unfolding activate clear
   rechecks_stay = record {
     nothing = λ state. unmoved state state refl refl;
     further = further;
-    activating = λ state registration worker is. unmoved state _ refl refl;
-    clearing = λ state registration gone unused calm. unmoved state _ refl refl;
+    activating = λ state registration worker is. let leaves = activate_leaves state registration worker in unmoved state _ (ap (λ s. s.jobs) leaves) (ap (λ s. s.tasks) leaves);
+    clearing = λ state registration gone unused calm. clear_stays state registration;
   }
 
   unload_stays : (state : State) (client : ℕ) → Stays state (unload state client)
@@ -144,8 +147,8 @@ module _ (jobs tasks : ℕ → Bool) where
   drop_stays state registration = by_test (Stays state) (is_none (newest_worker state registration)) _ _ (λ none. unmoved state _ refl refl) (λ there. unmoved state state refl refl)
 
   pub try_clear_stays : (state : State) (registration : ℕ) → Stays state (try_clear state registration)
-  unfolding try_clear clear
-  try_clear_stays state registration = by_test (Stays state) (is_used state registration || has_pending_worker state registration) _ _ (λ busy. unmoved state state refl refl) (λ free. unmoved state _ refl refl)
+  unfolding try_clear
+  try_clear_stays state registration = by_test (Stays state) (is_used state registration || has_pending_worker state registration) _ _ (λ busy. unmoved state state refl refl) (λ free. clear_stays state registration)
 
   -- the law of the steps that end no fetch
   pub stay_law : IsLawBeside Stays (λ state told. Unit {0}) (λ state told. Unit {0}) true true
@@ -177,7 +180,7 @@ module _ (jobs tasks : ℕ → Bool) where
     caching = λ state key name free. unmoved state _ refl refl;
     dropping = λ state key name. unmoved state _ refl refl;
     carrying = λ state key name ops pairs new there is. unmoved state _ refl refl;
-    forgetting = λ state key free. let same = all_forgotten state (filter (is_mapped_of key) state.registrations) in unmoved state _ (ap (λ s. s.jobs) same) (ap (λ s. s.tasks) same);
+    forgetting = λ state key free. let same = forgotten_leaves state (filter (is_mapped_of key) state.registrations) in unmoved state _ (ap (λ s. s.jobs) same) (ap (λ s. s.tasks) same);
     awaiting = λ state maker key name requests runs. record { fetching = λ job of is. is; unsettled = tasks_pushed tasks state.tasks _ };
     answering = λ state number result faulted may. tt;
     noting = λ state worker faulted. unmoved state _ refl refl;

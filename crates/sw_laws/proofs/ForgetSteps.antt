@@ -8,10 +8,10 @@ use Rattle.std.proofs.lemmas.Bool.Decides.{nat_tests}
 use Rattle.sw_data.specs.declared.rows.ClientRow.{ClientRow}
 use Rattle.sw_data.specs.declared.workers.WorkerState.{WorkerState}
 use Rattle.sw_rules.specs.Forgetting.{forget_key, is_busy, is_mapped_of, is_worker_of_key}
-use Rattle.sw_rules.specs.Registrations.{clear_state}
 use Rattle.sw_rules.specs.Rows.{has_worker, is_activated, is_active, is_registration, is_unfinished, is_worker, registration_row, worker_row}
 use Rattle.sw_rules.specs.State.{State, Registration, Worker}
 use Rattle.sw_laws.specs.Coherent.{Coherent, apart, has_its_handler, is_of_key, same_cache, same_slot, share_slot}
+use Rattle.sw_laws.proofs.AtOnce.{are_apart, clear_state}
 use Rattle.sw_laws.proofs.FetchSteps.{bytes_joined}
 use Rattle.sw_laws.proofs.Forgotten.{cleared, forgotten_together, is_numbered, left}
 use Rattle.sw_laws.proofs.Lists.{all_both, all_members, all_not, all_weaker, any_changed, any_weaker, by_test, bytes_eq_symmetric, false_of, or_from}
@@ -163,7 +163,7 @@ module _ (state : State) (key : List ℕ) (calm : IsIdle state key) (sound : Coh
   forgotten =
       let after : State = record state { workers = map f state.workers } in
       let unmapped = registrations-coherent _ (plain_keeps (is_mapped_of key) left (λ x. refl) (λ x. refl) (λ x. refl) (λ x is. absurd cc)) after moved in
-      subst Coherent (sym (forgotten_together state key registrations_apart)) (caches-coherent _ _ (apart_filter same_cache _ state.caches sound.caches) unmapped)
+      subst Coherent (sym (forgotten_together state key (are_apart state.registrations state.workers sound.workers) registrations_apart)) (caches-coherent _ _ (apart_filter same_cache _ state.caches sound.caches) unmapped)
 
 pub forget-coherent : (state : State) (key : List ℕ) → is_busy state key ≡ false → Coherent state → Coherent (forget_key state key).state
 forget-coherent state key is sound = forgotten state key (idle state key is) sound

@@ -6,12 +6,13 @@ use Rattle.std.proofs.lemmas.Bool.{and_parts}
 use Rattle.std.proofs.lemmas.Bool.Decides.{nat_tests}
 use Rattle.sw_data.specs.declared.workers.WorkerState.{WorkerState}
 use Rattle.sw_rules.specs.Forgetting.{forget_key, forget_registrations, is_mapped_of}
-use Rattle.sw_rules.specs.Registrations.{clear, clear_state, unmap}
+use Rattle.sw_rules.specs.Registrations.{clear, unmap}
 use Rattle.sw_rules.specs.Rows.{changed}
 use Rattle.sw_rules.specs.State.{State, Registration, Worker}
 use Rattle.sw_rules.specs.Told.{followed}
 use Rattle.sw_laws.specs.Coherent.{apart}
-use Rattle.sw_laws.proofs.Lists.{all_of_filter, by_truth, map_same}
+use Rattle.sw_laws.proofs.AtOnce.{AreApart, clear_only, clear_state, cleared_apart, cleared_at_once, shift}
+use Rattle.sw_laws.proofs.Lists.{all_of_filter, by_truth, changed_as, map_same}
 
 abbrev pub left : Registration → Registration
 left row = record row { mapped = false }
@@ -48,16 +49,23 @@ workers_then row rows (x ∷ xs) = by_truth (x.registration == row.number)
     (λ here. grind (arith, nat_tests, here, clear_twice x.state, workers_then row rows xs))
     (λ other. grind (arith, nat_tests, other, workers_then row rows xs))
 
-pub all_forgotten : (state : State) (rows : List Registration) → (forget_registrations state rows).state ≡ together state rows
-unfolding forget_registrations followed unmap clear
-all_forgotten state [] = (λ i. record state { registrations = sym (map_same state.registrations) i; workers = sym (map_same state.workers) i })
-all_forgotten state (row ∷ rows) =
-    all_forgotten (clear (unmap state row.number).state row.number).state rows
-    ∙ (λ i. record state { registrations = registrations_then row rows state.registrations i; workers = workers_then row rows state.workers i })
+pub all_forgotten : (state : State) (rows : List Registration) → AreApart state.workers → (forget_registrations state rows).state ≡ together state rows
+unfolding forget_registrations followed unmap
+all_forgotten state [] fine = (λ i. record state { registrations = sym (map_same state.registrations) i; workers = sym (map_same state.workers) i })
+all_forgotten state (row ∷ rows) fine =
+    let unmapped = (unmap state row.number).state in
+    ap (λ s. (forget_registrations s rows).state) (cleared_at_once unmapped row.number fine)
+    ∙ (all_forgotten (record unmapped { workers = shift row.number clear_state state.workers }) rows (cleared_apart row.number state.workers fine)
+    ∙ (λ i. record state { registrations = registrations_then row rows state.registrations i; workers = workers_then row rows state.workers i }))
 
-changed_as : {X : Type 0} (known p q : X → Bool) (f : X → X) → ((x : X) → known x ≡ true → p x ≡ q x) → (xs : List X) → list_all known xs ≡ true → changed p f xs ≡ changed q f xs
-changed_as known p q f same [] all = refl
-changed_as known p q f same (x ∷ xs) all = grind (arith, all, same x, changed_as known p q f same xs)
+-- what they leave, whatever the state
+pub forgotten_leaves : (state : State) (rows : List Registration) → let after = (forget_registrations state rows).state in after ≡ record state { registrations = after.registrations; workers = after.workers }
+unfolding forget_registrations followed unmap
+forgotten_leaves state [] = refl
+forgotten_leaves state (row ∷ rows) =
+    let cleared_state = (clear (unmap state row.number).state row.number).state in
+    let after = (forget_registrations cleared_state rows).state in
+    forgotten_leaves cleared_state rows ∙ ap (λ (s : State). record s { registrations = after.registrations; workers = after.workers }) (clear_only (unmap state row.number).state row.number).rest
 
 -- of rows that are apart, those that pass are those of their numbers
 those_numbered : (p : Registration → Bool) (rows : List Registration) → apart (λ x y. x.number == y.number) rows ≡ true → changed (λ x. is_numbered (filter p rows) x.number) left rows ≡ changed p left rows
@@ -74,15 +82,15 @@ those_numbered p (x ∷ xs) fine =
     none_numbered (row ∷ rows) number none = grind (arith, nat_tests, none, none_numbered rows number)
 
 -- a key is forgotten at once
-pub forgotten_together : (state : State) (key : List ℕ) → apart (λ x y. x.number == y.number) state.registrations ≡ true
+pub forgotten_together : (state : State) (key : List ℕ) → AreApart state.workers → apart (λ x y. x.number == y.number) state.registrations ≡ true
     → (forget_key state key).state ≡ record state {
       registrations = changed (is_mapped_of key) left state.registrations;
       workers = changed (λ worker. is_numbered (filter (is_mapped_of key) state.registrations) worker.registration) cleared state.workers;
       caches = filter (λ row. not (bytes_eq row.key key)) state.caches;
     }
 unfolding forget_key
-forgotten_together state key fine =
-    ap (λ (after : State). record after { caches = filter (λ row. not (bytes_eq row.key key)) after.caches }) (all_forgotten state (filter (is_mapped_of key) state.registrations))
+forgotten_together state key workers fine =
+    ap (λ (after : State). record after { caches = filter (λ row. not (bytes_eq row.key key)) after.caches }) (all_forgotten state (filter (is_mapped_of key) state.registrations) workers)
     ∙ (λ i. record state {
       registrations = those_numbered (is_mapped_of key) state.registrations fine i;
       workers = changed (λ worker. is_numbered (filter (is_mapped_of key) state.registrations) worker.registration) cleared state.workers;

@@ -1,5 +1,5 @@
 -- Each event keeps the values of promises, and leaves each worker's state, moves it to the next one, or makes it redundant.
-use Rattle.std.proofs.Common.{◌≡◌, ◌∙◌, inl, inr, ℕ, Bool, true, false, not, ◌&&◌, ◌||◌, ◌==◌, List, [], ◌∷◌, map, filter, Option, Some, None, IfSome, refl, sym, ap, subst, true≢false, arith, if◌then◌else◌}
+use Rattle.std.proofs.Common.{◌≡◌, ◌∙◌, inl, inr, ℕ, Bool, true, false, not, ◌&&◌, ◌||◌, ◌==◌, List, map, filter, Option, Some, None, IfSome, refl, sym, ap, subst, true≢false, arith, if◌then◌else◌}
 use Rattle.std.specs.Prelude.{find, is_none}
 use Rattle.std.specs.Option.{option_map_or}
 use Rattle.std.proofs.lemmas.Bool.Decides.{nat_tests}
@@ -18,30 +18,33 @@ use Rattle.sw_rules.specs.Activating.{become_activated, finish_activate}
 use Rattle.sw_rules.specs.Caching.{add_cache, add_task, carry_out, drop_cache, settle_task}
 use Rattle.sw_rules.specs.Forgetting.{forget_key, is_mapped_of}
 use Rattle.sw_rules.specs.Calls.{note_call}
-use Rattle.sw_rules.specs.Clients.{add_client, add_event, claim_client, claim_clients, claims, leave, remove_client, remove_event, take_control}
-use Rattle.sw_rules.specs.Installing.{begin_install, become_waiting, discard, end_handler, ended_handler, fail_install, finish_install, install, install_state, installing, job_worker, make_worker, reject_and_drop, tell_update, throw}
+use Rattle.sw_rules.specs.Clients.{add_client, add_event, claim_clients, leave, remove_client, remove_event, take_control}
+use Rattle.sw_rules.specs.Installing.{become_waiting, begin_install, end_handler, ended_handler, fail_install, finish_install, install, job_worker, make_worker, reject_and_drop, remember, tell_update, throw}
 use Rattle.sw_rules.specs.Jobs.{finish, gets_value, promise, schedule, settle}
 use Rattle.sw_rules.specs.Preloading.{set_preload}
 use Rattle.sw_rules.specs.Registering.{fetch_script}
-use Rattle.sw_rules.specs.Registrations.{activate, clear, clear_state, drop_registration, map_registration, promote, recheck, set_mode, unload, unmap}
-use Rattle.sw_rules.specs.Rows.{changed, client_row, is_activating, is_evaluating, is_install, is_job, is_task, is_worker, newest_worker, worker_row}
+use Rattle.sw_rules.specs.Registrations.{activate, become, chosen, clear, drop_registration, left_by, map_registration, recheck, set_mode, unmap}
+use Rattle.sw_rules.specs.Rows.{changed, has_worker, is_activating, is_active, is_evaluating, is_install, is_job, is_task, is_worker, newest_worker, worker_row}
 use Rattle.sw_rules.specs.State.{State, Worker, AddAll, Awaited, Handler}
 use Rattle.sw_rules.specs.Step.{state_after, step}
-use Rattle.sw_rules.specs.Told.{Told, Outcome, followed, quiet, type_error}
+use Rattle.sw_rules.specs.Told.{Outcome, Told, followed, keep, quiet, type_error}
 use Rattle.sw_laws.specs.Coherent.{Coherent, is_parsed}
 use Rattle.sw_laws.specs.Laws.{GoesOnTo}
+use Rattle.sw_laws.proofs.ActivateSteps.{is_chosen}
+use Rattle.sw_laws.proofs.AtOnce.{activated_at_once, are_apart, begun_at_once, clear_state, cleared_at_once, install_state, installing, promote}
 use Rattle.sw_laws.proofs.BeginSteps.{parsed_rows}
-use Rattle.sw_laws.proofs.ClaimSteps.{rechecks_coherently}
+use Rattle.sw_laws.proofs.ClaimSteps.{Beside, claims-law, rechecks_coherently, unload-beside}
 use Rattle.sw_laws.proofs.CoherentLaw.{coherent_law}
 use Rattle.sw_laws.proofs.Events.{activated-by, step-law-beside}
 use Rattle.sw_laws.proofs.Forward.{EndsActivating, KeepJobs, KeepTasks, Move, Rechecked, ended_goes, moved_both, rechecked_both, rechecked_goes, values_changed, values_pushed, workers_changed, workers_pushed, workers_stand}
 use Rattle.sw_laws.proofs.Forgotten.{all_forgotten, cleared, is_numbered}
-use Rattle.sw_laws.proofs.HandlerSteps.{activating_rows, ended_from, ended_in, ended_in_keeps, ends_in}
+use Rattle.sw_laws.proofs.HandlerSteps.{activated_from, activating_rows, ended_from, ended_in, ended_in_keeps, ends_in}
 use Rattle.sw_laws.proofs.HeldLaw.{keeps_if}
+use Rattle.sw_laws.proofs.InstallSteps.{waits}
 use Rattle.sw_laws.proofs.JobEvents.{evaluated-by, installed-by, mode_at, mode_made}
 use Rattle.sw_laws.proofs.Lists.{all_true, by_test, find_passes}
 use Rattle.sw_laws.proofs.RegistrationSteps.{paid-coherent}
-use Rattle.sw_laws.proofs.Split.{IsAt, IsLawBeside, IsMoveLaw, IsRecheckLaw, recheck-law, unload-law}
+use Rattle.sw_laws.proofs.Split.{IsAt, IsInstalled, IsLawBeside, IsMoveLaw, IsRecheckLaw, law_of, recheck-law}
 
 -- ---- what a step leaves of values and states
 
@@ -133,35 +136,45 @@ install_moves worker_state.Redundant = inl refl
 abbrev Goes : State → Told → Type 0
 Goes state told = Stays state told.state
 
-rechecks_go : IsRecheckLaw Goes
-unfolding followed activate clear
+-- of a state that is coherent
+abbrev GoesForward : State → Told → Type 0
+GoesForward = Beside Goes
+
+activate_goes : (state : State) (registration worker : ℕ) → chosen state registration ≡ Some worker → Coherent state → Goes state (activate state registration worker)
+activate_goes state registration worker is sound =
+    let picked = is_chosen state registration worker is sound in
+    subst (Stays state) (sym (activated_at_once state registration worker picked.waiting (are_apart state.registrations state.workers sound.workers) picked.found picked.number))
+    (record { values = same_values state; workers = some_go (λ row. row.registration == registration) promote (λ x. promote_number x.state x) (λ x. promote_registration x.state x) (λ x. promoted_moves x.state x) state.workers })
+
+clear_goes : (state : State) (registration : ℕ) → Coherent state → Goes state (clear state registration)
+clear_goes state registration sound =
+    subst (Stays state) (sym (cleared_at_once state registration (are_apart state.registrations state.workers sound.workers)))
+    (record { values = same_values state; workers = some_go (λ row. row.registration == registration) (λ row. record row { state = clear_state row.state }) (λ x. refl) (λ x. refl) (λ x. clear_moves x.state) state.workers })
+
+rechecks_go : IsRecheckLaw GoesForward
+unfolding followed
 rechecks_go = record {
-  nothing = λ state. stays state;
-  further = λ state told next one other. both state told.state (next told.state).state one other;
-  activating = λ state registration worker is. record { values = same_values state; workers = some_go (λ row. row.registration == registration) promote (λ x. promote_number x.state x) (λ x. promote_registration x.state x) (λ x. promoted_moves x.state x) state.workers };
-  clearing = λ state registration gone unused calm. record { values = same_values state; workers = some_go (λ row. row.registration == registration) (λ row. record row { state = clear_state row.state }) (λ x. refl) (λ x. refl) (λ x. clear_moves x.state) state.workers };
+  nothing = λ state sound. (sound, stays state);
+  further = λ state told next one other sound. let first = one sound in let second = other first.0 in (second.0, both state told.state (next told.state).state first.1 second.1);
+  activating = λ state registration worker is sound. (rechecks_coherently.activating state registration worker is sound, activate_goes state registration worker is sound);
+  clearing = λ state registration gone unused calm sound. (rechecks_coherently.clearing state registration gone unused calm sound, clear_goes state registration sound);
 }
 
-unload_goes : (state : State) (client : ℕ) → Goes state (unload state client)
-unload_goes state client = unload-law Goes rechecks_go (λ before number. record { values = same_values before; workers = same_workers before }) state client
+left_goes : (state : State) (client : ℕ) → Goes state (quiet (left_by client state))
+left_goes state client = record { values = same_values state; workers = same_workers state }
 
-leave_goes : (state : State) (client : ℕ) → Goes state (leave state client)
+control_goes : (state : State) (worker client : ℕ) → Goes state (take_control state worker client)
+unfolding take_control
+control_goes state worker client = record { values = same_values state; workers = same_workers state }
+
+leave_goes : (state : State) (client : ℕ) → Coherent state → Goes state (leave state client)
 unfolding leave followed remove_client
-leave_goes state client = record { values = (unload_goes state client).values; workers = (unload_goes state client).workers }
+leave_goes state client sound = let left = (unload-beside Goes rechecks_go left_goes control_goes state client sound).1 in record { values = left.values; workers = left.workers }
 
-claims_go : (numbers : List ℕ) (state : State) (worker registration : ℕ) → Goes state (claim_clients state worker registration numbers)
-unfolding claim_clients claim_client followed take_control
-claims_go [] state worker registration = stays state
-claims_go (number ∷ numbers) state worker registration =
-    let told = claim_client state worker registration number in
-    both state told.state (claim_clients told.state worker registration numbers).state
-    (by_test (Goes state) (option_map_or (claims state worker registration) (client_row state number) false) _ _ (λ claims_it. record { values = (unload_goes state number).values; workers = (unload_goes state number).workers }) (λ none_claimed. stays state))
-    (claims_go numbers told.state worker registration)
+claims_go : (numbers : List ℕ) (state : State) (worker registration : ℕ) → has_worker (λ row. row.registration == registration && is_active row.state) state.workers worker ≡ true → Coherent state → Goes state (claim_clients state worker registration numbers)
+claims_go = claims-law Goes rechecks_go left_goes control_goes
 
 -- ---- each least step
-
-abbrev GoesForward : State → Told → Type 0
-GoesForward state told = Coherent state → (Coherent told.state) × Stays state told.state
 
 -- a change of some jobs, which keeps the values
 some_values : (test : JobRow → Bool) (g : JobRow → JobRow) → ((x : JobRow) → (g x).job ≡ x.job) → ((x : JobRow) → (g x).settled ≡ x.settled) → (jobs : List JobRow) → KeepJobs jobs (changed test g jobs)
@@ -193,8 +206,8 @@ finish_goes : (state : State) (job : ℕ) → Stays state (finish state job).sta
 unfolding finish
 finish_goes state job = record { values = by_jobs state _ (some_values (is_job job) _ (λ x. refl) (λ x. refl) state.jobs); workers = same_workers state }
 
-discard_goes : (state : State) (worker : ℕ) → Stays state (discard state worker).state
-unfolding discard
+discard_goes : (state : State) (worker : ℕ) → Stays state (become state worker worker_state.Redundant).state
+unfolding become
 discard_goes state worker = record { values = same_values state; workers = some_go (is_worker worker) _ (λ x. refl) (λ x. refl) (λ x. inr (inl refl)) state.workers }
 
 end_goes : (state : State) (worker : ℕ) → Stays state (end_handler state worker).state
@@ -214,7 +227,7 @@ promise_goes state (who.Handler worker in_phase number) awaited = stays state
 throw_goes : (state : State) (job registration worker : ℕ) → Stays state (throw state job registration worker).state
 unfolding throw reject_and_drop followed
 throw_goes state job registration worker =
-    let one = (discard state worker).state in
+    let one = (become state worker worker_state.Redundant).state in
     let two = (settle one job (settlement.Fault (type_error cause.Threw))).state in
     let three = (drop_registration two registration).state in
     both state one (finish three job).state (discard_goes state worker) (both one two (finish three job).state (settle_goes one job _) (both two three (finish three job).state (drop_goes two registration) (finish_goes three job)))
@@ -223,28 +236,23 @@ fail_goes : (state : State) (row : JobRow) (registration worker : ℕ) → Stays
 unfolding fail_install followed unmap
 fail_goes state row registration worker =
     let one = (end_handler state worker).state in
-    let two = (discard one worker).state in
+    let two = (become one worker worker_state.Redundant).state in
     let three = if is_none row.remembered then unmap two registration else quiet two in
     both state one (finish three.state row.job.number).state (end_goes state worker) (both one two (finish three.state row.job.number).state (discard_goes one worker)
     (both two three.state (finish three.state row.job.number).state (by_test (λ (told : Told). Stays two told.state) (is_none row.remembered) _ _ (λ gone. record { values = same_values two; workers = same_workers two }) (λ there. stays two)) (finish_goes three.state row.job.number)))
 
-forget_goes : (state : State) (key : List ℕ) → Stays state (forget_key state key).state
+forget_goes : (state : State) (key : List ℕ) → Coherent state → Stays state (forget_key state key).state
 unfolding forget_key
-forget_goes state key =
+forget_goes state key sound =
     let gone = filter (is_mapped_of key) state.registrations in
-    let after = subst (Stays state) (sym (all_forgotten state gone)) (record { values = same_values state; workers = some_go (λ w. is_numbered gone w.registration) cleared (λ x. refl) (λ x. refl) (λ x. clear_moves x.state) state.workers }) in
+    let after = subst (Stays state) (sym (all_forgotten state gone (are_apart state.registrations state.workers sound.workers))) (record { values = same_values state; workers = some_go (λ w. is_numbered gone w.registration) cleared (λ x. refl) (λ x. refl) (λ x. clear_moves x.state) state.workers }) in
     record { values = after.values; workers = after.workers }
 
 -- the law of the steps that move no worker on
 forward_law : IsLawBeside GoesForward (λ state told. Unit {0}) GoesForward true true
 unfolding followed schedule map_registration unmap set_mode set_preload fetch_script make_worker add_client add_event remove_event add_cache drop_cache carry_out add_task settle_task note_call
 forward_law = record {
-  rechecks = record {
-    nothing = λ state sound. (sound, stays state);
-    further = λ state told next one other sound. let first = one sound in let second = other first.0 in (second.0, both state told.state (next told.state).state first.1 second.1);
-    activating = λ state registration worker is sound. (rechecks_coherently.activating state registration worker is sound, rechecks_go.activating state registration worker is);
-    clearing = λ state registration gone unused calm sound. (rechecks_coherently.clearing state registration gone unused calm sound, rechecks_go.clearing state registration gone unused calm);
-  };
+  rechecks = rechecks_go;
   scheduling = λ state job is sound. (coherent_law.scheduling state job is sound, record { values = by_jobs state _ (values_pushed _ _ state.jobs _); workers = same_workers state });
   promising = λ state maker awaited there sound. (coherent_law.promising state maker awaited there sound, promise_goes state maker awaited);
   settling = λ state job result may sound. (coherent_law.settling state job result may sound, settle_goes state job result);
@@ -262,15 +270,15 @@ forward_law = record {
   paying = λ state registration told owed holds sound. let after = holds (paid-coherent state registration sound) in (after.0, record { values = after.1.values; workers = after.1.workers });
   activated = λ state worker handler next found ended rest. tt;
   opening = λ may state number key url free sound. (coherent_law.opening may state number key url free sound, record { values = same_values state; workers = same_workers state });
-  closing = λ state number sound. (coherent_law.closing state number sound, leave_goes state number);
+  closing = λ state number sound. (coherent_law.closing state number sound, leave_goes state number sound);
   flagging = λ state worker sound. (coherent_law.flagging state worker sound, record { values = same_values state; workers = some_go (is_worker worker) _ (λ x. refl) (λ x. refl) (λ x. inl refl) state.workers });
-  claiming = λ may state worker active sound. (coherent_law.claiming may state worker active sound, claims_go (map (λ client. client.number) state.clients) state worker.number worker.registration);
+  claiming = λ may state worker active sound. (coherent_law.claiming may state worker active sound, claims_go (map (λ client. client.number) state.clients) state worker.number worker.registration active sound);
   adding = λ state client number row worker there controls ready free sound. (coherent_law.adding state client number row worker there controls ready free sound, record { values = same_values state; workers = same_workers state });
   ending = λ state number sound. (coherent_law.ending state number sound, record { values = same_values state; workers = same_workers state });
   caching = λ state key name free sound. (coherent_law.caching state key name free sound, record { values = same_values state; workers = same_workers state });
   dropping = λ state key name sound. (coherent_law.dropping state key name sound, record { values = same_values state; workers = same_workers state });
   carrying = λ state key name ops pairs new there is sound. (coherent_law.carrying state key name ops pairs new there is sound, record { values = same_values state; workers = same_workers state });
-  forgetting = λ state key free sound. (coherent_law.forgetting state key free sound, forget_goes state key);
+  forgetting = λ state key free sound. (coherent_law.forgetting state key free sound, forget_goes state key sound);
   awaiting = λ state maker key name requests runs sound. (coherent_law.awaiting state maker key name requests runs sound, record { values = by_tasks state _ (values_pushed _ _ state.tasks _); workers = same_workers state });
   answering = λ state number result faulted may sound. (coherent_law.answering state number result faulted may sound, record { values = by_tasks state _ (answered_values number result state.tasks may); workers = some_go _ _ (λ x. refl) (λ x. refl) (λ x. inl refl) state.workers });
   noting = λ state worker faulted sound. (coherent_law.noting state worker faulted sound, record { values = same_values state; workers = some_go (is_worker worker) _ (λ x. refl) (λ x. refl) (λ x. inl refl) state.workers });
@@ -303,16 +311,20 @@ mode_unmoved : (state : State) (registration : ℕ) (mode : Mode) → GoesBy Unm
 unfolding set_mode
 mode_unmoved state registration mode = record { values = same_values state; workers = workers_stand Unmoved (λ s. refl) state.workers }
 
-wait_goes : (state : State) (registration : ℕ) (worker : Worker) → GoesOn state (become_waiting state registration worker).state
-unfolding become_waiting
-wait_goes state registration worker = record { values = same_values state; workers = some_move GoesOnTo (λ s. inl refl) (λ row. row.registration == registration) _ (λ x. refl) (λ x. refl) (λ x. install_moves x.state) state.workers }
+wait_goes : (state : State) (row : JobRow) (registration : ℕ) (worker : Worker) (handler : Handler) → IsInstalled state row registration worker handler → Coherent state
+    → let one = (end_handler state worker.number).state in GoesOn one (become_waiting one registration worker).state
+wait_goes state row registration worker handler is sound =
+    let one = (end_handler state worker.number).state in
+    subst (GoesOn one) (sym (waits state row registration worker handler is sound))
+    (record { values = same_values one; workers = some_move GoesOnTo (λ s. inl refl) (λ row. row.registration == registration) _ (λ x. refl) (λ x. refl) (λ x. install_moves x.state) one.workers })
 
-installed_goes : (state : State) (job registration : ℕ) (worker : Worker) → GoesOn state (finish_install state job registration worker).state
+installed_goes : (state : State) (row : JobRow) (registration : ℕ) (worker : Worker) (handler : Handler) → IsInstalled state row registration worker handler → Coherent state → GoesOn state (finish_install state row.job.number registration worker).state
 unfolding finish_install followed
-installed_goes state job registration worker =
+installed_goes state row registration worker handler is sound =
+    let job = row.job.number in
     let one = (end_handler state worker.number).state in
     let two = (become_waiting one registration worker).state in
-    behind state one (finish two job).state (end_unmoved state worker.number) (before one two (finish two job).state (wait_goes one registration worker) (finish_unmoved two job))
+    behind state one (finish two job).state (end_unmoved state worker.number) (before one two (finish two job).state (wait_goes state row registration worker handler is sound) (finish_unmoved two job))
 
 activating_ends : (state : WorkerState) (x : Worker) → is_activating (at_state state x) ≡ true → EndsActivating state worker_state.Activated
 activating_ends worker_state.Parsed x is = absurd cc
@@ -332,7 +344,7 @@ parsed_begins worker_state.Redundant x is = absurd cc
 
 activated_goes : (state : State) (worker : Worker) (handler : Handler) → worker_row state worker.number ≡ Some worker → ended_handler state (λ in_phase. not (is_install in_phase)) worker ≡ Some handler → Coherent state
     → GoesBy EndsActivating state (become_activated (end_handler state worker.number).state worker.registration worker.number).state
-unfolding become_activated end_handler
+unfolding become_activated followed keep become end_handler
 activated_goes state worker handler found ended sound =
     let is = ended_from state (λ in_phase. not (is_install in_phase)) worker handler found ended in
     let rows = activating_rows state worker handler is.1 (grind (arith, is.0)) sound in
@@ -349,16 +361,17 @@ ending_goes : (state : State) (worker : Worker) (handler : Handler) → worker_r
 unfolding finish_activate followed
 ending_goes state worker handler found ended sound =
     let middle = (become_activated (end_handler state worker.number).state worker.registration worker.number).state in
-    both-by EndsActivating Rechecked GoesOnTo ended_goes state middle (recheck middle worker.registration).state (activated_goes state worker handler found ended sound) (recheck-law Goes rechecks_go middle worker.registration)
+    both-by EndsActivating Rechecked GoesOnTo ended_goes state middle (recheck middle worker.registration).state (activated_goes state worker handler found ended sound) (recheck-law GoesForward worker.registration (law_of worker.registration rechecks_go) middle (activated_from state worker handler found ended sound)).1
 
 begin_goes : (state : State) (row : JobRow) (registration : ℕ) (worker : Worker) → IsAt state is_evaluating row registration → job_worker state row ≡ Some worker → Coherent state
     → GoesOn state (followed (begin_install state row.job.number registration worker.number) (λ begun. followed (settle begun row.job.number (settlement.Registration registration)) (λ settled. tell_update settled registration))).state
-unfolding followed begin_install settle tell_update
-begin_goes state row registration worker at made sound = record {
-  values = by_jobs state _ (λ job result is. given_values row.job.number (settlement.Registration registration) (changed (is_job row.job.number) _ state.jobs) job result (some_values (is_job row.job.number) _ (λ x. refl) (λ x. refl) state.jobs job result is));
-  workers = workers_changed GoesOnTo _ (keeps_if (is_worker worker.number) installing (λ x. refl) (λ x. refl)) (λ w. not (w.number == worker.number) || (is_parsed w && w.registration == registration)) state.workers (parsed_rows state row registration worker at made sound)
-      (λ x know. by_test (λ (w : Worker). GoesOnTo x.state w.state) (is_worker worker.number x) _ x (λ here. parsed_begins x.state x (grind (arith, know, here))) (λ other. inl refl));
-}
+unfolding followed settle tell_update remember
+begin_goes state row registration worker at made sound =
+    subst (λ s. GoesOn state (tell_update (settle s row.job.number (settlement.Registration registration)).state registration).state) (sym (begun_at_once state row.job.number registration worker.number)) (record {
+      values = by_jobs state _ (λ job result is. given_values row.job.number (settlement.Registration registration) (changed (is_job row.job.number) _ state.jobs) job result (some_values (is_job row.job.number) _ (λ x. refl) (λ x. refl) state.jobs job result is));
+      workers = workers_changed GoesOnTo _ (keeps_if (is_worker worker.number) installing (λ x. refl) (λ x. refl)) (λ w. not (w.number == worker.number) || (is_parsed w && w.registration == registration)) state.workers (parsed_rows state row registration worker at made sound)
+          (λ x know. by_test (λ (w : Worker). GoesOnTo x.state w.state) (is_worker worker.number x) _ x (λ here. parsed_begins x.state x (grind (arith, know, here))) (λ other. inl refl));
+    })
 
 install_goes : (state : State) (row : JobRow) (registration : ℕ) (worker : Worker) → IsAt state is_evaluating row registration → job_worker state row ≡ Some worker → Coherent state
     → GoesOn state (install state row.job registration worker.number).state
@@ -381,7 +394,7 @@ stays_goes old new was = record {
 move_law : IsMoveLaw MovesOn
 move_law = record {
   evaluating = evaluated-by MovesOn (λ state row registration worker at made sound. stays_goes state _ (throw_goes state row.job.number registration worker.number)) (λ state row registration worker at made sound. install_goes state row registration worker at made sound);
-  installing = installed-by MovesOn (λ state row registration worker handler is sound. stays_goes state _ (fail_goes state row registration worker.number)) (λ state row registration worker handler is sound. installed_goes state row.job.number registration worker);
+  installing = installed-by MovesOn (λ state row registration worker handler is sound. stays_goes state _ (fail_goes state row registration worker.number)) (λ state row registration worker handler is sound. installed_goes state row registration worker handler is sound);
   activating = activated-by MovesOn (λ state worker handler found ended sound. ending_goes state worker handler found ended sound);
 }
 

@@ -9,9 +9,11 @@ use Rattle.sw_data.specs.declared.workers.Phase.{Phase}
 use Rattle.sw_data.specs.declared.workers.WorkerState.{WorkerState}
 use Rattle.sw_data.specs.declared.workers.WorkerState.TheVariants as worker_state
 use Rattle.sw_rules.specs.Activating.{become_activated}
-use Rattle.sw_rules.specs.Installing.{advance, end_handler, ended_handler}
+use Rattle.sw_rules.specs.Installing.{end_handler, ended_handler}
+use Rattle.sw_rules.specs.Registrations.{become}
 use Rattle.sw_rules.specs.Rows.{changed, is_activating, is_install, is_number, is_unsettled_of, is_worker, maker_worker, worker_row}
 use Rattle.sw_rules.specs.State.{State, Worker, AddAll, Handler}
+use Rattle.sw_rules.specs.Told.{followed, keep}
 use Rattle.sw_laws.specs.Coherent.{Coherent, SoundTasks, has_its_handler, is_running, share_slot}
 use Rattle.sw_laws.proofs.Lists.{all_both, all_not, all_weaker, any_changed}
 use Rattle.sw_laws.proofs.Moves.{Keeps, all_of_number, clients-moved, events-moved, work-moved, workers-moved}
@@ -24,7 +26,7 @@ ended_in to number row = if row.number == number then record row { handler = Non
 pub ended_in_keeps : (to : WorkerState) (number : ℕ) → Keeps (ended_in to number)
 ended_in_keeps to number = record { number = λ x. grind arith; registration = λ x. grind arith }
 
-pub ends_in : (to : WorkerState) (number : ℕ) (rows : List Worker) → advance number to (changed (is_worker number) (λ row. record row { handler = None }) rows) ≡ map (ended_in to number) rows
+pub ends_in : (to : WorkerState) (number : ℕ) (rows : List Worker) → changed (is_worker number) (λ row. record row { state = to }) (changed (is_worker number) (λ row. record row { handler = None }) rows) ≡ map (ended_in to number) rows
 ends_in to number [] = refl
 ends_in to number (row ∷ rows) = grind (arith, ends_in to number rows)
 
@@ -70,7 +72,7 @@ activating_rows state worker handler ended phase sound =
     (grind (arith, ended.runs, phase, all_at_found (is_worker worker.number) has_its_handler state.workers worker ended.row sound.workers.handlers))
 
 pub activated-coherent : (state : State) (registration : ℕ) (worker : Worker) (handler : Handler) → IsEnded state worker handler → is_install handler.phase ≡ false → Coherent state → Coherent (become_activated (end_handler state worker.number).state registration worker.number).state
-unfolding become_activated end_handler
+unfolding become_activated followed keep become end_handler
 activated-coherent state registration worker handler ended phase sound =
     let rows = state.workers in
     let number = worker.number in

@@ -8,18 +8,19 @@ use Rattle.std.proofs.lemmas.Bool.Decides.{nat_tests}
 use Rattle.std.proofs.lemmas.List.Folds.{find-append}
 use Rattle.sw_data.specs.declared.rows.ClientRow.{ClientRow}
 use Rattle.sw_rules.specs.Clients.{leave, remove_client}
-use Rattle.sw_rules.specs.Registrations.{activate, clear, controlled_by, left_by, unload, used_registration}
+use Rattle.sw_rules.specs.Registrations.{activate, controlled_by, left_by, unload, used_registration}
 use Rattle.sw_rules.specs.Rows.{changed, has_worker, is_active, is_client, is_worker, uses, without}
 use Rattle.sw_rules.specs.State.{State, Worker}
 use Rattle.sw_rules.specs.Told.{Told, followed}
 use Rattle.sw_laws.specs.Coherent.{Coherent, apart, is_controlled}
 use Rattle.sw_laws.proofs.ActivateSteps.{IsChosen, is_chosen, promoted_keeps, promoted_of, waits}
+use Rattle.sw_laws.proofs.AtOnce.{activated_at_once, are_apart, cleared_at_once}
 use Rattle.sw_laws.proofs.ClaimSteps.{leave-coherent, rechecks_coherently}
 use Rattle.sw_laws.proofs.Lists.{all_true, by_option, by_test, false_of, find_any, find_changed, map_same}
 use Rattle.sw_laws.proofs.Moves.{Keeps}
 use Rattle.sw_laws.proofs.Places.{found_numbered, not_there, places_apart}
 use Rattle.sw_laws.proofs.RowSteps.{left_by-coherent}
-use Rattle.sw_laws.proofs.Split.{IsRecheckLaw, release-law}
+use Rattle.sw_laws.proofs.Split.{IsRecheckLaw, law_of, release-law}
 use Rattle.sw_laws.proofs.WorkerSteps.{cleared, cleared_keeps}
 
 -- ---- what a client holds
@@ -90,13 +91,13 @@ new_owner state registration worker picked sound =
 
 activated_holds : (but : ℕ → Bool) (given : ℕ → Option ℕ) (state : State) (registration worker : ℕ) → IsChosen state registration worker → Coherent state
     → HoldsBut but given state.workers state.clients → HoldsBut but given (activate state registration worker).state.workers (activate state registration worker).state.clients
-unfolding activate
 activated_holds but given state registration worker picked sound holds =
     let f = promoted_of registration in
-    holds_changed but given state.workers (map f state.workers) (λ c. if uses state.workers registration c then controlled_by worker c else c) state.clients (λ c. grind arith) (λ c. true) (all_true state.clients)
+    subst (λ (s : State). HoldsBut but given s.workers s.clients) (sym (activated_at_once state registration worker picked.waiting (are_apart state.registrations state.workers sound.workers) picked.found picked.number))
+    (holds_changed but given state.workers (map f state.workers) (λ c. if uses state.workers registration c then controlled_by worker c else c) state.clients (λ c. grind arith) (λ c. true) (all_true state.clients)
     (λ c know. inr (by_test (λ row. held (map f state.workers) row ≡ held state.workers c) (uses state.workers registration c) _ c
     (λ used. owner_moved f (promoted_keeps registration) state.workers worker ∙ (new_owner state registration worker picked sound ∙ sym (used_owner state registration c c.controller sound refl used)))
-    (λ unused. held_moved f (promoted_keeps registration) state.workers c.controller))) holds
+    (λ unused. held_moved f (promoted_keeps registration) state.workers c.controller))) holds)
 
 -- ---- what happens where a registration is rechecked
 
@@ -106,12 +107,16 @@ Holds but state told =
     Coherent state → (Coherent told.state) × ((given : ℕ → Option ℕ) → HoldsBut but given state.workers state.clients → HoldsBut but given told.state.workers told.state.clients)
 
 pub rechecks_hold : (but : ℕ → Bool) → IsRecheckLaw (Holds but)
-unfolding followed clear
+unfolding followed
 rechecks_hold but = record {
   nothing = λ state sound. (sound, λ given holds. holds);
   further = λ state told next one other sound. let first = one sound in let second = other first.0 in (second.0, λ given holds. second.1 given (first.1 given holds));
   activating = λ state registration worker is sound. (rechecks_coherently.activating state registration worker is sound, λ given holds. activated_holds but given state registration worker (is_chosen state registration worker is sound) sound holds);
-  clearing = λ state registration gone unused calm sound. (rechecks_coherently.clearing state registration gone unused calm sound, λ given holds. holds-moved but given (cleared registration) (cleared_keeps registration) state.workers state.clients holds);
+  clearing = λ state registration gone unused calm sound. (
+    rechecks_coherently.clearing state registration gone unused calm sound,
+    λ given holds. subst (λ (s : State). HoldsBut but given s.workers s.clients) (sym (cleared_at_once state registration (are_apart state.registrations state.workers sound.workers)))
+        (holds-moved but given (cleared registration) (cleared_keeps registration) state.workers state.clients holds),
+  );
 }
 
 -- ---- leaving, and the client that is removed
@@ -154,7 +159,7 @@ unfolding unload followed
 unload_holds but number given state sound holds =
     by_option (λ (told : Told). HoldsBut (or_is but number) given told.state.workers told.state.clients) (used_registration state number) _ _
     (λ none. looser_all but number given state.workers state.clients holds)
-    (λ registration is. (release-law (Holds (or_is but number)) (rechecks_hold (or_is but number)) (left_by number state) registration (left_by-coherent state number sound)).1 given (loosened but number given state.workers state.clients holds))
+    (λ registration is. (release-law (Holds (or_is but number)) registration (law_of registration (rechecks_hold (or_is but number))) (left_by number state) (left_by-coherent state number sound)).1 given (loosened but number given state.workers state.clients holds))
 
 pub leave_holds : (but : ℕ → Bool) (number : ℕ) (state : State) → Holds but state (leave state number)
 unfolding leave remove_client followed

@@ -1,31 +1,37 @@
 -- An event that neither opens a client nor claims leaves what each client holds.
-use Rattle.std.proofs.Common.{◌≡◌, ℕ, Bool, false, ◌==◌, List, filter, Option, refl, subst, sym, if◌then◌else◌}
+use Rattle.std.proofs.Common.{◌≡◌, ℕ, Bool, false, List, filter, Option, refl, subst, sym, if◌then◌else◌}
 use Rattle.std.specs.Prelude.{is_none}
 use Rattle.sw_data.specs.declared.events.Who.{Who}
 use Rattle.sw_data.specs.declared.events.Who.TheVariants as who
 use Rattle.sw_data.specs.declared.rows.JobRow.{JobRow}
 use Rattle.sw_data.specs.declared.rows.ClientRow.{ClientRow}
+use Rattle.sw_data.specs.declared.workers.Slot.TheVariants as slot
+use Rattle.sw_data.specs.declared.workers.Slot.{Slot}
+use Rattle.sw_data.specs.declared.workers.WorkerState.TheVariants as worker_state
+use Rattle.sw_data.specs.declared.workers.WorkerState.{WorkerState}
 use Rattle.sw_rules.specs.Activating.{become_activated}
 use Rattle.sw_rules.specs.Caching.{add_cache, add_task, carry_out, drop_cache, settle_task}
 use Rattle.sw_rules.specs.Forgetting.{forget_key, is_mapped_of}
 use Rattle.sw_rules.specs.Calls.{note_call}
 use Rattle.sw_rules.specs.Clients.{add_event, remove_event}
-use Rattle.sw_rules.specs.Installing.{begin_install, become_waiting, discard, end_handler, fail_install, finish_install, make_worker, reject_and_drop, tell_update, throw}
+use Rattle.sw_rules.specs.Installing.{become_waiting, begin_install, end_handler, fail_install, finish_install, make_worker, owe_try_activate, reject_and_drop, remember, tell_update, throw}
 use Rattle.sw_rules.specs.Jobs.{finish, promise, schedule, settle}
 use Rattle.sw_rules.specs.Preloading.{set_preload}
 use Rattle.sw_rules.specs.Registering.{fetch_script}
-use Rattle.sw_rules.specs.Registrations.{drop_registration, map_registration, set_mode, unmap}
-use Rattle.sw_rules.specs.Rows.{changed, is_worker}
+use Rattle.sw_rules.specs.Registrations.{become, drop_registration, map_registration, retire, set_mode, unmap}
+use Rattle.sw_rules.specs.Rows.{changed, is_worker, slot_worker}
 use Rattle.sw_rules.specs.State.{State, Worker, Awaited}
-use Rattle.sw_rules.specs.Told.{Told, followed}
+use Rattle.sw_rules.specs.Told.{Told, followed, keep}
+use Rattle.sw_laws.proofs.AtOnce.{are_apart, begun_at_once, installing}
 use Rattle.sw_laws.proofs.CoherentLaw.{coherent_law}
 use Rattle.sw_laws.proofs.Forgotten.{all_forgotten, cleared, is_numbered}
 use Rattle.sw_laws.proofs.Held.{Holds, HoldsBut, holds-moved, leave_holds, pushed_holds, rechecks_hold}
 use Rattle.sw_laws.proofs.HandlerSteps.{activated_from}
-use Rattle.sw_laws.proofs.Lists.{by_test}
+use Rattle.sw_laws.proofs.Lists.{by_option, by_test}
 use Rattle.sw_laws.proofs.Moves.{Keeps}
 use Rattle.sw_laws.proofs.RegistrationSteps.{paid-coherent}
 use Rattle.sw_laws.proofs.Split.{IsLaw}
+use Rattle.sw_laws.specs.Coherent.{Coherent}
 
 abbrev pub nobody : ℕ → Bool
 nobody number = false
@@ -46,9 +52,14 @@ promise_same state who.Host awaited given holds = holds
 promise_same state (who.Lane lane at) awaited given holds = holds
 promise_same state (who.Handler worker in_phase number) awaited given holds = holds
 
-discarded_holds : (state : State) (worker : ℕ) (given : ℕ → Option ℕ) → HoldsBut nobody given state.workers state.clients → HoldsBut nobody given (discard state worker).state.workers (discard state worker).state.clients
-unfolding discard
-discarded_holds state worker given holds = some_moved given (is_worker worker) _ (λ x. refl) (λ x. refl) state.workers state.clients holds
+became_holds : (state : State) (worker : ℕ) (to : WorkerState) (given : ℕ → Option ℕ) → HoldsBut nobody given state.workers state.clients → HoldsBut nobody given (become state worker to).state.workers (become state worker to).state.clients
+unfolding become
+became_holds state worker to given holds = some_moved given (is_worker worker) _ (λ x. refl) (λ x. refl) state.workers state.clients holds
+
+retired_holds : (state : State) (place : Slot) (registration : ℕ) (given : ℕ → Option ℕ) → HoldsBut nobody given state.workers state.clients → HoldsBut nobody given (retire state place registration).state.workers (retire state place registration).state.clients
+unfolding retire
+retired_holds state place registration given holds =
+    by_option (λ (told : Told). HoldsBut nobody given told.state.workers told.state.clients) (slot_worker state place registration) _ _ (λ none. holds) (λ old is. became_holds state old.number worker_state.Redundant given holds)
 
 ended_holds : (state : State) (worker : ℕ) (given : ℕ → Option ℕ) → HoldsBut nobody given state.workers state.clients → HoldsBut nobody given (end_handler state worker).state.workers (end_handler state worker).state.clients
 unfolding end_handler
@@ -58,33 +69,37 @@ throw_holds : (state : State) (job registration worker : ℕ) (given : ℕ → O
 unfolding throw reject_and_drop drop_registration followed finish unmap settle
 throw_holds state job registration worker given holds =
     by_test (λ (told : Told). HoldsBut nobody given (finish told.state job).state.workers (finish told.state job).state.clients) _ _ _
-    (λ gone. discarded_holds state worker given holds) (λ stays. discarded_holds state worker given holds)
+    (λ gone. became_holds state worker worker_state.Redundant given holds) (λ stays. became_holds state worker worker_state.Redundant given holds)
 
 fail_holds : (state : State) (row : JobRow) (registration worker : ℕ) (given : ℕ → Option ℕ) → HoldsBut nobody given state.workers state.clients → HoldsBut nobody given (fail_install state row registration worker).state.workers (fail_install state row registration worker).state.clients
 unfolding fail_install followed finish unmap
 fail_holds state row registration worker given holds =
-    let now = discarded_holds (end_handler state worker).state worker given (ended_holds state worker given holds) in
+    let now = became_holds (end_handler state worker).state worker worker_state.Redundant given (ended_holds state worker given holds) in
     by_test (λ (told : Told). HoldsBut nobody given (finish told.state row.job.number).state.workers (finish told.state row.job.number).state.clients) (is_none row.remembered) _ _ (λ none. now) (λ some_worker. now)
 
 install_holds : (state : State) (job registration : ℕ) (worker : Worker) (given : ℕ → Option ℕ) → HoldsBut nobody given state.workers state.clients → HoldsBut nobody given (finish_install state job registration worker).state.workers (finish_install state job registration worker).state.clients
-unfolding finish_install become_waiting followed finish
+unfolding finish_install become_waiting owe_try_activate followed finish
 install_holds state job registration worker given holds =
-    some_moved given (λ row. row.registration == registration) _ (λ x. refl) (λ x. refl) (end_handler state worker.number).state.workers (end_handler state worker.number).state.clients (ended_holds state worker.number given holds)
+    let owed = (owe_try_activate (end_handler state worker.number).state registration worker).state in
+    became_holds (retire owed slot.Waiting registration).state worker.number worker_state.Installed given (retired_holds owed slot.Waiting registration given (ended_holds state worker.number given holds))
 
 activated_holds : (state : State) (registration worker : ℕ) (given : ℕ → Option ℕ) → HoldsBut nobody given state.workers state.clients → let after = (become_activated (end_handler state worker).state registration worker).state in HoldsBut nobody given after.workers after.clients
-unfolding become_activated
-activated_holds state registration worker given holds =
-    some_moved given (is_worker worker) _ (λ x. refl) (λ x. refl) (end_handler state worker).state.workers (end_handler state worker).state.clients (ended_holds state worker given holds)
+unfolding become_activated followed keep
+activated_holds state registration worker given holds = became_holds (end_handler state worker).state worker worker_state.Activated given (ended_holds state worker given holds)
 
-forget_holds : (state : State) (key : List ℕ) (given : ℕ → Option ℕ) → HoldsBut nobody given state.workers state.clients → HoldsBut nobody given (forget_key state key).state.workers (forget_key state key).state.clients
+forget_holds : (state : State) (key : List ℕ) (given : ℕ → Option ℕ) → Coherent state → HoldsBut nobody given state.workers state.clients → HoldsBut nobody given (forget_key state key).state.workers (forget_key state key).state.clients
 unfolding forget_key
-forget_holds state key given holds =
+forget_holds state key given sound holds =
     let gone = filter (is_mapped_of key) state.registrations in
-    subst (λ (s : State). HoldsBut nobody given s.workers s.clients) (sym (all_forgotten state gone))
+    subst (λ (s : State). HoldsBut nobody given s.workers s.clients) (sym (all_forgotten state gone (are_apart state.registrations state.workers sound.workers)))
     (some_moved given (λ w. is_numbered gone w.registration) cleared (λ x. refl) (λ x. refl) state.workers state.clients holds)
 
+begun_holds : (state : State) (job registration worker : ℕ) (given : ℕ → Option ℕ) → HoldsBut nobody given state.workers state.clients → HoldsBut nobody given (begin_install state job registration worker).state.workers (begin_install state job registration worker).state.clients
+begun_holds state job registration worker given holds =
+    subst (λ (s : State). HoldsBut nobody given s.workers s.clients) (sym (begun_at_once state job registration worker)) (some_moved given (is_worker worker) installing (λ x. refl) (λ x. refl) state.workers state.clients holds)
+
 pub held_law : IsLaw (Holds nobody) false
-unfolding followed schedule settle finish map_registration unmap set_mode set_preload fetch_script make_worker begin_install tell_update add_event remove_event add_cache drop_cache carry_out add_task settle_task note_call
+unfolding followed schedule settle finish map_registration unmap set_mode set_preload fetch_script make_worker remember tell_update add_event remove_event add_cache drop_cache carry_out add_task settle_task note_call
 held_law = record {
   rechecks = rechecks_hold nobody;
   scheduling = λ state job is sound. (coherent_law.scheduling state job is sound, λ given holds. holds);
@@ -98,7 +113,7 @@ held_law = record {
   fetching = λ state row registration found may mapped sound. (coherent_law.fetching state row registration found may mapped sound, λ given holds. holds);
   making = λ state row registration fetched at sound. (coherent_law.making state row registration fetched at sound, λ given holds. pushed_holds nobody given state.workers _ state.clients sound.clients.controllers holds);
   throwing = λ state row registration worker at made sound. (coherent_law.throwing state row registration worker at made sound, throw_holds state row.job.number registration worker.number);
-  beginning = λ state row registration worker at made sound. (coherent_law.beginning state row registration worker at made sound, λ given holds. some_moved given (is_worker worker.number) _ (λ x. refl) (λ x. refl) state.workers state.clients holds);
+  beginning = λ state row registration worker at made sound. (coherent_law.beginning state row registration worker at made sound, begun_holds state row.job.number registration worker.number);
   failing = λ state row registration worker handler is sound. (coherent_law.failing state row registration worker handler is sound, fail_holds state row registration worker.number);
   installing = λ state row registration worker handler is sound. (coherent_law.installing state row registration worker handler is sound, install_holds state row.job.number registration worker);
   paying = λ state registration told owed holds sound. holds (paid-coherent state registration sound);
@@ -114,7 +129,7 @@ held_law = record {
   caching = λ state key name free sound. (coherent_law.caching state key name free sound, λ given holds. holds);
   dropping = λ state key name sound. (coherent_law.dropping state key name sound, λ given holds. holds);
   carrying = λ state key name ops pairs new there is sound. (coherent_law.carrying state key name ops pairs new there is sound, λ given holds. holds);
-  forgetting = λ state key free sound. (coherent_law.forgetting state key free sound, forget_holds state key);
+  forgetting = λ state key free sound. (coherent_law.forgetting state key free sound, λ given. forget_holds state key given sound);
   awaiting = λ state maker key name requests runs sound. (coherent_law.awaiting state maker key name requests runs sound, λ given holds. holds);
   answering = λ state number result faulted may sound. (coherent_law.answering state number result faulted may sound, λ given holds. some_moved given _ _ (λ x. refl) (λ x. refl) state.workers state.clients holds);
   noting = λ state worker faulted sound. (coherent_law.noting state worker faulted sound, λ given holds. some_moved given (is_worker worker) _ (λ x. refl) (λ x. refl) state.workers state.clients holds);

@@ -7,15 +7,17 @@ use Rattle.sw_data.specs.declared.answers.Settlement.{Settlement}
 use Rattle.sw_data.specs.declared.answers.Cause.TheVariants as cause
 use Rattle.sw_data.specs.declared.answers.Settlement.TheVariants as settlement
 use Rattle.sw_data.specs.declared.rows.JobRow.{JobRow}
+use Rattle.sw_data.specs.declared.workers.Slot.TheVariants as slot
 use Rattle.sw_data.specs.declared.workers.WorkerState.{WorkerState}
 use Rattle.sw_data.specs.declared.workers.WorkerState.TheVariants as worker_state
-use Rattle.sw_rules.specs.Installing.{advance, become_waiting, discard, end_handler, fail_install, finish_install, first_counter, install_state, job_worker, placed, reject_and_drop, throw}
+use Rattle.sw_rules.specs.Installing.{become_waiting, end_handler, fail_install, finish_install, first_counter, job_worker, placed, reject_and_drop, throw}
 use Rattle.sw_rules.specs.Jobs.{finish, settle}
-use Rattle.sw_rules.specs.Registrations.{drop_registration, shift, unmap}
-use Rattle.sw_rules.specs.Rows.{changed, is_evaluating, is_install, is_job, is_number, is_registration, is_worker, job_row, newest_worker, worker_row}
+use Rattle.sw_rules.specs.Registrations.{become, drop_registration, unmap}
+use Rattle.sw_rules.specs.Rows.{changed, in_slot, is_evaluating, is_install, is_job, is_number, is_registration, is_worker, job_row, newest_worker, slot_worker, worker_row}
 use Rattle.sw_rules.specs.State.{State, Worker, Handler}
 use Rattle.sw_rules.specs.Told.{Told, followed, type_error}
 use Rattle.sw_laws.specs.Coherent.{Coherent, has_its_handler, has_its_worker, has_made, is_being_installed, is_parsed, is_settled_phase, same_slot, share_slot}
+use Rattle.sw_laws.proofs.AtOnce.{are_apart, install_state, installed_at_once, shift}
 use Rattle.sw_laws.proofs.EndSteps.{EndsWith, IsMaker, end-coherent}
 use Rattle.sw_laws.proofs.HandlerSteps.{IsEnded, ended_from, ended_in, ended_in_keeps, ends_in, makers-stay}
 use Rattle.sw_laws.proofs.JobSteps.{finished, settle-coherent, settled_with}
@@ -92,22 +94,22 @@ module _ (state : State) (row : JobRow) (registration : ℕ) (worker : Worker) (
       (discarded worker.number) _ knows (discarded_ends worker.number)
       (tasks-moved (discarded worker.number) (discarded_ends worker.number).keeps _ after.workers knows after.tasks (λ x a is. grind (arith, is)) fine.tasks))
 
-  kept_end : (result : Settlement) → Coherent (settle state job result).state → Coherent (finish (settle (discard state worker.number).state job result).state job).state
-  unfolding finish settle discard
+  kept_end : (result : Settlement) → Coherent (settle state job result).state → Coherent (finish (settle (become state worker.number worker_state.Redundant).state job result).state job).state
+  unfolding finish settle become
   kept_end result fine = throws_at result (settle state job result).state fine refl refl (settled_row state job result row at.found)
 
-  dropped_end : (result : Settlement) → Coherent (settle state job result).state → Coherent (finish (unmap (settle (discard state worker.number).state job result).state registration).state job).state
-  unfolding finish settle discard unmap
+  dropped_end : (result : Settlement) → Coherent (settle state job result).state → Coherent (finish (unmap (settle (become state worker.number worker_state.Redundant).state job result).state registration).state job).state
+  unfolding finish settle become unmap
   dropped_end result fine = throws_at result (unmap (settle state job result).state registration).state (unmap-coherent (settle state job result).state registration fine) refl refl (settled_row state job result row at.found)
 
   pub throw-coherent : Coherent (throw state job registration worker.number).state
-  unfolding throw discard reject_and_drop drop_registration followed
+  unfolding throw become reject_and_drop drop_registration followed
   throw-coherent =
       let why = settlement.Fault (type_error cause.Threw) in
       let settled = (settle state job why).state in
       let may : may_end state job ≡ true = grind (arith, at.found, at.phase) in
       let fine = settle-coherent state job why may sound in
-      by_test (λ (told : Told). Coherent (finish told.state job).state) (is_none (newest_worker (settle (discard state worker.number).state job why).state registration)) _ _
+      by_test (λ (told : Told). Coherent (finish told.state job).state) (is_none (newest_worker (settle (become state worker.number worker_state.Redundant).state job why).state registration)) _ _
       (λ gone. dropped_end why fine)
       (λ stays. kept_end why fine)
 
@@ -191,7 +193,7 @@ module _ (state : State) (row : JobRow) (registration : ℕ) (worker : Worker) (
   ended = (ended_from state is_install worker handler its.1 is.ended).1
 
   fails_at : (after : State) → Coherent after → after.workers ≡ state.workers → after.tasks ≡ state.tasks → job_row after of_job ≡ Some row
-      → Coherent (record after { workers = advance worker.number worker_state.Redundant (changed (is_worker worker.number) (λ w. record w { handler = None }) after.workers); jobs = map (finished of_job) after.jobs })
+      → Coherent (record after { workers = changed (is_worker worker.number) (λ w. record w { state = worker_state.Redundant }) (changed (is_worker worker.number) (λ w. record w { handler = None }) after.workers); jobs = map (finished of_job) after.jobs })
   fails_at after fine same_workers same_tasks found =
       let known = λ (w : Worker). (not (w.number == worker.number) || is_being_installed w) && has_its_handler w in
       let knows : list_all known after.workers ≡ true = rw same_workers (all_both _ _ state.workers (all_of_number is_being_installed state.workers worker.number worker sound.workers.numbers its.1 (grind (arith, installing_of))) sound.workers.handlers) in
@@ -200,12 +202,12 @@ module _ (state : State) (row : JobRow) (registration : ℕ) (worker : Worker) (
       (ended_in worker_state.Redundant worker.number) known knows (failed_ends worker.number)
       (makers-stay (ended_in worker_state.Redundant worker.number) (ended_in_keeps worker_state.Redundant worker.number) worker.number (λ x other runs. grind (arith, other, runs)) after.workers after.tasks (rw same_tasks ended.settled) fine.tasks))
 
-  kept_fail : Coherent (finish (discard (end_handler state worker.number).state worker.number).state of_job).state
-  unfolding finish discard end_handler
+  kept_fail : Coherent (finish (become (end_handler state worker.number).state worker.number worker_state.Redundant).state of_job).state
+  unfolding finish become end_handler
   kept_fail = fails_at state sound refl refl is.at.found
 
-  dropped_fail : Coherent (finish (unmap (discard (end_handler state worker.number).state worker.number).state registration).state of_job).state
-  unfolding finish discard end_handler unmap
+  dropped_fail : Coherent (finish (unmap (become (end_handler state worker.number).state worker.number worker_state.Redundant).state registration).state of_job).state
+  unfolding finish become end_handler unmap
   dropped_fail = fails_at (unmap state registration).state (unmap-coherent state registration sound) refl refl is.at.found
 
   pub fail_install-coherent : Coherent (fail_install state row registration worker.number).state
@@ -223,13 +225,25 @@ module _ (state : State) (row : JobRow) (registration : ℕ) (worker : Worker) (
       (all_as_found share_slot p (λ w. w.number == worker.number) (λ x y one other. grind (arith, nat_tests, one, other)) state.workers worker sound.workers.slots found (grind (arith, nat_tests))))
       sound.workers.handlers
 
+  pub in_slot_installing : slot_worker state slot.Installing registration ≡ Some worker
+  in_slot_installing =
+      found_by share_slot (is_worker worker.number) (λ w. w.registration == registration && in_slot slot.Installing w.state) state.workers worker sound.workers.slots its.1 (grind (arith, installing_of)) (λ y here. grind (arith, nat_tests, here, installing_of))
+
+  -- what becomes of the workers of the registration
+  pub waits : let one = (end_handler state worker.number).state in (become_waiting one registration worker).state ≡ record one {
+    registrations = changed (is_registration registration) (placed (first_counter one.registrations)) one.registrations;
+    workers = shift registration install_state one.workers;
+  }
+  waits = installed_at_once state registration worker (are_apart state.registrations state.workers sound.workers) in_slot_installing
+
   pub finish_install-coherent : Coherent (finish_install state of_job registration worker).state
-  unfolding finish_install end_handler become_waiting finish followed
+  unfolding finish_install end_handler finish followed
   finish_install-coherent =
       let f = becomes_waiting worker.number registration in
       let placed_rows = registrations-coherent _ (plain_keeps (is_registration registration) (placed (first_counter state.registrations)) (λ x. refl) (λ x. refl) (λ x. refl) (λ x mapped. mapped)) state sound in
       let after : State = record state { registrations = changed (is_registration registration) (placed (first_counter state.registrations)) state.registrations } in
-      rw (waits_in worker.number registration state.workers)
+      subst (λ s. Coherent (finish s of_job).state) (sym waits)
+      (rw (waits_in worker.number registration state.workers)
       (end-coherent after row worker.number (maker after is.at.found) settled placed_rows
       f (may_wait worker.number registration) knows_waiting (waiting_ends worker.number registration)
-      (makers-stay f (waiting_keeps worker.number registration) worker.number (λ x other runs. grind (arith, other, runs)) state.workers state.tasks ended.settled sound.tasks))
+      (makers-stay f (waiting_keeps worker.number registration) worker.number (λ x other runs. grind (arith, other, runs)) state.workers state.tasks ended.settled sound.tasks)))

@@ -25,13 +25,14 @@ use Rattle.sw_rules.specs.Jobs.{finish, gets_value, promise, resolve_and_finish,
 use Rattle.sw_rules.specs.Installing.{ended_handler, evaluated, evaluated_worker, fail_install, fetch_ended, fetched, fetched_of, finish_install, install, install_ended, installed, is_same_script, job_worker, keep_script, make_worker, reject_and_drop, script_of, throw}
 use Rattle.sw_rules.specs.Matching.{Pair}
 use Rattle.sw_rules.specs.Registering.{fetch_script, has_script, is_registered, may_run, register_refusal, rejected, run, run_allowed_register, run_job, run_register, run_unregister, run_update, scheduled_by, unregister_mapped}
-use Rattle.sw_rules.specs.Registrations.{clear, drop_registration, map_registration, new_registration, set_mode, try_clear, unmap}
+use Rattle.sw_rules.specs.Registrations.{drop_registration, map_registration, new_registration, set_mode, try_clear, unmap}
 use Rattle.sw_rules.specs.Rows.{changed, is_in_phase, is_evaluating, is_fetching, is_install, is_installing, is_job, is_mapped, is_registration, is_mapped_to, is_task, job_row, mapped_registration, task_row}
 use Rattle.sw_rules.specs.State.{State, Registration, Worker, AddAll, Handler, of_job, value}
 use Rattle.sw_rules.specs.Told.{Told, Outcome, followed, quiet}
 use Rattle.sw_laws.specs.Coherent.{is_there}
+use Rattle.sw_laws.proofs.AtOnce.{clear_only}
 use Rattle.sw_laws.proofs.Lists.{bound_holds, bytes_eq_same, by_option, by_result, by_test, find_changed, find_passes, length_pushed, mapped_holds}
-use Rattle.sw_laws.proofs.Split.{IsLawBeside, IsLawWhere, IsAt, IsInstalled, IsLeavingLaw, LeavesMap, may_end, may_finish, may_settle, try_clear-law}
+use Rattle.sw_laws.proofs.Split.{IsAt, IsInstalled, IsLawBeside, IsLawWhere, IsLeavingLaw, LeavesMap, law_of, may_end, may_finish, may_settle, try_clear-law}
 
 -- ---- look-ups along the chains
 
@@ -50,8 +51,8 @@ settled_may_finish state job result is =
     grind (arith, nat_tests, find_passes (is_job job) state.jobs, find_changed (is_job job) (is_job job) (λ row. if gets_value job row then record row { settled = Some result } else row) (λ row. grind arith) state.jobs)
 
 try_clear_jobs : (state : State) (registration : ℕ) → (try_clear state registration).state.jobs ≡ state.jobs
-unfolding try_clear clear
-try_clear_jobs state registration = grind arith
+unfolding try_clear
+try_clear_jobs state registration = grind (arith, ap (λ (s : State). s.jobs) (clear_only state registration).rest)
 
 drop_jobs : (state : State) (registration : ℕ) → (drop_registration state registration).state.jobs ≡ state.jobs
 unfolding drop_registration unmap
@@ -336,7 +337,7 @@ module _ (Law Own : State → Told → Type 0) (controls : Bool) {anywhere : Boo
       let may_now = settled_may_finish left job.number (settlement.Truth true) may_left in
       further state _ _ (leaving.unregistering state row found is may_now_run there)
       (further left _ _ (law.settling left job.number (settlement.Truth true) may_left)
-      (further settled _ _ (try_clear-law Law law.rechecks settled registration (unmapped state registration job.number (settlement.Truth true)))
+      (further settled _ _ (try_clear-law Law registration (law_of registration law.rechecks) settled (unmapped state registration job.number (settlement.Truth true)))
       (law.finishing (try_clear settled registration).state job.number (rw (try_clear_jobs settled registration) may_now))))
 
   running : (state : State) (row : JobRow) → job_row state row.job.number ≡ Some row → may_run state row ≡ true → IsRunLaw Law state row.job

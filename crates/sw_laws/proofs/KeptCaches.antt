@@ -17,23 +17,26 @@ use Rattle.sw_data.specs.declared.storage.Change.TheVariants as change
 use Rattle.sw_data.specs.declared.storage.Kept.{Kept}
 use Rattle.sw_data.specs.declared.storage.KeptCache.{KeptCache}
 use Rattle.sw_data.specs.declared.workers.Mode.{Mode}
+use Rattle.sw_data.specs.declared.workers.WorkerState.TheVariants as worker_state
+use Rattle.sw_data.specs.declared.workers.WorkerState.{WorkerState}
 use Rattle.sw_rules.specs.Activating.{become_activated}
 use Rattle.sw_rules.specs.Batch.{batch}
 use Rattle.sw_rules.specs.Caching.{add_cache, add_task, carry_out, drop_cache, pairs_of, settle_task, with_pairs}
 use Rattle.sw_rules.specs.Forgetting.{forget_key, is_mapped_of}
 use Rattle.sw_rules.specs.Calls.{note_call}
 use Rattle.sw_rules.specs.Clients.{add_client, add_event, claim_client, claim_clients, claims, leave, remove_client, remove_event, take_control}
-use Rattle.sw_rules.specs.Installing.{begin_install, become_waiting, kept_worker, discard, end_handler, fail_install, finish_install, make_worker, reject_and_drop, tell_update, throw}
+use Rattle.sw_rules.specs.Installing.{become_waiting, begin_install, end_handler, fail_install, finish_install, kept_worker, make_worker, owe_try_activate, reject_and_drop, remember, tell_update, throw}
 use Rattle.sw_rules.specs.Jobs.{finish, promise, schedule, settle}
 use Rattle.sw_rules.specs.Matching.{Pair}
 use Rattle.sw_rules.specs.Preloading.{has_preload, set_preload}
 use Rattle.sw_rules.specs.Registering.{fetch_script}
-use Rattle.sw_rules.specs.Registrations.{activate, clear, drop_registration, has_mode, map_registration, set_mode, unload, unmap}
+use Rattle.sw_rules.specs.Registrations.{become, drop_registration, has_mode, map_registration, set_mode, start_handler, unload, unmap}
 use Rattle.sw_rules.specs.Rows.{client_row, newest_worker, registration_row}
 use Rattle.sw_rules.specs.State.{State, Registration, Worker, Awaited}
 use Rattle.sw_rules.specs.Storage.{applied, is_cache, kept_after, with_batch}
-use Rattle.sw_rules.specs.Told.{Told, followed, is_kept, kept_change, quiet, type_error}
-use Rattle.sw_laws.proofs.Forgotten.{all_forgotten}
+use Rattle.sw_rules.specs.Told.{Told, followed, is_kept, keep, kept_change, quiet, type_error}
+use Rattle.sw_laws.proofs.AtOnce.{activate_changes, activate_leaves, clear_only, waiting_changes, waiting_leaves}
+use Rattle.sw_laws.proofs.Forgotten.{forgotten_leaves}
 use Rattle.sw_laws.proofs.Lists.{by_test}
 use Rattle.sw_laws.proofs.Split.{IsLaw, IsRecheckLaw, unload-law}
 
@@ -84,12 +87,13 @@ carried state key name (op ∷ ops) pairs new there is kept same = ap (with_batc
 -- ---- helpers
 
 rechecks_cache : IsRecheckLaw KeepsCaches
-unfolding activate clear
 rechecks_cache = record {
   nothing = λ state kept is. is;
   further = further;
-  activating = λ state registration worker is kept same. change_quiet state registration (λ row. change.Active row.key row.scope) (λ row k. refl) kept ∙ same;
-  clearing = λ state registration gone unused calm kept same. same;
+  activating = λ state registration worker is kept same.
+      ap (λ changes. (kept_after kept changes).caches) (activate_changes state registration worker)
+      ∙ (change_quiet state registration (λ row. change.Active row.key row.scope) (λ row k. refl) kept ∙ (same ∙ sym (ap (λ (s : State). s.caches) (activate_leaves state registration worker))));
+  clearing = λ state registration gone unused calm kept same. let only = clear_only state registration in ap (λ changes. (kept_after kept changes).caches) only.changes ∙ (same ∙ sym (ap (λ (s : State). s.caches) only.rest));
 }
 
 unmap_caches : (state : State) (registration : ℕ) → KeepsCaches state (unmap state registration)
@@ -127,9 +131,9 @@ finish_caches : (state : State) (job : ℕ) → KeepsCaches state (finish state 
 unfolding finish
 finish_caches state job kept same = same
 
-discard_caches : (state : State) (worker : ℕ) → KeepsCaches state (discard state worker)
-unfolding discard
-discard_caches state worker kept same = same
+become_caches : (state : State) (worker : ℕ) (to : WorkerState) → KeepsCaches state (become state worker to)
+unfolding become
+become_caches state worker to kept same = same
 
 end_caches : (state : State) (worker : ℕ) → KeepsCaches state (end_handler state worker)
 unfolding end_handler
@@ -144,27 +148,31 @@ unfolding remove_client
 remove_caches state client kept same = same
 
 wait_caches : (state : State) (registration : ℕ) (worker : Worker) → KeepsCaches state (become_waiting state registration worker)
-unfolding become_waiting
-wait_caches state registration worker kept same = waiting_quiet (registration_row state registration) (λ row. change.Waiting row.key row.scope row.mode (kept_worker worker)) (λ row k. refl) kept ∙ same
+unfolding owe_try_activate
+wait_caches state registration worker kept same =
+    ap (λ changes. (kept_after kept changes).caches) (waiting_changes state registration worker)
+    ∙ (waiting_quiet (registration_row state registration) (λ row. change.Waiting row.key row.scope row.mode (kept_worker worker)) (λ row k. refl) kept ∙ (same ∙ sym (ap (λ (s : State). s.caches) (waiting_leaves state registration worker))))
 
 active_caches : (state : State) (registration worker : ℕ) → KeepsCaches state (become_activated state registration worker)
-unfolding become_activated
-active_caches state registration worker kept same = change_quiet state registration (λ row. change.Activated row.key row.scope) (λ row k. refl) kept ∙ same
+unfolding become_activated keep
+active_caches state registration worker =
+    let change_of = λ (row : Registration). change.Activated row.key row.scope in
+    further state (keep state registration change_of) _ (λ kept same. change_quiet state registration change_of (λ row k. refl) kept ∙ same) (become_caches state worker worker_state.Activated)
 
 throw_caches : (state : State) (job registration worker : ℕ) → KeepsCaches state (throw state job registration worker)
 unfolding throw reject_and_drop
 throw_caches state job registration worker =
-    let one = (discard state worker).state in
+    let one = (become state worker worker_state.Redundant).state in
     let two = (settle one job (settlement.Fault (type_error cause.Threw))).state in
-    further state (discard state worker) _ (discard_caches state worker) (further one _ _ (settle_caches one job _) (further two _ _ (drop_caches two registration) (finish_caches (drop_registration two registration).state job)))
+    further state (become state worker worker_state.Redundant) _ (become_caches state worker worker_state.Redundant) (further one _ _ (settle_caches one job _) (further two _ _ (drop_caches two registration) (finish_caches (drop_registration two registration).state job)))
 
 fail_caches : (state : State) (row : JobRow) (registration worker : ℕ) → KeepsCaches state (fail_install state row registration worker)
 unfolding fail_install
 fail_caches state row registration worker =
     let one = (end_handler state worker).state in
-    let two = (discard one worker).state in
+    let two = (become one worker worker_state.Redundant).state in
     let three = if is_none row.remembered then unmap two registration else quiet two in
-    further state (end_handler state worker) _ (end_caches state worker) (further one (discard one worker) _ (discard_caches one worker)
+    further state (end_handler state worker) _ (end_caches state worker) (further one (become one worker worker_state.Redundant) _ (become_caches one worker worker_state.Redundant)
     (further two three _ (by_test (KeepsCaches two) (is_none row.remembered) _ _ (λ none. unmap_caches two registration) (λ there kept same. same)) (finish_caches three.state row.job.number)))
 
 install_caches : (state : State) (job registration : ℕ) (worker : Worker) → KeepsCaches state (finish_install state job registration worker)
@@ -189,7 +197,7 @@ claims_cache (number ∷ numbers) state worker registration =
 -- ---- each least step
 
 pub cache_law : IsLaw KeepsCaches true
-unfolding followed schedule map_registration fetch_script make_worker begin_install settle tell_update add_client add_event remove_event add_cache drop_cache add_task settle_task forget_key note_call
+unfolding followed schedule map_registration fetch_script make_worker begin_install remember become start_handler settle tell_update add_client add_event remove_event add_cache drop_cache add_task settle_task forget_key note_call
 cache_law = record {
   rechecks = rechecks_cache;
   scheduling = λ state job is kept same. same;
@@ -223,7 +231,7 @@ cache_law = record {
       (λ none. ap (λ (rows : List KeptCache). rows ++ record { key = key; name = name; pairs = [] } ∷ []) same);
   dropping = λ state key name kept same. ap (filter (λ row. not (is_cache key name row))) same;
   carrying = λ state key name ops pairs new there is. carried state key name ops pairs new there is;
-  forgetting = λ state key free kept same. ap (filter (λ row. not (bytes_eq row.key key))) (same ∙ sym (ap (λ (s : State). s.caches) (all_forgotten state (filter (is_mapped_of key) state.registrations))));
+  forgetting = λ state key free kept same. ap (filter (λ row. not (bytes_eq row.key key))) (same ∙ sym (ap (λ (s : State). s.caches) (forgotten_leaves state (filter (is_mapped_of key) state.registrations))));
   awaiting = λ state maker key name requests runs kept same. same;
   answering = λ state number result faulted may kept same. same;
   noting = λ state worker faulted kept same. same;

@@ -8,6 +8,7 @@ use Rattle.sw_data.specs.declared.storage.KeptRegistration.{KeptRegistration}
 use Rattle.sw_rules.specs.Forgetting.{forget_key, is_mapped_of}
 use Rattle.sw_rules.specs.State.{State, Registration, Worker}
 use Rattle.sw_laws.specs.Coherent.{SoundRegistrations, apart}
+use Rattle.sw_laws.proofs.AtOnce.{AreApart}
 use Rattle.sw_laws.proofs.Contents.{Slots, contents, contents_moved, is_worked, kept_in, kept_with, slots_in}
 use Rattle.sw_laws.proofs.ForgetSteps.{any_of_filter}
 use Rattle.sw_laws.proofs.Forgotten.{cleared, forgotten_together, is_numbered, left}
@@ -98,10 +99,10 @@ module _ (state : State) (key : List ℕ) (order : Ordered state.registrations s
         fresh = λ x know was. by_test (λ (row : Registration). is_fresh row ≡ true) (is_mapped_of key x) _ x (λ here. refl) (λ other. was);
       }) rows knows sound order
 
-  pub forget_rows : KeepsRows state (forget_key state key)
+  pub forget_rows : AreApart state.workers → KeepsRows state (forget_key state key)
   unfolding forget_key
-  forget_rows kept same =
+  forget_rows fine kept same =
       filter_as (λ row. not (bytes_eq row.key key)) kept.registrations
       ∙ (ap (filter_map (other_key key)) same
       ∙ sym (contents_moved state.workers now g (other_key key) known (λ x. by_test (λ (row : Registration). row.first ≡ x.first) (is_mapped_of key x) _ x (λ here. refl) (λ other. refl)) moved_kept rows knows order.firsts)
-      ∙ ap (λ (s : State). contents s.workers s.registrations) (sym (forgotten_together state key (places_apart (λ (r : Registration). r.number) rows order.sound.numbers))))
+      ∙ ap (λ (s : State). contents s.workers s.registrations) (sym (forgotten_together state key fine (places_apart (λ (r : Registration). r.number) rows order.sound.numbers))))

@@ -11,14 +11,14 @@ use Rattle.sw_data.specs.declared.storage.KeptWorker.{KeptWorker}
 use Rattle.sw_data.specs.declared.workers.Mode.{Mode}
 use Rattle.sw_data.specs.declared.workers.Mode.TheVariants as mode_of
 use Rattle.sw_data.specs.declared.workers.Slot.TheVariants as slot
-use Rattle.sw_rules.specs.Installing.{become_waiting, first_counter, install_state, kept_worker, placed}
+use Rattle.sw_rules.specs.Installing.{become_waiting, first_counter, kept_worker, owe_try_activate, placed}
 use Rattle.sw_rules.specs.Jobs.{same_mode}
-use Rattle.sw_rules.specs.Registrations.{shift}
 use Rattle.sw_rules.specs.Rows.{changed, is_mapped_to, is_number, is_registration, registration_row}
 use Rattle.sw_rules.specs.State.{State, Registration, Worker}
-use Rattle.sw_rules.specs.Storage.{first_waiting, with_waiting}
+use Rattle.sw_rules.specs.Storage.{first_waiting, kept_after, with_waiting}
 use Rattle.sw_rules.specs.Storage as storage
 use Rattle.sw_laws.specs.Coherent.{SoundRegistrations, apart}
+use Rattle.sw_laws.proofs.AtOnce.{install_state, shift, waiting_changes}
 use Rattle.sw_laws.proofs.Contents.{Slots, contents, found_in, is_worked, kept_in, kept_row, kept_with, placed_at, same_first, slots_in}
 use Rattle.sw_laws.proofs.KeptFirst.{first_contents, first_ordered}
 use Rattle.sw_laws.proofs.KeptRechecks.{KeepsRows, number_is}
@@ -239,8 +239,12 @@ module _ (state : State) (number : ℕ) (worker : Worker) (row : Registration) (
   both_ways None first sound = (first_ordered state.workers now number rows row k found mapped first order here others sound, first_makes first)
   both_ways (Some place) first sound = (subst (λ xs. Ordered xs now) (sym (rows_are place first)) (again_ordered place first (subst SoundRegistrations (rows_are place first) sound)), again_makes place first)
 
-  pub waiting_keeps : SoundRegistrations (become_waiting state number worker).state.registrations → Ordered (become_waiting state number worker).state.registrations (become_waiting state number worker).state.workers × KeepsRows state (become_waiting state number worker)
-  unfolding become_waiting
-  waiting_keeps sound =
+  pub waiting_keeps : (become_waiting state number worker).state ≡ record state { registrations = now_rows; workers = now } → SoundRegistrations now_rows
+      → Ordered (become_waiting state number worker).state.registrations (become_waiting state number worker).state.workers × KeepsRows state (become_waiting state number worker)
+  unfolding owe_try_activate
+  waiting_keeps at_once sound =
       let both = both_ways row.first refl sound in
-      (both.0, λ kept same. rw found (both.1 kept same))
+      let makes_it : (kept : Kept) → kept.registrations ≡ contents state.workers rows → (kept_after kept (owe_try_activate state number worker).changes).registrations ≡ contents now now_rows = λ kept same. rw found (both.1 kept same) in (
+        subst (λ (s : State). Ordered s.registrations s.workers) (sym at_once) both.0,
+        λ kept same. ap (λ changes. (kept_after kept changes).registrations) (waiting_changes state number worker) ∙ (makes_it kept same ∙ ap (λ (s : State). contents s.workers s.registrations) (sym at_once)),
+      )

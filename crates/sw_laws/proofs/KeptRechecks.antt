@@ -10,18 +10,22 @@ use Rattle.sw_data.specs.declared.storage.Change.TheVariants as change
 use Rattle.sw_data.specs.declared.storage.Kept.{Kept}
 use Rattle.sw_data.specs.declared.storage.KeptWorker.{KeptWorker}
 use Rattle.sw_data.specs.declared.workers.Slot.TheVariants as slot
-use Rattle.sw_rules.specs.Clients.{claim_client, claim_clients, claims, leave, remove_client, take_control}
+use Rattle.sw_rules.specs.Clients.{claim_clients, leave, remove_client, take_control}
 use Rattle.sw_rules.specs.Installing.{kept_worker}
-use Rattle.sw_rules.specs.Registrations.{activate, chosen, clear, clear_state, left_by, promote, shift, unload}
-use Rattle.sw_rules.specs.Rows.{changed, client_row, is_mapped, is_registration, is_unfinished, is_waiting, slot_worker}
+use Rattle.sw_rules.specs.Registrations.{activate, chosen, clear, left_by, unload}
+use Rattle.sw_rules.specs.Rows.{changed, has_worker, is_active, is_mapped, is_registration, is_unfinished, is_waiting, slot_worker}
 use Rattle.sw_rules.specs.State.{State, Registration, Worker}
 use Rattle.sw_rules.specs.Storage.{applied, kept_after, promoted}
 use Rattle.sw_rules.specs.Told.{Told, followed, quiet}
+use Rattle.sw_laws.proofs.ActivateSteps.{is_chosen}
+use Rattle.sw_laws.proofs.AtOnce.{activate_changes, activated_at_once, are_apart, clear_only, clear_state, cleared_at_once, promote, shift}
+use Rattle.sw_laws.proofs.ClaimSteps.{Beside, claims-law, rechecks_coherently, unload-beside}
 use Rattle.sw_laws.proofs.Contents.{Slots, contents, found_in, is_worked, kept_in, kept_with, slots_in}
 use Rattle.sw_laws.proofs.Lists.{all_not, all_true, by_test}
 use Rattle.sw_laws.proofs.Ordered.{ChangesOne, Ordered, contents_still, ordered_still, recorded, with_only}
 use Rattle.sw_laws.proofs.SlotMoves.{promote_registration, slots_apart, slots_promoted, slots_with}
-use Rattle.sw_laws.proofs.Split.{IsRecheckLaw, unload-law}
+use Rattle.sw_laws.proofs.Split.{IsRecheckLaw}
+use Rattle.sw_laws.specs.Coherent.{Coherent}
 
 -- ---- what a step keeps
 
@@ -117,14 +121,17 @@ module _ (state : State) (registration worker : ℕ) (is : chosen state registra
         | false ↦ λ other. ap is_worked (now_apart n other)
       ] refl
 
-  pub activate_keeps : KeepsOrder state (activate state registration worker)
-  unfolding activate
-  activate_keeps orderly = (
-    record { order = ordered_still state.workers now (λ x. true) (λ x know mapped. still_worked x.number) state.registrations (all_true state.registrations) orderly.order; jobs = orderly.jobs },
-    λ kept same.
-        recorded state now registration (λ x. x) (λ k. Some (promoted k)) (λ x. true) promotes (λ x. refl) (all_true state.registrations) orderly.order (λ row. change.Active row.key row.scope) (λ row k. with_only row.key row.scope promoted k.registrations) kept same
-        ∙ ap (contents now) (unchanged (is_registration registration) state.registrations),
-  )
+  pub activate_keeps : Coherent state → KeepsOrder state (activate state registration worker)
+  activate_keeps sound orderly =
+      let picked = is_chosen state registration worker is sound in
+      let at_once = activated_at_once state registration worker picked.waiting (are_apart state.registrations state.workers sound.workers) picked.found picked.number in (
+        subst Orderly (sym at_once) (record { order = ordered_still state.workers now (λ x. true) (λ x know mapped. still_worked x.number) state.registrations (all_true state.registrations) orderly.order; jobs = orderly.jobs }),
+        λ kept same.
+            ap (λ changes. (kept_after kept changes).registrations) (activate_changes state registration worker)
+            ∙ (recorded state now registration (λ x. x) (λ k. Some (promoted k)) (λ x. true) promotes (λ x. refl) (all_true state.registrations) orderly.order (λ row. change.Active row.key row.scope) (λ row k. with_only row.key row.scope promoted k.registrations) kept same
+            ∙ (ap (contents now) (unchanged (is_registration registration) state.registrations)
+            ∙ ap (λ (s : State). contents s.workers s.registrations) (sym at_once))),
+      )
 
 -- ---- Clear
 
@@ -148,12 +155,15 @@ module _ (state : State) (registration : ℕ) (gone : is_mapped state registrati
   cleared_worked : (x : Registration) → not (x.number == registration && x.mapped) ≡ true → x.mapped ≡ true → is_worked (slots_in cleared x.number) ≡ is_worked (slots_in state.workers x.number)
   cleared_worked x is mapped = ap is_worked (cleared_apart x.number (grind (arith, is, mapped)))
 
-  pub clear_keeps : KeepsOrder state (clear state registration)
-  unfolding clear
-  clear_keeps orderly =
+  pub clear_keeps : Coherent state → KeepsOrder state (clear state registration)
+  clear_keeps sound orderly =
+      let at_once = cleared_at_once state registration (are_apart state.registrations state.workers sound.workers) in
       let knows = all_not (λ (x : Registration). x.number == registration && x.mapped) state.registrations gone in (
-        record { order = ordered_still state.workers cleared _ cleared_worked state.registrations knows orderly.order; jobs = orderly.jobs },
-        λ kept same. same ∙ sym (contents_still state.workers cleared _ cleared_kept state.registrations knows orderly.order.firsts),
+        subst Orderly (sym at_once) (record { order = ordered_still state.workers cleared _ cleared_worked state.registrations knows orderly.order; jobs = orderly.jobs }),
+        λ kept same.
+            ap (λ changes. (kept_after kept changes).registrations) (clear_only state registration).changes
+            ∙ (same ∙ (sym (contents_still state.workers cleared _ cleared_kept state.registrations knows orderly.order.firsts)
+            ∙ ap (λ (s : State). contents s.workers s.registrations) (sym at_once))),
       )
 
 -- ---- leaving and claiming
@@ -161,37 +171,42 @@ module _ (state : State) (registration : ℕ) (gone : is_mapped state registrati
 pub nothing_keeps : (state : State) → KeepsOrder state (quiet state)
 nothing_keeps state orderly = (orderly, λ kept same. same)
 
-pub rechecks_keep : IsRecheckLaw KeepsOrder
+-- a coherent and orderly state stays so, and the changes make what is kept after the step
+abbrev pub KeepsAll : State → Told → Type 0
+KeepsAll = Beside KeepsOrder
+
+all_further : (state : State) (told : Told) (next : State → Told) → KeepsAll state told → KeepsAll told.state (next told.state) → KeepsAll state (followed told next)
+unfolding followed
+all_further state told next one other sound =
+    let first = one sound in
+    let second = other first.0 in
+    (second.0, further state told next first.1 second.1)
+
+pub rechecks_keep : IsRecheckLaw KeepsAll
 rechecks_keep = record {
-  nothing = nothing_keeps;
-  further = further;
-  activating = λ state registration worker is. activate_keeps state registration worker is;
-  clearing = λ state registration gone unused calm. clear_keeps state registration gone;
+  nothing = λ state sound. (sound, nothing_keeps state);
+  further = all_further;
+  activating = λ state registration worker is sound. (rechecks_coherently.activating state registration worker is sound, activate_keeps state registration worker is sound);
+  clearing = λ state registration gone unused calm sound. (rechecks_coherently.clearing state registration gone unused calm sound, clear_keeps state registration gone sound);
 }
 
 same_rows : (state : State) → Orderly state → (after : State) → after.registrations ≡ state.registrations → after.workers ≡ state.workers → after.jobs ≡ state.jobs → Orderly after
 same_rows state orderly after registrations workers jobs = record { order = rw (registrations, workers) orderly.order; jobs = rw (registrations, jobs) orderly.jobs }
 
-unload_keeps : (state : State) (client : ℕ) → KeepsOrder state (unload state client)
-unload_keeps state client = unload-law KeepsOrder rechecks_keep (λ before number orderly. (same_rows before orderly (left_by number before) refl refl refl, λ kept same. same)) state client
-
-remove_keeps : (state : State) (client : ℕ) → KeepsOrder state (remove_client state client)
-unfolding remove_client
-remove_keeps state client orderly = (same_rows state orderly _ refl refl refl, λ kept same. same)
+left_keeps : (state : State) (client : ℕ) → KeepsOrder state (quiet (left_by client state))
+left_keeps state client orderly = (same_rows state orderly (left_by client state) refl refl refl, λ kept same. same)
 
 control_keeps : (state : State) (worker client : ℕ) → KeepsOrder state (take_control state worker client)
 unfolding take_control
 control_keeps state worker client orderly = (same_rows state orderly _ refl refl refl, λ kept same. same)
 
-pub leave_keeps : (state : State) (client : ℕ) → KeepsOrder state (leave state client)
-unfolding leave
-leave_keeps state client = further state (unload state client) _ (unload_keeps state client) (remove_keeps (unload state client).state client)
+remove_keeps : (state : State) (client : ℕ) → KeepsOrder state (remove_client state client)
+unfolding remove_client
+remove_keeps state client orderly = (same_rows state orderly _ refl refl refl, λ kept same. same)
 
-pub claims_keep : (numbers : List ℕ) (state : State) (worker registration : ℕ) → KeepsOrder state (claim_clients state worker registration numbers)
-unfolding claim_clients claim_client
-claims_keep [] state worker registration = nothing_keeps state
-claims_keep (number ∷ numbers) state worker registration =
-    further state (claim_client state worker registration number) (λ after. claim_clients after worker registration numbers)
-    (by_test (KeepsOrder state) (option_map_or (claims state worker registration) (client_row state number) false) _ _
-    (λ claims_it. further state (unload state number) (λ left. take_control left worker number) (unload_keeps state number) (control_keeps (unload state number).state worker number)) (λ none_claimed. nothing_keeps state))
-    (claims_keep numbers (claim_client state worker registration number).state worker registration)
+pub leave_keeps : (state : State) (client : ℕ) → Coherent state → KeepsOrder state (leave state client)
+unfolding leave
+leave_keeps state client sound = further state (unload state client) _ (unload-beside KeepsOrder rechecks_keep left_keeps control_keeps state client sound).1 (remove_keeps (unload state client).state client)
+
+pub claims_keep : (numbers : List ℕ) (state : State) (worker registration : ℕ) → has_worker (λ row. row.registration == registration && is_active row.state) state.workers worker ≡ true → Coherent state → KeepsOrder state (claim_clients state worker registration numbers)
+claims_keep = claims-law KeepsOrder rechecks_keep left_keeps control_keeps

@@ -1,5 +1,5 @@
 -- What is kept where workers are made, discarded, begin to install and become activated.
-use Rattle.std.proofs.Common.{◌≡◌, ◌∙◌, ℕ, Bool, true, false, not, ◌&&◌, ◌||◌, ◌==◌, List, [], ◌∷◌, map, Option, Some, None, option_map, refl, sym, ap, subst, true≢false, arith, if◌then◌else◌}
+use Rattle.std.proofs.Common.{◌≡◌, ◌∙◌, ℕ, Bool, true, false, not, ◌&&◌, ◌||◌, ◌==◌, List, [], ◌∷◌, map, Option, Some, None, option_map, refl, sym, ap, subst, true≢false, arith, if◌then◌else◌, append-nil}
 use Rattle.std.specs.List.{list_all}
 use Rattle.std.specs.Prelude.{is_some, option_and_then}
 use Rattle.std.specs.Option.{option_map_or}
@@ -14,11 +14,12 @@ use Rattle.sw_data.specs.declared.workers.Slot.TheVariants as slot
 use Rattle.sw_data.specs.declared.workers.WorkerState.{WorkerState}
 use Rattle.sw_data.specs.declared.workers.WorkerState.TheVariants as worker_state
 use Rattle.sw_rules.specs.Activating.{become_activated}
-use Rattle.sw_rules.specs.Installing.{advance, end_handler, kept_worker}
+use Rattle.sw_rules.specs.Installing.{end_handler, kept_worker}
+use Rattle.sw_rules.specs.Registrations.{become}
 use Rattle.sw_rules.specs.Rows.{changed, in_slot, is_activated, is_activating, is_registration, is_worker, registration_row, worker_row}
 use Rattle.sw_rules.specs.State.{State, Registration, Worker}
 use Rattle.sw_rules.specs.Storage.{kept_after, marked_activated}
-use Rattle.sw_rules.specs.Told.{is_kept, kept_change}
+use Rattle.sw_rules.specs.Told.{followed, is_kept, keep, kept_change}
 use Rattle.sw_laws.specs.Coherent.{Coherent, share_slot}
 use Rattle.sw_laws.proofs.Contents.{contents, found_in, is_worked, kept_with, slots_in}
 use Rattle.sw_laws.proofs.HandlerSteps.{ended_in, ended_in_keeps, ends_in}
@@ -206,13 +207,13 @@ same_change state worker number change_of =
     (λ row. is_kept_in (end_handler state worker).state row ∙ (ap (λ slots. is_some (kept_with row slots)) (ended_slots state worker row.number) ∙ sym (is_kept_in state row))))
 
 activated_last : (state : State) (worker : Worker) → Coherent state → worker_row state worker.number ≡ Some worker → is_activating worker ≡ true → Ordered state.registrations state.workers
-    → Ordered (end_handler state worker.number).state.registrations (advance worker.number worker_state.Activated (end_handler state worker.number).state.workers)
+    → Ordered (end_handler state worker.number).state.registrations (changed (is_worker worker.number) (λ row. record row { state = worker_state.Activated }) (end_handler state worker.number).state.workers)
 unfolding end_handler
 activated_last state worker sound found is order = rw (ends_in worker_state.Activated worker.number state.workers) (activated_order state worker sound found is order)
 
 activated_by : (state : State) (worker : Worker) → Coherent state → worker_row state worker.number ≡ Some worker → is_activating worker ≡ true → Ordered state.registrations state.workers
     → (kept : Kept) → kept.registrations ≡ contents state.workers state.registrations
-    → (kept_after kept (kept_change (end_handler state worker.number).state worker.registration (λ row. change.Activated row.key row.scope))).registrations ≡ contents (advance worker.number worker_state.Activated (end_handler state worker.number).state.workers) (end_handler state worker.number).state.registrations
+    → (kept_after kept (kept_change (end_handler state worker.number).state worker.registration (λ row. change.Activated row.key row.scope))).registrations ≡ contents (changed (is_worker worker.number) (λ row. record row { state = worker_state.Activated }) (end_handler state worker.number).state.workers) (end_handler state worker.number).state.registrations
 unfolding end_handler
 activated_by state worker sound found is order kept same =
     rw (ends_in worker_state.Activated worker.number state.workers)
@@ -220,5 +221,5 @@ activated_by state worker sound found is order kept same =
 
 pub activated_keeps : (state : State) (worker : Worker) → Coherent state → worker_row state worker.number ≡ Some worker → is_activating worker ≡ true → Ordered state.registrations state.workers
     → let ended = (end_handler state worker.number).state in let told = become_activated ended worker.registration worker.number in Ordered told.state.registrations told.state.workers × KeepsRows ended told
-unfolding become_activated
-activated_keeps state worker sound found is order = (activated_last state worker sound found is order, λ kept same. activated_by state worker sound found is order kept (same ∙ (rows_same state (end_handler state worker.number).state (ended_registrations state worker.number) (ended_slots state worker.number) order).1))
+unfolding become_activated followed keep become
+activated_keeps state worker sound found is order = (activated_last state worker sound found is order, λ kept same. ap (λ changes. (kept_after kept changes).registrations) (append-nil (kept_change (end_handler state worker.number).state worker.registration (λ row. change.Activated row.key row.scope))) ∙ activated_by state worker sound found is order kept (same ∙ (rows_same state (end_handler state worker.number).state (ended_registrations state worker.number) (ended_slots state worker.number) order).1))

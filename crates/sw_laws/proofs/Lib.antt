@@ -1,4 +1,5 @@
 pub mod ActivateSteps
+pub mod AtOnce
 pub mod BeginSteps
 pub mod ClaimSteps
 pub mod CoherentLaw

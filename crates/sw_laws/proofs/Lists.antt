@@ -6,6 +6,7 @@ use Rattle.std.proofs.lemmas.Bool.{and_from, and_parts}
 use Rattle.std.specs.Prelude.{Result, bytes_eq, option_and_then}
 use Rattle.std.proofs.lemmas.Bool.Decides.{nat_tests, same_from_decides}
 use Rattle.std.proofs.lemmas.Slice.Eq.{bytes_eq-Decides}
+use Rattle.sw_rules.specs.Rows.{changed}
 use Rattle.sw_laws.specs.Coherent.{apart}
 
 pub map_same : {X : Type 0} (xs : List X) → map (λ x. x) xs ≡ xs
@@ -121,6 +122,23 @@ pub found_same : {X : Type 0} (clash : X → X → Bool) → ((x y : X) → clas
 found_same clash symmetric p q [] x y fine is was meet = absurd cc
 found_same clash symmetric p q (z ∷ zs) x y fine is was meet =
     grind (arith, found_same clash symmetric p q zs x y, found_clear clash q z zs y, found_clear clash p z zs x, symmetric z x)
+
+-- ---- changes of rows
+
+-- two tests that say the same of all rows change the same ones
+pub changed_as : {X : Type 0} (known p q : X → Bool) (f : X → X) → ((x : X) → known x ≡ true → p x ≡ q x) → (xs : List X) → list_all known xs ≡ true → changed p f xs ≡ changed q f xs
+changed_as known p q f same [] all = refl
+changed_as known p q f same (x ∷ xs) all = grind (arith, all, same x, changed_as known p q f same xs)
+
+-- a change of some rows, and then another one of those
+pub then_changed : {X : Type 0} (p : X → Bool) (f g : X → X) → ((x : X) → p (f x) ≡ p x) → (xs : List X) → changed p g (changed p f xs) ≡ changed p (λ x. g (f x)) xs
+then_changed p f g same [] = refl
+then_changed p f g same (x ∷ xs) = grind (arith, same x, then_changed p f g same xs)
+
+-- where none is found, none is changed
+pub none_changed : {X : Type 0} (p : X → Bool) (f : X → X) (xs : List X) → find p xs ≡ None → changed p f xs ≡ xs
+none_changed p f [] is = refl
+none_changed p f (x ∷ xs) is = grind (arith, is, none_changed p f xs)
 
 -- ---- the same answer
 

@@ -20,16 +20,17 @@ use Rattle.sw_rules.specs.Caching.{add_cache, add_task, carry_out, drop_cache, s
 use Rattle.sw_rules.specs.Forgetting.{forget_key, forget_registrations, is_mapped_of}
 use Rattle.sw_rules.specs.Calls.{note_call}
 use Rattle.sw_rules.specs.Clients.{add_client, add_event, claim_client, claim_clients, claims, leave, remove_client, remove_event, take_control}
-use Rattle.sw_rules.specs.Installing.{become_waiting, begin_install, discard, end_handler, fail_install, finish_install, first_counter, make_worker, placed, reject_and_drop, tell_update, throw}
+use Rattle.sw_rules.specs.Installing.{become_waiting, begin_install, end_handler, fail_install, finish_install, first_counter, make_worker, placed, reject_and_drop, remember, tell_update, throw}
 use Rattle.sw_rules.specs.Jobs.{finish, promise, schedule, settle}
 use Rattle.sw_rules.specs.Preloading.{set_preload}
 use Rattle.sw_rules.specs.Registering.{fetch_script}
-use Rattle.sw_rules.specs.Registrations.{activate, clear, drop_registration, map_registration, new_registration, set_mode, unload, unmap}
+use Rattle.sw_rules.specs.Registrations.{activate, become, clear, drop_registration, map_registration, new_registration, set_mode, start_handler, unload, unmap}
 use Rattle.sw_rules.specs.Rows.{changed, client_row, is_mapped_to, is_registration, newest_worker}
 use Rattle.sw_rules.specs.State.{State, Registration, Worker, Awaited}
-use Rattle.sw_rules.specs.Told.{Told, Outcome, followed, quiet, type_error}
+use Rattle.sw_rules.specs.Told.{Outcome, Told, followed, keep, quiet, type_error}
 use Rattle.sw_laws.specs.Coherent.{Coherent}
 use Rattle.sw_laws.specs.Laws.{TellsItsMap, has_key_and_scope, tells_move}
+use Rattle.sw_laws.proofs.AtOnce.{activate_leaves, clear_only, waiting_leaves}
 use Rattle.sw_laws.proofs.CoherentLaw.{step-coherent}
 use Rattle.sw_laws.proofs.Events.{step-law}
 use Rattle.sw_laws.proofs.Forgotten.{left}
@@ -163,13 +164,15 @@ further : (state : State) (told : Told) (next : State → Told) → Tells state 
 unfolding followed
 further state told next = both state.registrations told.state.registrations (next told.state).state.registrations told.notices (next told.state).notices
 
+stands : (state : State) (told : Told) → told.state.registrations ≡ state.registrations → Tells state told
+stands state told same = subst (λ rows. Tell state.registrations rows told.notices) (sym same) (stand state.registrations told.notices)
+
 rechecks_tell : IsRecheckLaw Tells
-unfolding activate clear
 rechecks_tell = record {
   nothing = λ state. stand state.registrations [];
   further = further;
-  activating = λ state registration worker is. stand state.registrations _;
-  clearing = λ state registration gone unused calm. stand state.registrations _;
+  activating = λ state registration worker is. stands state (activate state registration worker) (ap (λ (s : State). s.registrations) (activate_leaves state registration worker));
+  clearing = λ state registration gone unused calm. stands state (clear state registration) (ap (λ (s : State). s.registrations) (clear_only state registration).rest);
 }
 
 unload_tells : (state : State) (client : ℕ) → Tells state (unload state client)
@@ -219,16 +222,16 @@ reject_tells state job registration why =
     (further settled.state dropped _ (drop_tells settled.state registration) (stand dropped.state.registrations []))
 
 throw_tells : (state : State) (job registration worker : ℕ) → Tells state (throw state job registration worker)
-unfolding throw discard
+unfolding throw become
 throw_tells state job registration worker =
-    let discarded = discard state worker in
+    let discarded = become state worker worker_state.Redundant in
     further state discarded _ (stand state.registrations _) (reject_tells discarded.state job registration (type_error cause.Threw))
 
 fail_tells : (state : State) (row : JobRow) (registration worker : ℕ) → Tells state (fail_install state row registration worker)
-unfolding fail_install end_handler discard finish
+unfolding fail_install end_handler become finish
 fail_tells state row registration worker =
     let ended = end_handler state worker in
-    let discarded = discard ended.state worker in
+    let discarded = become ended.state worker worker_state.Redundant in
     let gone = if is_none row.remembered then unmap discarded.state registration else quiet discarded.state in
     further state ended _ (stand state.registrations _)
     (further ended.state discarded _ (stand state.registrations _)
@@ -237,26 +240,27 @@ fail_tells state row registration worker =
     (stand gone.state.registrations [])))
 
 install_tells : (state : State) (job registration : ℕ) (worker : Worker) → Tells state (finish_install state job registration worker)
-unfolding finish_install end_handler become_waiting finish
+unfolding finish_install end_handler finish
 install_tells state job registration worker =
     let ended = end_handler state worker.number in
     let waiting = become_waiting ended.state registration worker in
     further state ended _ (stand state.registrations _)
     (further ended.state waiting _
-    (some_plain (is_registration registration) (placed (first_counter state.registrations)) (λ x. record { number = refl; key = refl; scope = refl; mapped = refl }) state.registrations _)
+    (subst (λ rows. Tell state.registrations rows waiting.notices) (sym (ap (λ (s : State). s.registrations) (waiting_leaves ended.state registration worker)))
+    (some_plain (is_registration registration) (placed (first_counter state.registrations)) (λ x. record { number = refl; key = refl; scope = refl; mapped = refl }) state.registrations _))
     (stand waiting.state.registrations []))
 
 forget_tells : (rows : List Registration) (state : State) → Tells state (forget_registrations state rows)
-unfolding forget_registrations clear
+unfolding forget_registrations
 forget_tells [] state = stand state.registrations []
 forget_tells (row ∷ rows) state =
     let unmapped = unmap state row.number in
     let cleared = clear unmapped.state row.number in
     further state unmapped _ (unmap_tells state row.number)
-    (further unmapped.state cleared _ (stand unmapped.state.registrations _) (forget_tells rows cleared.state))
+    (further unmapped.state cleared _ (stands unmapped.state cleared (ap (λ (s : State). s.registrations) (clear_only unmapped.state row.number).rest)) (forget_tells rows cleared.state))
 
 tell_law : IsLaw Tells true
-unfolding followed schedule settle finish map_registration set_mode set_preload fetch_script make_worker begin_install tell_update end_handler become_activated add_client add_event remove_event add_cache drop_cache carry_out forget_key add_task settle_task note_call
+unfolding followed schedule settle finish map_registration set_mode set_preload fetch_script make_worker begin_install remember become start_handler tell_update end_handler become_activated keep add_client add_event remove_event add_cache drop_cache carry_out forget_key add_task settle_task note_call
 tell_law = record {
   rechecks = rechecks_tell;
   scheduling = λ state job is. stand state.registrations _;

@@ -10,10 +10,10 @@ use Rattle.sw_data.specs.declared.storage.KeptWorker.{KeptWorker}
 use Rattle.sw_data.specs.declared.workers.Slot.{Slot}
 use Rattle.sw_data.specs.declared.workers.Slot.TheVariants as slot
 use Rattle.sw_data.specs.declared.workers.WorkerState.{WorkerState}
-use Rattle.sw_rules.specs.Installing.{install_state, kept_worker}
-use Rattle.sw_rules.specs.Registrations.{promote, shift}
+use Rattle.sw_rules.specs.Installing.{kept_worker}
 use Rattle.sw_rules.specs.Rows.{changed, in_slot, is_activated}
 use Rattle.sw_rules.specs.State.{Worker}
+use Rattle.sw_laws.proofs.AtOnce.{install_state, promote, shift}
 use Rattle.sw_laws.proofs.Contents.{Slots, found_in, slots_in}
 use Rattle.sw_laws.proofs.Lists.{all_true, by_test}
 

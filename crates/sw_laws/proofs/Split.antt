@@ -68,35 +68,50 @@ pub record IsInstalled (state : State) (row : JobRow) (registration : ℕ) (work
 
 -- ---- leaving a registration
 
--- a law of what happens where a registration is rechecked
+-- a law of what happens where this registration is rechecked
+pub record IsRecheckLawOf (registration : ℕ) (Law : State → Told → Type 0) : Type 0 where
+  pub nothing : (state : State) → Law state (quiet state)
+  pub further : (state : State) (told : Told) (next : State → Told) → Law state told → Law told.state (next told.state) → Law state (followed told next)
+  pub activating : (state : State) (worker : ℕ) → chosen state registration ≡ Some worker → Law state (activate state registration worker)
+  pub clearing : (state : State) → is_mapped state registration ≡ false → is_used state registration ≡ false → has_pending_worker state registration ≡ false → Law state (clear state registration)
+
+-- and of any registration
 pub record IsRecheckLaw (Law : State → Told → Type 0) : Type 0 where
   pub nothing : (state : State) → Law state (quiet state)
   pub further : (state : State) (told : Told) (next : State → Told) → Law state told → Law told.state (next told.state) → Law state (followed told next)
   pub activating : (state : State) (registration worker : ℕ) → chosen state registration ≡ Some worker → Law state (activate state registration worker)
   pub clearing : (state : State) (registration : ℕ) → is_mapped state registration ≡ false → is_used state registration ≡ false → has_pending_worker state registration ≡ false → Law state (clear state registration)
 
-module _ (Law : State → Told → Type 0) (law : IsRecheckLaw Law) where
-  pub try_activate-law : (state : State) (registration : ℕ) → Law state (try_activate state registration)
+pub law_of : {Law : State → Told → Type 0} (registration : ℕ) → IsRecheckLaw Law → IsRecheckLawOf registration Law
+law_of registration law = record {
+  nothing = law.nothing;
+  further = law.further;
+  activating = λ state worker is. law.activating state registration worker is;
+  clearing = λ state gone unused calm. law.clearing state registration gone unused calm;
+}
+
+module _ (Law : State → Told → Type 0) (registration : ℕ) (law : IsRecheckLawOf registration Law) where
+  pub try_activate-law : (state : State) → Law state (try_activate state registration)
   unfolding try_activate
-  try_activate-law state registration =
-      by_option (Law state) (chosen state registration) _ _ (λ none. law.nothing state) (λ worker is. law.activating state registration worker is)
+  try_activate-law state =
+      by_option (Law state) (chosen state registration) _ _ (λ none. law.nothing state) (λ worker is. law.activating state worker is)
 
-  pub try_clear-law : (state : State) (registration : ℕ) → is_mapped state registration ≡ false → Law state (try_clear state registration)
+  pub try_clear-law : (state : State) → is_mapped state registration ≡ false → Law state (try_clear state registration)
   unfolding try_clear
-  try_clear-law state registration gone = grind (arith, law.nothing, law.clearing, gone)
+  try_clear-law state gone = grind (arith, law.nothing, law.clearing, gone)
 
-  pub recheck-law : (state : State) (registration : ℕ) → Law state (recheck state registration)
+  pub recheck-law : (state : State) → Law state (recheck state registration)
   unfolding recheck
-  recheck-law state registration = grind (arith, law.nothing, law.further, try_activate-law, try_clear-law)
+  recheck-law state = grind (arith, law.nothing, law.further, try_activate-law, try_clear-law)
 
-  pub release-law : (state : State) (registration : ℕ) → Law state (release state registration)
+  pub release-law : (state : State) → Law state (release state registration)
   unfolding release
-  release-law state registration = grind (arith, law.nothing, recheck-law)
+  release-law state = grind (arith, law.nothing, recheck-law)
 
 -- and where a client leaves it
 pub unload-law : (Law : State → Told → Type 0) (law : IsRecheckLaw Law) → ((state : State) (client : ℕ) → Law state (quiet (left_by client state))) → (state : State) (client : ℕ) → Law state (unload state client)
 unfolding unload
-unload-law Law law leaving state client = grind (arith, law.nothing, law.further, leaving, release-law Law law)
+unload-law Law law leaving state client = grind (arith, law.nothing, law.further, leaving, λ (registration : ℕ). release-law Law registration (law_of registration law))
 
 -- ---- what a law has to say
 

@@ -1,5 +1,5 @@
 -- Steps that move workers keep a state coherent: flags and handlers' notes, Activate, Clear, and the end of an activate handler.
-use Rattle.std.proofs.Common.{◌≡◌, ℕ, Bool, true, false, not, ◌&&◌, ◌==◌, List, map, Option, Some, option_map, refl, ap, arith, if◌then◌else◌}
+use Rattle.std.proofs.Common.{◌≡◌, ℕ, Bool, true, false, not, ◌&&◌, ◌==◌, List, map, Option, Some, option_map, refl, ap, arith, if◌then◌else◌, subst, sym}
 use Rattle.std.specs.List.{list_all, list_any}
 use Rattle.std.specs.Prelude.{is_some, option_and_then}
 use Rattle.std.proofs.lemmas.Bool.{and_parts}
@@ -7,14 +7,14 @@ use Rattle.std.proofs.lemmas.Bool.Decides.{nat_tests}
 use Rattle.sw_data.specs.declared.answers.Settlement.{Settlement}
 use Rattle.sw_data.specs.declared.rows.ClientRow.{ClientRow}
 use Rattle.sw_data.specs.declared.rows.JobRow.{JobRow}
-use Rattle.sw_data.specs.declared.workers.WorkerState.{WorkerState}
 use Rattle.sw_rules.specs.Caching.{is_maker, noted_task, settle_task}
 use Rattle.sw_rules.specs.Calls.{counted_call, note_call}
 use Rattle.sw_rules.specs.Clients.{flagged}
-use Rattle.sw_rules.specs.Registrations.{clear, clear_state}
+use Rattle.sw_rules.specs.Registrations.{clear}
 use Rattle.sw_rules.specs.Rows.{changed, has_pending, has_pending_worker, has_worker, is_activated, is_active, is_task, is_used, is_worker, maker_worker, task_row, uses}
 use Rattle.sw_rules.specs.State.{State, Worker, Awaited, AddAll, value, of_job, of_task}
-use Rattle.sw_laws.specs.Coherent.{Coherent, SoundTasks, has_its_handler, is_controlled, is_there, same_slot, share_slot}
+use Rattle.sw_laws.specs.Coherent.{Coherent, SoundTasks, has_its_handler, is_controlled, is_there, share_slot}
+use Rattle.sw_laws.proofs.AtOnce.{are_apart, clear_state, cleared_at_once, cleared_slots}
 use Rattle.sw_laws.proofs.Lists.{all_both, all_but, all_changed, all_not, all_there, all_true, all_weaker, any_but, any_changed}
 use Rattle.sw_laws.proofs.Moves.{Keeps, clients-moved, events-moved, keys-moved, tasks-moved, work-moved, workers-moved}
 use Rattle.sw_laws.proofs.Places.{any_known, place_changed, places_changed}
@@ -118,12 +118,6 @@ cleared registration row = if row.registration == registration then record row {
 pub cleared_keeps : (registration : ℕ) → Keeps (cleared registration)
 cleared_keeps registration = record { number = λ x. grind arith; registration = λ x. grind arith }
 
-clear_apart : (one other : WorkerState) → same_slot one other ≡ false → same_slot (clear_state one) (clear_state other) ≡ false
-clear_apart one other is = grind arith
-
-cleared_slots : (registration : ℕ) (x y : Worker) → share_slot x y ≡ false → share_slot (cleared registration x) (cleared registration y) ≡ false
-cleared_slots registration x y fine = grind (arith, nat_tests, fine, clear_apart x.state y.state)
-
 -- a worker with a fetch event stays activated where no worker of the registration has one
 event_stays : (state : State) (registration number : ℕ) → list_all (is_idle state registration) state.workers ≡ true → has_worker is_activated state.workers number ≡ true → list_any (λ event. event.worker == number) state.fetch_events ≡ true → has_worker is_activated (map (cleared registration) state.workers) number ≡ true
 event_stays state registration number idle is busy =
@@ -139,7 +133,6 @@ pub unused_stays : (registration : ℕ) (f : Worker → Worker) → ((row : Work
 unused_stays registration f fixed workers client is unused = grind (arith, is, unused, other_stays registration f fixed workers)
 
 pub clear-coherent : (state : State) (registration : ℕ) → is_used state registration ≡ false → has_pending_worker state registration ≡ false → Coherent state → Coherent (clear state registration).state
-unfolding clear
 clear-coherent state registration unused idle sound =
     let f = cleared registration in
     let rows = state.workers in
@@ -147,7 +140,7 @@ clear-coherent state registration unused idle sound =
     let known = λ (row : Worker). is_idle state registration row && has_its_handler row in
     let calm : list_all (is_idle state registration) rows ≡ true = all_not _ rows idle in
     let knows : list_all known rows ≡ true = all_both _ _ rows calm sound.workers.handlers in
-    record {
+    subst Coherent (sym (cleared_at_once state registration (are_apart state.registrations rows sound.workers))) (record {
       registrations = sound.registrations;
       workers = workers-moved f keeps known rows knows state.registrations (λ x y a b fine. cleared_slots registration x y fine) (λ x a is. grind (arith, a, is)) sound.workers;
       jobs = sound.jobs;
@@ -164,4 +157,4 @@ clear-coherent state registration unused idle sound =
       };
       caches = sound.caches;
       promises = sound.promises;
-    }
+    })

@@ -7,7 +7,7 @@ use Rattle.sw_data.specs.declared.answers.Settlement.{Settlement}
 use Rattle.sw_rules.specs.Rows.{changed, is_task}
 use Rattle.sw_rules.specs.State.{AddAll}
 use Rattle.sw_ledgers.specs.declared.tasks.TaskRow.{TaskRow}
-use Rattle.sw_flags.proofs.Placing.{flags_set}
+use Rattle.sw_list.proofs.Placing.{flags_set}
 use Rattle.sw_ledgers.specs.Tasks.{AreKept, IsKept, has_task, is_unsettled, row_of}
 use Rattle.sw_rules.proofs.Places.{changed_here, found_here, found_none, more_at_places, place_within, set_at_places}
 

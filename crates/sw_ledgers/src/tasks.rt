@@ -9,7 +9,7 @@ ghost use Rattle.sw_ledgers.specs.Tasks.{FitsTask, has_task, row_of};
 use std::alloc::Global;
 use std::marker::Model;
 use sw_data::{Items, NoMemory, Request, Settlement, Text, Who};
-use sw_flags::Flags;
+use sw_list::Flags;
 
 /// An addAll, with its value where it has settled.
 #[derive(Drop)]

@@ -1,3 +1,12 @@
 pub mod Lists
 pub mod Places
 pub mod Keeping
+pub mod StampMarks
+pub mod StampRows
+pub mod Placing
+pub mod Counting
+pub mod FindLemmas
+pub mod IndexLemmas
+mod MarkLemmas
+mod RowLemmas
+pub mod DigestLemmas

@@ -2,7 +2,7 @@
 use Rattle.std.specs.Prelude.{ℕ, Some}
 use Rattle.std.specs.Borrow.{Fml, Lends, MutBor}
 use denote.RattleType.{RattleType}
-use Rattle.sw_list.specs.contracts.Numbered.{the_row}
+use Rattle.sw_list.specs.contracts.numbered.Numbered.{the_row}
 use Rattle.sw_list.specs.contracts.slots.Slot as slot
 use Rattle.sw_list.specs.declared.slots.Slot.{Slot}
 use Rattle.sw_list.specs.Numbers.{Numbers, with_value_at}

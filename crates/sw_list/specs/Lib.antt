@@ -3,3 +3,13 @@ pub mod Kept
 pub mod Lending
 pub mod Numbers
 pub mod Slots
+pub mod Stamped
+pub mod StampLending
+pub mod Sequence
+pub mod Marked
+pub mod KeptFlags
+pub mod Lends
+pub mod Named
+pub mod Names
+pub mod Numbered
+pub mod Marks

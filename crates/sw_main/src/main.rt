@@ -7,7 +7,7 @@ ghost use Rattle.std.specs.Io.KnownBytes.{IsAtEnd};
 ghost use Rattle.std.specs.IoError.{error_kind};
 ghost use Rattle.std.specs.Process.{exit_status};
 ghost use Rattle.std.specs.Vec.Iter.{into_iter_items};
-ghost use Rattle.sw_bounded.specs.declared.ends.BoundedEnd.TheVariants as bounded_end;
+ghost use Rattle.sw_bucket.specs.declared.ends.BoundedEnd.TheVariants as bounded_end;
 ghost use Rattle.sw_data.specs.Faults.{Rose};
 ghost use Rattle.sw_data.specs.Streams.{ConsumesSome};
 ghost use Rattle.sw_disk.specs.Files.{has_file};

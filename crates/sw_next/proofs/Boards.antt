@@ -2,49 +2,24 @@
 use Rattle.std.proofs.Common.{◌≡◌, ◌∙◌, ℕ, Bool, true, false, not, Option, Some, None, option_and_then, option_map, refl, sym, ap, subst, if◌then◌else◌}
 use Rattle.std.specs.Prelude.{is_some}
 use Rattle.std.specs.Option.{option_map_or}
-use Rattle.sw_client.specs.Table as clients
-use Rattle.sw_data.specs.declared.events.Who.{Who}
-use Rattle.sw_data.specs.declared.events.Who.TheVariants as maker
 use Rattle.sw_data.specs.declared.answers.Answer.TheVariants as answer
 use Rattle.sw_data.specs.declared.rows.ClientRow.{ClientRow}
 use Rattle.sw_data.specs.declared.rows.WorkerRow.{WorkerRow}
 use Rattle.sw_data.specs.declared.workers.WorkerState.{WorkerState}
 use Rattle.sw_data.specs.declared.workers.WorkerState.TheVariants as worker_state
-use Rattle.sw_pages.specs.Acts.{outcome_of}
-use Rattle.sw_pages.specs.declared.worked.Worked.{Worked}
-use Rattle.sw_reg.specs.Table as registrations
 use Rattle.sw_rules.specs.Clients as rules
 use Rattle.sw_rules.specs.Rows.{client_row, event_row, is_activating, worker_row}
 use Rattle.sw_rules.specs.State.{State}
 use Rattle.sw_rules.specs.Told.{answered}
-use Rattle.sw_scope.specs.Scopes.{Scopes}
 use Rattle.sw_tables.proofs.Lookups.{worker_shown}
 use Rattle.sw_tables.specs.Parts as parts
-use Rattle.sw_tables.specs.Lent.{Rest, lent, shown_worker}
-use Rattle.sw_work.specs.Hosted.{Hosted, rest_of, state_of}
-use Rattle.sw_worker.specs.Table as workers
+use Rattle.sw_tables.specs.Lent.{shown_worker}
+use Rattle.sw_state.specs.Hosted.{Hosted, state_of}
 use Rattle.sw_worker.specs.Table.{worker_at}
 
 pub some_mapped : {X Y : Type 0} (f : X → Y) (o : Option X) → is_some o ≡ is_some (option_map f o)
 some_mapped f None = refl
 some_mapped f (Some x) = refl
-
-pub settled : (host : Hosted) (lane of : ℕ) (r : Option Worked)
-    → ((at : ℕ) (scopes : Scopes) (of_workers : workers.Table) (of_registrations : registrations.Table) (of_clients : clients.Table) (rest : Rest)
-    → rest.jobs ≡ host.queues.rows → rest.promises ≡ host.promises.rows → rest.tasks ≡ host.tasks.rows
-    → option_map (λ worked. outcome_of (maker.Lane lane at) worked (lent scopes of_workers of_registrations of_clients rest)) r
-    ≡ rules.await (lent scopes of_workers of_registrations of_clients rest) (maker.Lane lane at) of)
-    → (at : ℕ) → is_some r ≡ is_some (rules.await (state_of host) (maker.Lane lane at) of)
-settled host lane of r is at =
-    some_mapped (λ worked. outcome_of (maker.Lane lane at) worked (state_of host)) r
-    ∙ ap is_some (is at host.scopes host.workers host.registrations host.clients (rest_of host) refl refl refl)
-
-pub known : (host : Hosted) (client : ℕ) (r : Option Worked)
-    → ((who : Who) (rest : Rest) → option_map (λ worked. outcome_of who worked (lent host.scopes host.workers host.registrations host.clients rest)) r
-    ≡ rules.ready (lent host.scopes host.workers host.registrations host.clients rest) client)
-    → is_some r ≡ is_some (rules.ready (state_of host) client)
-known host client r is =
-    some_mapped (λ worked. outcome_of maker.Host worked (state_of host)) r ∙ ap is_some (is maker.Host (rest_of host))
 
 begun : {X : Type 0} (activating taken : Bool) (one other : X)
     → not activating ≡ is_some (if activating then None else if taken then Some one else Some other)

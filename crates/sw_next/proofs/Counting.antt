@@ -6,7 +6,7 @@ use Rattle.sw_rules.specs.Rows.{is_number}
 use Rattle.sw_rules.specs.State.{Registration}
 use Rattle.sw_scope.specs.Scopes.{maps}
 use Rattle.sw_tables.specs.Lent.{shown_registration}
-use Rattle.sw_work.specs.Hosted.{Hosted, rest_of, state_of}
+use Rattle.sw_state.specs.Hosted.{Hosted, rest_of, state_of}
 
 count_map : {X Y : Type 0} (test : Y → Bool) (f : X → Y) (xs : List X) → length (filter (λ x. test (f x)) xs) ≡ length (filter test (map f xs))
 count_map test f [] = refl

@@ -16,7 +16,7 @@ use Rattle.sw_rules.specs.State.{AddAll, Registration, Worker}
 use Rattle.sw_rules.specs.Tasks.{activates, evaluations, installs, may_activate, may_install, runs, try_activates}
 use Rattle.sw_tables.proofs.Rows.{find_map}
 use Rattle.sw_tables.specs.Lent.{shown_registration, shown_worker}
-use Rattle.sw_work.specs.Hosted.{Hosted, rest_of, state_of}
+use Rattle.sw_state.specs.Hosted.{Hosted, rest_of, state_of}
 
 -- ---- the first of each kind
 

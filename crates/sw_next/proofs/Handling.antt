@@ -13,7 +13,7 @@ use Rattle.sw_rules.specs.Tasks.{may_activate}
 use Rattle.sw_tables.proofs.Lookups.{worker_shown}
 use Rattle.sw_tables.proofs.Rows.{map_on}
 use Rattle.sw_tables.specs.Lent.{shown_handler, shown_worker}
-use Rattle.sw_work.specs.Hosted.{Hosted, IsJoined, state_of}
+use Rattle.sw_state.specs.Hosted.{Hosted, IsJoined, state_of}
 use Rattle.sw_worker.specs.Table.{runs_activate, worker_at}
 
 any_counted : {X : Type 0} (test : X → Bool) (xs : List X) → (length (filter test xs) == 0) ≡ (if list_any test xs then false else true)

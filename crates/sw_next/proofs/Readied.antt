@@ -7,7 +7,7 @@ use Rattle.std.proofs.lemmas.List.Folds.{list_any-append}
 use Rattle.sw_next.proofs.Enabling.{runs_where}
 use Rattle.sw_next.proofs.ReadyAny.{any_filter, any_job, none_mapped, ready_activate, ready_install}
 use Rattle.sw_next.proofs.TaskEvents.{other_way, same_any}
-use Rattle.sw_work.specs.Hosted.{Hosted, state_of}
+use Rattle.sw_state.specs.Hosted.{Hosted, state_of}
 use Rattle.sw_data.specs.declared.histories.Task.{Task}
 use Rattle.sw_data.specs.declared.histories.Task.TheVariants as task
 use Rattle.sw_data.specs.declared.rows.JobRow.{JobRow}

@@ -25,7 +25,7 @@ use Rattle.sw_tables.proofs.Lookups.{worker_shown}
 use Rattle.sw_tables.proofs.Rows.{any_at}
 use Rattle.sw_tables.specs.Linked.{ArePlaces}
 use Rattle.sw_tables.specs.Lent.{shown_handler, shown_worker}
-use Rattle.sw_work.specs.Hosted.{Hosted, state_of}
+use Rattle.sw_state.specs.Hosted.{Hosted, state_of}
 use Rattle.sw_worker.specs.Table.{worker_at}
 
 -- ---- calls

@@ -4,7 +4,7 @@ ghost use Rattle.std.specs.Prelude.{◌≡◌, ◌+◌, option_map, slice_get};
 
 use sw_ledgers::Tasks;
 use sw_queue::Queues;
-use sw_work::HostTables;
+use sw_state::HostTables;
 use sw_worker::Workers;
 
 // The number of the job behind a job, none behind the last.

@@ -4,12 +4,12 @@ ghost use Rattle.std.specs.Prelude.{◌≡◌, filter, length};
 ghost use Rattle.sw_rules.specs.History.{mapped_registrations};
 ghost use Rattle.sw_rules.specs.Rows.{is_number};
 ghost use Rattle.sw_scope.specs.Scopes.{maps};
-ghost use Rattle.sw_work.specs.Hosted.{state_of};
+ghost use Rattle.sw_state.specs.Hosted.{state_of};
 
 use sw_data::RegistrationRow;
 use sw_reg::Registrations;
 use sw_scope::ScopeMap;
-use sw_work::HostTables;
+use sw_state::HostTables;
 
 // Whether a registration is mapped.
 fn is_mapped(row: &RegistrationRow, map: &ScopeMap) -> bool

@@ -3,7 +3,7 @@
 ghost use Rattle.std.specs.Prelude.{◌≡◌, ◌&&◌, ℕ, Option, false, is_some, option_and_then, option_map};
 ghost use Rattle.std.specs.List.{list_any};
 ghost use Rattle.std.specs.Option.{option_copied, option_map_or};
-ghost use Rattle.sw_work.specs.Hosted.{state_of};
+ghost use Rattle.sw_state.specs.Hosted.{state_of};
 ghost use Rattle.sw_data.specs.declared.events.Who.TheVariants as maker;
 ghost use Rattle.sw_data.specs.declared.recordings.FetchLine.{FetchLine};
 ghost use Rattle.sw_data.specs.Events.{who_of};
@@ -22,10 +22,9 @@ ghost use Rattle.sw_tables.specs.Lent.{shown_handler, shown_worker};
 use crate::task_events::call_at;
 use crate::tasks::{free_handler, goes_on, may_activate};
 use crate::waits::{has_settled, is_ready, may_begin};
-use sw_copy::same_call;
-use sw_data::{Call, Event, HandlerRow, JobPhase, JobRow, Phase, Task, Who, WorkerRow};
+use sw_data::{Call, Event, HandlerRow, JobPhase, JobRow, Phase, Task, Who, WorkerRow, same_call};
+use sw_state::HostTables;
 use sw_tables::ended_handler;
-use sw_work::HostTables;
 
 // ---- by one row
 

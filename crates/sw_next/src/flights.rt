@@ -6,7 +6,7 @@ ghost use Rattle.std.specs.Option.{option_map_or};
 ghost use Rattle.sw_lane.specs.Picked.{in_flight, is_task};
 
 use sw_data::Task;
-use sw_work::HostTables;
+use sw_state::HostTables;
 
 // Whether a pass has taken this task up.
 fn has_taken(flight: &Option<Task>, task: Task) -> bool

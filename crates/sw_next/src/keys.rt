@@ -2,13 +2,13 @@
 
 ghost use Rattle.std.specs.Prelude.{◌≡◌, option_map};
 ghost use Rattle.std.specs.Option.{option_copied};
-ghost use Rattle.sw_work.specs.Hosted.{state_of};
+ghost use Rattle.sw_state.specs.Hosted.{state_of};
 ghost use Rattle.sw_rules.specs.Forgetting.{is_busy};
 ghost use Rattle.sw_rules.specs.Rows.{task_row};
 
 use sw_cachestorage::is_busy;
 use sw_data::Text;
-use sw_work::HostTables;
+use sw_state::HostTables;
 
 /// Whether a key is busy, so that forgetting it would answer that it is: it has an open client, an unfinished job, a
 /// running handler, a pending fetch event or an unsettled addAll. It takes no memory.

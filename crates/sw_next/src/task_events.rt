@@ -12,13 +12,12 @@ ghost use Rattle.sw_rules.specs.Installing.{calls_of};
 ghost use Rattle.sw_rules.specs.Rows.{job_row};
 ghost use Rattle.sw_rules.specs.Tasks as rules;
 ghost use Rattle.sw_tables.specs.Lent.{shown_handler, shown_worker};
-ghost use Rattle.sw_work.specs.Hosted.{state_of};
+ghost use Rattle.sw_state.specs.Hosted.{state_of};
 
 use crate::tasks::free_handler;
 use std::alloc::Global;
-use sw_copy::copy_call;
-use sw_data::{Call, Event, HandlerRow, NoMemory, Phase, Task, Who, WorkerRow};
-use sw_work::HostTables;
+use sw_data::{Call, Event, HandlerRow, NoMemory, Phase, Task, Who, WorkerRow, copy_call};
+use sw_state::HostTables;
 
 // The calls of a worker's handler.
 fn calls_of(row: &WorkerRow, phase: Phase) -> &[Call]

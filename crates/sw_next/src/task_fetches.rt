@@ -3,12 +3,12 @@
 ghost use Rattle.std.specs.Prelude.{◌≡◌, IfOk};
 ghost use Rattle.sw_next.specs.Fetching.{fetches_of, fetches_of_add_all, fetches_of_job};
 ghost use Rattle.sw_ledgers.specs.Tasks.{row_of};
-ghost use Rattle.sw_work.specs.Hosted.{state_of};
+ghost use Rattle.sw_state.specs.Hosted.{state_of};
 
 use std::alloc::Global;
 use sw_data::{JobRow, NoMemory, Task, Text};
 use sw_ledgers::TaskRow;
-use sw_work::HostTables;
+use sw_state::HostTables;
 
 // The script and the drawn number of a job's fetch, where it is drawn.
 fn of_job(alloc: Global, row: &JobRow) -> Result<Vec<(Text, u32)>, NoMemory>

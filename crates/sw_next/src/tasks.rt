@@ -11,14 +11,14 @@ ghost use Rattle.sw_rules.specs.Rows.{free_handler, is_install};
 ghost use Rattle.sw_rules.specs.Tasks as rules;
 ghost use Rattle.sw_tables.specs.Lent.{shown_handler, shown_worker};
 ghost use Rattle.sw_tables.specs.Linked.{ArePlaces};
-ghost use Rattle.sw_work.specs.Hosted.{state_of};
+ghost use Rattle.sw_state.specs.Hosted.{state_of};
 
 use crate::behind::{job_behind, task_behind, worker_behind};
 use crate::flights::is_in_flight;
 use sw_data::{HandlerRow, Phase, Task, WorkerRow};
 use sw_ledgers::Tasks;
 use sw_queue::Queues;
-use sw_work::HostTables;
+use sw_state::HostTables;
 use sw_worker::Workers;
 
 // The handler of a worker that runs, where none of its addAlls is unsettled.

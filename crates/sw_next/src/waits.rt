@@ -5,11 +5,11 @@ ghost use Rattle.sw_data.specs.declared.events.Who.TheVariants as maker;
 ghost use Rattle.sw_rules.specs.Clients as rules;
 ghost use Rattle.sw_rules.specs.Rows.{worker_row};
 ghost use Rattle.sw_tables.specs.Parts.{is_activating};
-ghost use Rattle.sw_work.specs.Hosted.{state_of};
+ghost use Rattle.sw_state.specs.Hosted.{state_of};
 
 use sw_data::WorkerState;
-use sw_pages::{await_promise, ready};
-use sw_work::HostTables;
+use sw_pages::{promised_value, ready_answer};
+use sw_state::HostTables;
 
 // Whether a worker in this state is activating.
 fn is_activating(state: WorkerState) -> bool
@@ -23,21 +23,14 @@ pub fn has_settled(host: &HostTables, lane: u32, of: u32) -> bool
     ensures { (at : ℕ)
         → result ≡ is_some (rules.await (state_of host.now) (maker.Lane lane at) of) }
 {
-    await_promise(lane, of, &host.promises, &host.queues, &host.tasks).is_some()
+    promised_value(host, lane, of).is_some()
 }
 
 /// Whether the ready promise of a client has a registration, or the client isn't open.
 pub fn is_ready(host: &HostTables, client: u32) -> bool
     ensures { result ≡ is_some (rules.ready (state_of host.now) client) }
 {
-    let worked = ready(
-        client,
-        &host.map,
-        &host.workers,
-        &host.registrations,
-        &host.clients,
-    );
-    worked.is_some()
+    ready_answer(host, client).is_some()
 }
 
 // Whether a fetch event may begin on a worker, or is refused at once.
@@ -55,7 +48,7 @@ fn may_begin_on(host: &HostTables, worker: u32) -> bool
 pub fn may_begin(host: &HostTables, client: u32) -> bool
     ensures { (event : ℕ) → result ≡ is_some (rules.begin (state_of host.now) client event) }
 {
-    let Some(row) = host.clients.row(client) else {
+    let Some(row) = host.client_row(client) else {
         return true;
     };
     match row.controller {

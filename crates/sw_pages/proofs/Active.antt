@@ -1,37 +1,14 @@
--- The active worker of a registration, and that of the registration that an address matches.
-use Rattle.std.proofs.Common.{◌≡◌, ◌∙◌, ℕ, true, List, Option, Some, None, is_some, option_map, option_and_then, refl, ap, arith}
-use Rattle.sw_data.specs.Addresses.{same_origin}
+-- The active worker of the registration that an address matches.
+use Rattle.std.proofs.Common.{◌≡◌, ◌∙◌, ℕ, true, List, Option, Some, None, option_map, option_and_then, refl, ap, arith}
+use Rattle.sw_data.specs.Addresses.{resolved, same_origin}
 use Rattle.sw_data.specs.declared.answers.Answer.TheVariants as answer
+use Rattle.sw_data.specs.declared.answers.Cause.TheVariants as cause
 use Rattle.sw_data.specs.declared.rows.ClientRow.{ClientRow}
-use Rattle.sw_data.specs.declared.workers.Slot.TheVariants as slot
-use Rattle.sw_reg.specs.Table as registrations
-use Rattle.sw_reg.specs.Table.{slot_of}
-use Rattle.sw_rules.specs.Clients.{ready, ready_registration, registration_at, registration_or_undefined}
+use Rattle.sw_rules.specs.Clients.{get_registration, ready, ready_registration, registration_at, registration_or_undefined}
 use Rattle.sw_rules.specs.Rows.{active_worker_number, client_row, matched_registration_number}
 use Rattle.sw_rules.specs.State.{State}
-use Rattle.sw_rules.specs.Told.{Outcome, answered}
-use Rattle.sw_tables.proofs.Rows.{within}
-use Rattle.sw_tables.proofs.Standing.{stands}
-use Rattle.sw_tables.specs.Linked.{HasSlots}
-use Rattle.sw_pages.specs.Active.{IsOwned, active_match}
-use Rattle.sw_worker.specs.Table as workers
-
-there : {X : Type 0} (o : Option X) → is_some o ≡ true → (x : X) × (o ≡ Some x)
-there None is = absurd cc
-there (Some x) is = (x, refl)
-
-module _ (of_workers : workers.Table) (of_registrations : registrations.Table) (has : HasSlots of_workers of_registrations) where
-  -- the worker in the active slot of a registration is its worker
-  pub owned : (registration n : ℕ) → slot_of slot.Active registration of_registrations.rows ≡ Some n → IsOwned of_workers of_registrations (n, registration)
-  owned registration n is =
-      let stood = stands of_workers of_registrations has slot.Active registration n is in
-      let right = has.rows n stood.0 stood.1.is in
-      let found = there (registrations.registration_at stood.0.registration of_registrations.rows) right.owner in
-      let below = within (λ row. row.number) stood.0.registration of_registrations.rows found.0 has.registration_places found.1 in
-      record {
-        owner = ap (option_map (λ row. row.registration)) stood.1.is ∙ ap Some stood.1.owner;
-        known = grind (arith, below, stood.1.owner);
-      }
+use Rattle.sw_rules.specs.Told.{Outcome, answered, refused, type_error}
+use Rattle.sw_pages.specs.Active.{active_match}
 
 -- ---- the parts of what is found
 
@@ -92,3 +69,16 @@ module _ (state : State) (n : ℕ) (row : ClientRow) (here : Some row ≡ client
 pub matched_here : (state : State) (row : ClientRow) (url address : List ℕ) (found : Option ℕ) → same_origin url row.url ≡ true → address ≡ url
     → found ≡ matched_registration_number state row.key address → registration_at state row url ≡ answered state (registration_or_undefined found)
 matched_here state row url address found same own is = grind (arith, same, own, is)
+
+abbrev by_url : State → ClientRow → Option (List ℕ) → Outcome
+by_url state row found =
+    elim found [ None ↦ refused state (type_error cause.Unparsed) | Some url ↦ registration_at state row url ]
+
+abbrev by_asking : State → List ℕ → Option ClientRow → Outcome
+by_asking state text found =
+    elim found [ None ↦ answered state answer.NoClient | Some row ↦ by_url state row (resolved text row.url) ]
+
+-- the registration that a client looks up
+pub looked_up : (state : State) (n : ℕ) (row : ClientRow) (text url : List ℕ) → client_row state n ≡ Some row → resolved text row.url ≡ Some url
+    → get_registration state n text ≡ registration_at state row url
+looked_up state n row text url here is = ap (by_asking state text) here ∙ ap (by_url state row) is

@@ -1,6 +1,7 @@
 pub mod Active
 pub mod Asking
 pub mod Awaiting
+pub mod Given
 pub mod Listed
 pub mod Named
 pub mod Opening

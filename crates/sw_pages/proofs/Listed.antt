@@ -7,19 +7,17 @@ use Rattle.std.specs.List.{range_with_len}
 use Rattle.std.proofs.lemmas.Bool.Decides.{nat_tests}
 use Rattle.std.proofs.lemmas.List.{append_assoc, map-append}
 use Rattle.std.proofs.lemmas.List.Elements.{filter-append}
-use Rattle.sw_client.specs.Table as clients
 use Rattle.sw_data.specs.declared.answers.Answer.TheVariants as answer
 use Rattle.sw_data.specs.declared.rows.ClientRow.{ClientRow}
 use Rattle.sw_data.specs.declared.rows.RegistrationRow.{RegistrationRow}
-use Rattle.sw_reg.specs.Table as registrations
 use Rattle.sw_rules.specs.Clients.{get_registrations}
 use Rattle.sw_rules.specs.Rows.{client_row}
 use Rattle.sw_rules.specs.State.{State}
 use Rattle.sw_rules.specs.Told.{Outcome, answered}
 use Rattle.sw_scope.specs.Scopes.{Scopes}
-use Rattle.sw_tables.specs.Lent.{Rest, lent, shown_registration}
+use Rattle.sw_state.specs.Hosted.{Hosted, rest_of, state_of}
+use Rattle.sw_tables.specs.Lent.{Rest, shown_registration}
 use Rattle.sw_tables.specs.Linked.{ArePlaces}
-use Rattle.sw_worker.specs.Table as workers
 use Rattle.sw_pages.specs.Listed.{is_listed}
 
 module _ {X : Type 0} (number : X → ℕ) where
@@ -66,9 +64,9 @@ by_client state o =
     ]
 
 -- the registrations of a client that is there
-pub listed_here : (scopes : Scopes) (of_workers : workers.Table) (of_registrations : registrations.Table) (of_clients : clients.Table) (rest : Rest) (n : ℕ) (row : ClientRow) (found : List ℕ)
-    → Some row ≡ client_row (lent scopes of_workers of_registrations of_clients rest) n → found ≡ map (λ row. row.number) (filter (is_listed scopes row.key) of_registrations.rows)
-    → get_registrations (lent scopes of_workers of_registrations of_clients rest) n ≡ answered (lent scopes of_workers of_registrations of_clients rest) (answer.Registrations found)
-listed_here scopes of_workers of_registrations of_clients rest n row found here is =
-    let state = lent scopes of_workers of_registrations of_clients rest in
-    sym (ap (by_client state) here) ∙ ap (λ numbers. answered state (answer.Registrations numbers)) (listed_shown scopes rest row.key of_registrations.rows ∙ sym is)
+pub listed_here : (host : Hosted) (n : ℕ) (row : ClientRow) (found : List ℕ)
+    → Some row ≡ client_row (state_of host) n → found ≡ map (λ row. row.number) (filter (is_listed host.scopes row.key) host.registrations.rows)
+    → get_registrations (state_of host) n ≡ answered (state_of host) (answer.Registrations found)
+listed_here host n row found here is =
+    sym (ap (by_client (state_of host)) here)
+    ∙ ap (λ numbers. answered (state_of host) (answer.Registrations numbers)) (listed_shown host.scopes (rest_of host) row.key host.registrations.rows ∙ sym is)

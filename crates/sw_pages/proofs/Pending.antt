@@ -1,31 +1,31 @@
 -- Fetch events: the active worker on which one begins, and the worker of one that is pending.
-use Rattle.std.proofs.Common.{◌≡◌, ◌∙◌, ◌&&◌, ◌==◌, ℕ, Bool, true, false, not, List, [], ◌∷◌, Option, Some, None, is_some, map, option_map, option_and_then, All, subst, if◌then◌else◌, refl, ap, sym, arith}
+use Rattle.std.proofs.Common.{◌≡◌, ◌∙◌, ◌&&◌, ◌==◌, ℕ, Bool, true, false, not, List, [], ◌∷◌, Option, Some, None, is_some, option_map, option_and_then, All, subst, if◌then◌else◌, refl, ap, sym, arith}
 use Rattle.std.specs.Prelude.{find}
 use Rattle.std.proofs.lemmas.List.Elements.{All-head, All-tail}
-use Rattle.std.specs.List.{list_all, list_any}
+use Rattle.std.proofs.lemmas.List.{length-map}
+use Rattle.std.proofs.lemmas.Simd.{map-map}
+use Rattle.std.specs.List.{list_all, list_any, range_with_len}
 use Rattle.std.specs.Option.{option_map_or}
-use Rattle.sw_client.specs.Table as clients
-use Rattle.sw_client.specs.Table.{clients_of}
 use Rattle.sw_data.specs.declared.answers.Answer.TheVariants as answer
 use Rattle.sw_data.specs.declared.rows.ClientRow.{ClientRow}
 use Rattle.sw_data.specs.declared.rows.WorkerRow.{WorkerRow}
 use Rattle.sw_data.specs.declared.workers.WorkerState.{WorkerState}
 use Rattle.sw_data.specs.declared.workers.WorkerState.TheVariants as worker_state
-use Rattle.sw_reg.specs.Table as registrations
+use Rattle.sw_laws.specs.Coherent.{Coherent, is_controlled}
 use Rattle.sw_rules.specs.Clients.{add_event, begin, begin_on, end, end_event, remove_event}
 use Rattle.sw_rules.specs.Rows as rules
 use Rattle.sw_rules.specs.Rows.{client_row, event_row, is_active, is_client, worker_row}
 use Rattle.sw_rules.specs.State.{State, FetchEvent, Worker}
 use Rattle.sw_rules.specs.Told.{Outcome, answered}
-use Rattle.sw_scope.specs.Scopes.{Scopes}
+use Rattle.sw_state.proofs.Same.{same_joined, same_refl}
+use Rattle.sw_state.specs.Hosted.{Hosted, IsJoined, SameRows, state_of}
 use Rattle.sw_tables.proofs.Lookups.{worker_shown}
 use Rattle.sw_tables.proofs.Moves.{there}
 use Rattle.sw_tables.proofs.Rows.{any_at, any_map, found_number}
-use Rattle.sw_tables.specs.Lent.{Rest, lent, shown_worker}
-use Rattle.sw_tables.specs.Linked.{ArePlaces, registration_of}
+use Rattle.sw_tables.specs.Lent.{shown_worker}
+use Rattle.sw_tables.specs.Linked.{registration_of}
 use Rattle.sw_worker.specs.Table as workers
 use Rattle.sw_worker.specs.Table.{event_at, has_worker, is_activated, is_event, is_pending, worker_at}
-use Rattle.sw_pages.specs.Controlled.{AreControlled, is_controlled}
 
 -- ---- controllers
 
@@ -34,13 +34,14 @@ found_passes test p [] x all is = absurd cc
 found_passes test p (y ∷ ys) x all is = grind (arith, found_passes test p ys x)
 
 -- the controller of a client is active
-pub controller_active : (of_workers : workers.Table) (of_clients : clients.Table) (n w : ℕ) (row : ClientRow) → ArePlaces (λ row. row.number) of_workers.rows → AreControlled of_workers of_clients
-    → Some row ≡ find (is_client n) (clients_of of_clients) → row.controller ≡ Some w → has_worker (λ row. is_active row.state) w of_workers.rows ≡ true
-controller_active of_workers of_clients n w row are controlled here is =
-    let active = found_passes (is_client n) (is_controlled (map shown_worker of_workers.rows)) (clients_of of_clients) row controlled here in
-    sym (any_at (λ row. row.number) (λ row. is_active row.state) w of_workers.rows are)
-    ∙ sym (any_map (λ (row : Worker). row.number == w && is_active row.state) shown_worker of_workers.rows)
-    ∙ sym (ap (λ o. option_map_or (rules.has_worker (λ row. is_active row.state) (map shown_worker of_workers.rows)) o true) is)
+pub controller_active : (host : Hosted) (n w : ℕ) (row : ClientRow) → Coherent (state_of host)
+    → Some row ≡ client_row (state_of host) n → row.controller ≡ Some w → has_worker (λ row. is_active row.state) w host.workers.rows ≡ true
+controller_active host n w row sound here is =
+    let are = sym (map-map (λ (row : Worker). row.number) shown_worker host.workers.rows) ∙ (sound.workers.numbers ∙ ap (range_with_len 0) (length-map host.workers.rows shown_worker)) in
+    let active = found_passes (is_client n) (is_controlled (state_of host).workers) (state_of host).clients row sound.clients.controllers here in
+    sym (any_at (λ row. row.number) (λ row. is_active row.state) w host.workers.rows are)
+    ∙ sym (any_map (λ (row : Worker). row.number == w && is_active row.state) shown_worker host.workers.rows)
+    ∙ sym (ap (λ o. option_map_or (rules.has_worker (λ row. is_active row.state) (state_of host).workers) o true) is)
     ∙ active
 
 -- ---- a fetch event that begins
@@ -70,26 +71,45 @@ chosen state event activating pending worker =
     else if pending then Some (answered state answer.InUse)
     else Some (record { answer = answer.Worker worker; told = add_event state event worker })
 
-module _ (of_workers : workers.Table) (worker event : ℕ) (active : has_worker (λ row. is_active row.state) worker of_workers.rows ≡ true) where
-  module _ (scopes : Scopes) (of_registrations : registrations.Table) (of_clients : clients.Table) (rest : Rest) where
-    abbrev state : State
-    state = lent scopes of_workers of_registrations of_clients rest
+-- what a fetch event comes to, by what is found of its worker and its number
+pub begins : (host : Hosted) (worker event : ℕ) → has_worker (λ row. is_active row.state) worker host.workers.rows ≡ true
+    → (activated pending : Bool) → has_worker is_activated worker host.workers.rows ≡ activated → is_pending event host.workers.events ≡ pending
+    → chosen (state_of host) event (not activated) pending worker ≡ begin_on (state_of host) event (worker_row (state_of host) worker)
+begins host worker event active activated pending is_it there_is =
+    let state = state_of host in
+    let found = there (λ row. is_active row.state) (worker_at worker host.workers.rows) active in
+    let own = found_number (λ row. row.number) worker host.workers.rows found.0 found.1 in
+    let shown : worker_row state worker ≡ Some (shown_worker found.0) = worker_shown worker host.workers.rows ∙ ap (option_map shown_worker) found.1 in
+    let known : is_activated_state found.0.state ≡ activated = sym (ap (λ o. option_map_or is_activated o false) found.1) ∙ is_it in
+    let first : is_activating_state found.0.state ≡ not activated = either found.0.state found.2 ∙ ap not known in
+    let second : is_some (event_row state event) ≡ pending = any_found (is_event event) host.workers.events ∙ there_is in
+    sym
+    (ap (begin_on state event) shown
+    ∙ ap (λ a. chosen state event a (is_some (event_row state event)) found.0.number) first
+    ∙ ap (λ b. chosen state event (not activated) b found.0.number) second
+    ∙ ap (chosen state event (not activated) pending) own)
 
-    -- what a fetch event comes to, by what is found of its worker and its number
-    pub begins : (activated pending : Bool) → has_worker is_activated worker of_workers.rows ≡ activated → is_pending event of_workers.events ≡ pending
-        → chosen state event (not activated) pending worker ≡ begin_on state event (worker_row state worker)
-    begins activated pending is_it there_is =
-        let found = there (λ row. is_active row.state) (worker_at worker of_workers.rows) active in
-        let own = found_number (λ row. row.number) worker of_workers.rows found.0 found.1 in
-        let shown : worker_row state worker ≡ Some (shown_worker found.0) = worker_shown worker of_workers.rows ∙ ap (option_map shown_worker) found.1 in
-        let known : is_activated_state found.0.state ≡ activated = sym (ap (λ o. option_map_or is_activated o false) found.1) ∙ is_it in
-        let first : is_activating_state found.0.state ≡ not activated = either found.0.state found.2 ∙ ap not known in
-        let second : is_some (event_row state event) ≡ pending = any_found (is_event event) of_workers.events ∙ there_is in
-        sym
-        (ap (begin_on state event) shown
-        ∙ ap (λ a. chosen state event a (is_some (event_row state event)) found.0.number) first
-        ∙ ap (λ b. chosen state event (not activated) b found.0.number) second
-        ∙ ap (chosen state event (not activated) pending) own)
+-- more room for fetch events leaves the rows
+pub roomy : (host : Hosted) (more : workers.Table) → more ≡ record host.workers { spare_events = more.spare_events } → SameRows host (record host { workers = more })
+roomy host more is =
+    let kept = same_refl host in
+    record {
+      scopes = kept.scopes;
+      jobs = kept.jobs;
+      workers = ap (λ (table : workers.Table). table.rows) is;
+      events = ap (λ (table : workers.Table). table.events) is;
+      registrations = kept.registrations;
+      clients = kept.clients;
+      known = kept.known;
+      caches = kept.caches;
+      preloads = kept.preloads;
+      promises = kept.promises;
+      tasks = kept.tasks;
+      draws = kept.draws;
+    }
+
+pub stays_joined : (host : Hosted) (more : workers.Table) → more ≡ record host.workers { spare_events = more.spare_events } → IsJoined host → IsJoined (record host { workers = more })
+stays_joined host more is = same_joined host (record host { workers = more }) (roomy host more is)
 
 abbrev by_client : State → ℕ → Option ClientRow → Option Outcome
 by_client state event o =
@@ -128,10 +148,8 @@ worker_there of_workers n event pending is gone =
     absurd cc
 
 -- the registration of a worker is the state's
-registration_shown : (scopes : Scopes) (of_workers : workers.Table) (of_registrations : registrations.Table) (of_clients : clients.Table) (rest : Rest) (w : ℕ)
-    → rules.registration_of (lent scopes of_workers of_registrations of_clients rest) w ≡ registration_of of_workers.rows w
-registration_shown scopes of_workers of_registrations of_clients rest w =
-    ap (option_map (λ row. row.registration)) (worker_shown w of_workers.rows) ∙ plain (worker_at w of_workers.rows)
+registration_shown : (host : Hosted) (w : ℕ) → rules.registration_of (state_of host) w ≡ registration_of host.workers.rows w
+registration_shown host w = ap (option_map (λ row. row.registration)) (worker_shown w host.workers.rows) ∙ plain (worker_at w host.workers.rows)
   where
     plain : (o : Option WorkerRow) → option_map (λ row. row.registration) (option_map shown_worker o) ≡ option_map (λ row. row.registration) o
     plain None = refl
@@ -152,13 +170,11 @@ by_event state n o =
     ]
 
 -- a fetch event that is pending ends
-pub end_here : (scopes : Scopes) (of_workers : workers.Table) (of_registrations : registrations.Table) (of_clients : clients.Table) (rest : Rest) (n worker registration : ℕ)
-    → Some worker ≡ option_map (λ found. found.worker) (event_at n of_workers.events) → Some registration ≡ registration_of of_workers.rows worker
-    → end (lent scopes of_workers of_registrations of_clients rest) n
-    ≡ record { answer = answer.Ok; told = end_event (lent scopes of_workers of_registrations of_clients rest) n registration }
-end_here scopes of_workers of_registrations of_clients rest n worker registration there_is own =
-    let state = lent scopes of_workers of_registrations of_clients rest in
-    let found = event_there worker (event_at n of_workers.events) there_is in
-    ap (by_event state n) found.1
-    ∙ ap (by_registration state n)
-    (registration_shown scopes of_workers of_registrations of_clients rest found.0.worker ∙ ap (registration_of of_workers.rows) found.2 ∙ sym own)
+pub end_here : (host : Hosted) (n worker registration : ℕ)
+    → Some worker ≡ option_map (λ found. found.worker) (event_at n host.workers.events) → Some registration ≡ registration_of host.workers.rows worker
+    → end (state_of host) n ≡ record { answer = answer.Ok; told = end_event (state_of host) n registration }
+end_here host n worker registration there_is own =
+    let found = event_there worker (event_at n host.workers.events) there_is in
+    ap (by_event (state_of host) n) found.1
+    ∙ ap (by_registration (state_of host) n)
+    (registration_shown host found.0.worker ∙ ap (registration_of host.workers.rows) found.2 ∙ sym own)

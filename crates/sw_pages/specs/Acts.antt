@@ -1,5 +1,5 @@
 -- What an action of a page that was worked out does to a state (own).
-use Rattle.std.specs.Prelude.{map, Option, Some, None}
+use Rattle.std.specs.Prelude.{◌≡◌, map, Option, Some, None}
 use Rattle.sw_data.specs.declared.events.Who.{Who}
 use Rattle.sw_ledgers.specs.declared.promises.Awaited.{Awaited}
 use Rattle.sw_ledgers.specs.Promised.{meaning}
@@ -8,6 +8,7 @@ use Rattle.sw_rules.specs.Jobs.{promise, schedule}
 use Rattle.sw_rules.specs.Preloading.{set_preload}
 use Rattle.sw_rules.specs.State.{State}
 use Rattle.sw_rules.specs.Told.{Told, Outcome, followed, quiet}
+use Rattle.sw_state.specs.Hosted.{Hosted, state_of}
 use Rattle.sw_pages.specs.declared.worked.PageAct.{PageAct}
 use Rattle.sw_pages.specs.declared.worked.PageAct.TheVariants as act
 use Rattle.sw_pages.specs.declared.worked.Worked.{Worked}
@@ -36,3 +37,11 @@ outcome_of who worked state = record {
   answer = worked.answer;
   told = promised who worked.awaited (told_by worked.act state);
 }
+
+-- own: an action comes to what was worked out, whoever makes it
+abbrev pub Gives : (State → Who → Outcome) → Worked → Hosted → Type 0
+Gives action worked host = (who : Who) → action (state_of host) who ≡ outcome_of who worked (state_of host)
+
+-- own: the same for an action that may not be enabled, where it is
+abbrev pub MayGive : (State → Who → Option Outcome) → Worked → Hosted → Type 0
+MayGive action worked host = (who : Who) → action (state_of host) who ≡ Some (outcome_of who worked (state_of host))

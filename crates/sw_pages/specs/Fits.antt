@@ -4,10 +4,12 @@ use Rattle.sw_client.specs.Table as clients
 use Rattle.sw_client.specs.Table.{clients_of}
 use Rattle.sw_pages.specs.declared.worked.PageAct.{PageAct}
 use Rattle.sw_pages.specs.declared.worked.PageAct.TheVariants as act
+use Rattle.sw_pages.specs.declared.worked.Worked.{Worked}
 use Rattle.sw_queue.specs.Tables as queues
 use Rattle.sw_reg.specs.Table as registrations
 use Rattle.sw_reg.specs.Table.{is_there}
 use Rattle.sw_rules.specs.Rows.{is_active, is_client}
+use Rattle.sw_state.specs.Hosted.{Hosted}
 use Rattle.sw_tables.specs.Linked.{IsNoted, registration_of}
 use Rattle.sw_worker.specs.Fits.{FitsEvent}
 use Rattle.sw_worker.specs.Table as workers
@@ -32,3 +34,7 @@ FitsPage (act.End event registration) of_workers of_registrations of_clients of_
     ≡ Some registration
 FitsPage (act.Preload registration on text) of_workers of_registrations of_clients of_jobs =
     is_there registration of_registrations.rows ≡ true
+
+-- own: what was worked out may be done on a host without memory
+abbrev pub FitsHost : Worked → Hosted → Type 0
+FitsHost worked host = FitsPage worked.act host.workers host.registrations host.clients host.queues

@@ -1,13 +1,11 @@
 -- The jobs that actions make, and what an action comes to where it makes one.
-use Rattle.std.specs.Prelude.{◌≡◌, ℕ, true, List, [], length, is_some, Option, Some, None, Result, Ok, Err}
+use Rattle.std.specs.Prelude.{◌≡◌, ℕ, true, List, [], length, is_some, Option, Some, None, Result, Ok, Err, if◌then◌else◌}
 use Rattle.std.specs.Option.{unwrap_or}
-use Rattle.sw_client.specs.Table as clients
 use Rattle.sw_data.specs.declared.answers.Answer.{Answer}
 use Rattle.sw_data.specs.declared.answers.Answer.TheVariants as answer
 use Rattle.sw_data.specs.declared.answers.Cause.{Cause}
 use Rattle.sw_data.specs.declared.answers.Fault.{Fault}
 use Rattle.sw_data.specs.declared.answers.Settlement.TheVariants as settlement
-use Rattle.sw_data.specs.declared.events.Who.{Who}
 use Rattle.sw_data.specs.declared.recordings.Registering.{Registering}
 use Rattle.sw_data.specs.declared.rows.ClientRow.{ClientRow}
 use Rattle.sw_data.specs.declared.rows.Job.{Job}
@@ -19,34 +17,12 @@ use Rattle.sw_data.specs.declared.workers.Kind.TheVariants as kind
 use Rattle.sw_data.specs.declared.workers.Mode.TheVariants as mode
 use Rattle.sw_data.specs.Addresses.{AddressFault, scope_address, script_address}
 use Rattle.sw_ledgers.specs.declared.promises.Awaited.TheVariants as awaited
-use Rattle.sw_queue.specs.Tables as queues
 use Rattle.sw_queue.specs.Tables.{joined_in}
-use Rattle.sw_reg.specs.Table as registrations
 use Rattle.sw_rules.specs.Jobs.{new_job_row}
 use Rattle.sw_rules.specs.Registering.{address_cause}
-use Rattle.sw_rules.specs.State.{State}
-use Rattle.sw_rules.specs.Told.{Outcome, type_error}
-use Rattle.sw_scope.specs.Scopes.{Scopes}
-use Rattle.sw_tables.specs.Happened.{with_jobs}
-use Rattle.sw_tables.specs.Lent.{Rest, lent}
-use Rattle.sw_worker.specs.Table as workers
-use Rattle.sw_pages.specs.Acts.{outcome_of}
-use Rattle.sw_pages.specs.Fits.{FitsPage}
+use Rattle.sw_rules.specs.Told.{type_error}
 use Rattle.sw_pages.specs.declared.worked.PageAct.TheVariants as act
 use Rattle.sw_pages.specs.declared.worked.Worked.{Worked}
-
--- own: an action comes to what was worked out, with these jobs and clients, whatever the rest of the state is
-abbrev pub JobsGive : (State → Who → Outcome) → Worked → List JobRow → clients.Table → Type 0
-JobsGive action worked jobs of_clients =
-    (scopes : Scopes) (of_workers : workers.Table) (of_registrations : registrations.Table) (rest : Rest) (who : Who)
-    → action (lent scopes of_workers of_registrations of_clients (with_jobs jobs rest)) who
-    ≡ outcome_of who worked (lent scopes of_workers of_registrations of_clients (with_jobs jobs rest))
-
--- own: what was worked out fits these jobs, whatever the other tables hold
-abbrev pub FitsJobs : Worked → queues.Table → Type 0
-FitsJobs worked of_jobs =
-    (of_workers : workers.Table) (of_registrations : registrations.Table) (of_clients : clients.Table)
-    → FitsPage worked.act of_workers of_registrations of_clients of_jobs
 
 -- own: the answer for a job that joined this one, or none
 abbrev pub job_answer : ℕ → Option ℕ → Answer
@@ -56,21 +32,23 @@ job_answer number leader =
       | Some leader ↦ answer.Joined number leader
     ]
 
--- own: a job is scheduled behind these
+-- own: a job is scheduled behind these; where it has a client, the promise of the action waits for it
 abbrev pub schedules : List JobRow → Job → Worked
 schedules jobs job = record {
   answer = job_answer job.number (joined_in jobs job);
   act = act.Schedule (new_job_row job (joined_in jobs job));
-  awaited = None;
+  awaited = if job.has_client then Some (awaited.Job job.number) else None;
 }
 
--- own: the same, and the promise of the action waits for it
-abbrev pub awaits : List JobRow → Job → Worked
-awaits jobs job = record {
-  answer = job_answer job.number (joined_in jobs job);
-  act = act.Schedule (new_job_row job (joined_in jobs job));
-  awaited = Some (awaited.Job job.number);
-}
+-- own: what an action comes to by the job that it makes, or without one
+abbrev pub comes_to : List JobRow → Result Job Worked → Worked
+comes_to jobs (Ok job) = schedules jobs job
+comes_to jobs (Err worked) = worked
+
+-- own: the job has the next number; without one nothing is done
+abbrev pub IsNext : List JobRow → Result Job Worked → Type 0
+IsNext jobs (Ok job) = job.number ≡ length jobs
+IsNext jobs (Err worked) = worked.act ≡ act.Nothing
 
 -- own: a fault, which the promise of the action gets
 abbrev pub rejects_with : Fault → Worked
@@ -101,30 +79,21 @@ register_job number client asked script scope = record {
   referrer = client.url;
 }
 
--- own: the job of a registration, or the cause for which its scope is refused
-abbrev pub scoped_job : ℕ → ClientRow → Registering → List ℕ → Result (List ℕ) Cause → Result Job Cause
+-- own: the job of a registration, or what it comes to where its scope is refused
+abbrev pub scoped_job : ℕ → ClientRow → Registering → List ℕ → Result (List ℕ) Cause → Result Job Worked
 scoped_job number client asked script (Ok scope) = Ok (register_job number client asked script scope)
-scoped_job number client asked script (Err why) = Err why
+scoped_job number client asked script (Err why) = Err (rejects_with (type_error why))
 
--- own: the job of a registration, or the cause for which its script or its scope is refused
-abbrev pub scripted_job : ℕ → ClientRow → Registering → Result (List ℕ) Cause → Result Job Cause
+-- own: the job of a registration, or what it comes to where its script or its scope is refused
+abbrev pub scripted_job : ℕ → ClientRow → Registering → Result (List ℕ) Cause → Result Job Worked
 scripted_job number client asked (Ok script) =
     scoped_job number client asked script (with_cause (scope_address asked.scope script client.url))
-scripted_job number client asked (Err why) = Err why
+scripted_job number client asked (Err why) = Err (rejects_with (type_error why))
 
--- own: the job of a registration, or the cause for which an address of it is refused
-abbrev pub asked_job : ℕ → ClientRow → Registering → Result Job Cause
+-- own: the job of an open client's registration, or what it comes to where an address of it is refused
+abbrev pub asked_job : ℕ → ClientRow → Registering → Result Job Worked
 asked_job number client asked =
     scripted_job number client asked (with_cause (script_address asked.script client.url))
-
--- own: a job waits for the action's promise, or the promise gets this cause
-abbrev pub awaits_or_rejects : List JobRow → Result Job Cause → Worked
-awaits_or_rejects jobs (Ok job) = awaits jobs job
-awaits_or_rejects jobs (Err why) = rejects_with (type_error why)
-
--- own: what an open client's registration comes to, behind these jobs
-abbrev pub registers : List JobRow → ClientRow → Registering → Worked
-registers jobs client asked = awaits_or_rejects jobs (asked_job (length jobs) client asked)
 
 -- the job of an update of a registration whose newest worker is this one, for a client of this address, or for none (Service Workers, Appendix A, "Update" and "Soft Update")
 abbrev pub update_job : ℕ → RegistrationRow → WorkerRow → Option (List ℕ) → Job

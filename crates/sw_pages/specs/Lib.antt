@@ -1,8 +1,6 @@
 pub mod Active
 pub mod Acts
-pub mod Controlled
 pub mod Fits
 pub mod Jobs
 pub mod Listed
 pub mod Named
-pub mod Preload

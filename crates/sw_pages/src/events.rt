@@ -1,24 +1,20 @@
 //! Fetch events that begin and end (Service Workers, Appendix A, "Handle Fetch").
 
-ghost use Rattle.std.specs.Prelude.{◌≡◌, All, true, IfOk, IfSome, option_map};
-ghost use Rattle.sw_client.specs.Table as clients;
+ghost use Rattle.std.specs.Prelude.{◌≡◌, true, IfOk, IfSome, IsSome, option_map};
 ghost use Rattle.sw_data.specs.declared.events.Who.{Who};
-ghost use Rattle.sw_pages.specs.Acts.{outcome_of};
-ghost use Rattle.sw_pages.specs.Controlled.{AreControlled};
-ghost use Rattle.sw_pages.specs.Fits.{FitsPage};
-ghost use Rattle.sw_queue.specs.Tables as queues;
-ghost use Rattle.sw_reg.specs.Table as registrations;
+ghost use Rattle.sw_laws.specs.Coherent.{Coherent};
+ghost use Rattle.sw_pages.specs.Acts.{Gives, MayGive, outcome_of};
+ghost use Rattle.sw_pages.specs.Fits.{FitsHost};
 ghost use Rattle.sw_rules.specs.Clients as rules;
 ghost use Rattle.sw_rules.specs.Rows.{is_active, worker_row};
-ghost use Rattle.sw_scope.specs.Scopes.{Scopes};
-ghost use Rattle.sw_tables.specs.Lent.{Rest, lent};
-ghost use Rattle.sw_tables.specs.Linked.{ArePlaces, registration_of};
-ghost use Rattle.sw_worker.specs.Table.{has_worker, is_activated};
+ghost use Rattle.sw_state.specs.Hosted.{SameRows, state_of};
+ghost use Rattle.sw_tables.specs.Linked.{registration_of};
+ghost use Rattle.sw_worker.specs.Table.{has_worker};
 
 use crate::worked::{PageAct, Worked, answered};
-use sw_client::Clients;
 use sw_data::{Answer, NoMemory};
-use sw_worker::{BeginFault, NewEvent, Workers};
+use sw_state::HostTables;
+use sw_worker::{BeginFault, NewEvent};
 
 // What a fetch event comes to that begins.
 fn begun(new: NewEvent, worker: u32) -> Worked
@@ -33,81 +29,69 @@ fn begun(new: NewEvent, worker: u32) -> Worked
 }
 
 // A fetch event begins on an active worker, unless that is activating.
-fn begin_on(worker: u32, event: u32, workers: &mut Workers) -> Result<Option<Worked>, NoMemory>
-    requires { has_worker (λ row. is_active row.state) worker workers.old.rows ≡ true }
-    ensures rows { workers.new.rows ≡ workers.old.rows }
-    ensures events { workers.new.events ≡ workers.old.events }
-    ensures fits { IfOk result (λ answer. IfSome answer (λ worked.
-        (of_registrations : registrations.Table) (of_clients : clients.Table)
-        (of_jobs : queues.Table)
-        → FitsPage worked.act workers.new of_registrations of_clients of_jobs)) }
-    ensures outcome { IfOk result (λ answer. (who : Who) (scopes : Scopes)
-        (of_registrations : registrations.Table) (of_clients : clients.Table) (rest : Rest)
-        → option_map (λ worked. outcome_of who worked
-        (lent scopes workers.old of_registrations of_clients rest)) answer
-        ≡ rules.begin_on (lent scopes workers.old of_registrations of_clients rest) event
-        (worker_row (lent scopes workers.old of_registrations of_clients rest) worker)) }
+fn begin_on(host: &mut HostTables, worker: u32, event: u32) -> Result<Option<Worked>, NoMemory>
+    requires { has_worker (λ row. is_active row.state) worker host.old.workers.rows ≡ true }
+    ensures same { SameRows host.old host.new }
+    ensures fits { IfOk result (λ answer. IfSome answer (λ worked. FitsHost worked host.new)) }
+    ensures outcome { IfOk result (λ answer. (who : Who)
+        → option_map (λ worked. outcome_of who worked (state_of host.old)) answer
+        ≡ rules.begin_on (state_of host.old) event (worker_row (state_of host.old) worker)) }
 {
-    match workers.begin_row(worker, event) {
-        Ok(new) => Ok(Some(begun(new, worker))),
-        Err(BeginFault::NotActive) => Ok(None),
-        Err(BeginFault::InUse) => Ok(Some(answered(Answer::InUse))),
-        Err(BeginFault::NoMemory) => Err(NoMemory),
-    }
+    let new = match host.workers.begin_row(worker, event) {
+        Ok(new) => new,
+        Err(BeginFault::NotActive) => return Ok(None),
+        Err(BeginFault::InUse) => return Ok(Some(answered(Answer::InUse))),
+        Err(BeginFault::NoMemory) => return Err(NoMemory),
+    };
+    Ok(Some(begun(new, worker)))
 }
 
-/// A fetch event of a client begins on its controller. None where the controller is activating.
-pub fn begin(
-    client: u32,
-    event: u32,
-    workers: &mut Workers,
-    clients: &Clients,
-) -> Result<Option<Worked>, NoMemory>
-    requires places { ArePlaces (λ row. row.number) workers.old.rows }
-    requires controlled { AreControlled workers.old clients.now }
-    ensures rows { workers.new.rows ≡ workers.old.rows }
-    ensures events { workers.new.events ≡ workers.old.events }
-    ensures fits { IfOk result (λ answer. IfSome answer (λ worked.
-        (of_registrations : registrations.Table) (of_jobs : queues.Table)
-        → FitsPage worked.act workers.new of_registrations clients.now of_jobs)) }
-    ensures outcome { IfOk result (λ answer. (who : Who) (scopes : Scopes)
-        (of_registrations : registrations.Table) (rest : Rest)
-        → option_map (λ worked. outcome_of who worked
-        (lent scopes workers.old of_registrations clients.now rest)) answer
-        ≡ rules.begin (lent scopes workers.old of_registrations clients.now rest) client event) }
+// A fetch event of a client begins on its controller. None where the controller is activating.
+fn begin_where(host: &mut HostTables, client: u32, event: u32) -> Result<Option<Worked>, NoMemory>
+    requires { Coherent (state_of host.old) }
+    ensures same { SameRows host.old host.new }
+    ensures fits { IfOk result (λ answer. IfSome answer (λ worked. FitsHost worked host.new)) }
+    ensures outcome { IfOk result (λ answer. (who : Who)
+        → option_map (λ worked. outcome_of who worked (state_of host.old)) answer
+        ≡ rules.begin (state_of host.old) client event) }
 {
-    let Some(row) = clients.row(client) else {
+    let Some(row) = host.client_row(client) else {
         return Ok(Some(answered(Answer::NoClient)));
     };
     match row.controller {
-        Some(worker) => begin_on(worker, event, workers),
+        Some(worker) => begin_on(host, worker, event),
         None => Ok(Some(answered(Answer::NoController))),
     }
 }
 
-// The registration of a worker.
-fn registration_of(worker: u32, workers: &Workers) -> Option<u32>
-    ensures { result ≡ registration_of workers.now.rows worker }
+/// A fetch event of a client begins on its controller, which isn't activating.
+pub fn begin(host: &mut HostTables, client: u32, event: u32) -> Result<Worked, NoMemory>
+    requires coherent { Coherent (state_of host.old) }
+    requires enabled { IsSome (rules.begin (state_of host.old) client event) }
+    ensures same { SameRows host.old host.new }
+    ensures fits { IfOk result (λ worked. FitsHost worked host.new) }
+    ensures gives { IfOk result (λ worked. MayGive (λ state who.
+        rules.begin state client event) worked host.old) }
 {
-    Some(workers.row(worker)?.registration)
+    Ok(begin_where(host, client, event)?.unwrap())
+}
+
+// The registration of a worker.
+fn registration_of(host: &HostTables, worker: u32) -> Option<u32>
+    ensures { result ≡ registration_of host.now.workers.rows worker }
+{
+    Some(host.workers.row(worker)?.registration)
 }
 
 /// A fetch event ends. It takes no memory.
-pub fn end(event: u32, workers: &Workers) -> Worked
-    requires { All (λ event. has_worker is_activated event.worker workers.now.rows ≡ true)
-        workers.now.events }
-    ensures fits { (of_registrations : registrations.Table) (of_clients : clients.Table)
-        (of_jobs : queues.Table)
-        → FitsPage result.act workers.now of_registrations of_clients of_jobs }
-    ensures outcome { (who : Who) (scopes : Scopes) (of_registrations : registrations.Table)
-        (of_clients : clients.Table) (rest : Rest)
-        → rules.end (lent scopes workers.now of_registrations of_clients rest) event
-        ≡ outcome_of who result (lent scopes workers.now of_registrations of_clients rest) }
+pub fn end(host: &HostTables, event: u32) -> Worked
+    ensures fits { FitsHost result host.now }
+    ensures gives { Gives (λ state who. rules.end state event) result host.now }
 {
-    let Some(worker) = workers.worker_of(event) else {
+    let Some(worker) = host.workers.worker_of(event) else {
         return answered(Answer::NoEvent);
     };
-    match registration_of(worker, workers) {
+    match registration_of(host, worker) {
         Some(registration) => Worked {
             answer: Answer::Ok,
             act: PageAct::End {

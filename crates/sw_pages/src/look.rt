@@ -1,39 +1,33 @@
 //! What pages look up: registrations by address, and what their promises came to.
 
-ghost use Rattle.std.specs.Prelude.{◌≡◌, ◌++◌, ℕ, None, IfOk, IfSome, OnOk, filter, map, option_map};
+ghost use Rattle.std.specs.Prelude.{◌≡◌, ◌++◌, ℕ, None, Some, IfOk, IfSome, IsSome, OnOk, filter, map, option_map};
 ghost use Rattle.std.specs.Option.{option_to_list};
-ghost use Rattle.sw_client.specs.Table as clients;
 ghost use Rattle.sw_data.specs.declared.answers.Fault.TheVariants as fault;
-ghost use Rattle.sw_data.specs.declared.events.Who.{Who};
 ghost use Rattle.sw_data.specs.declared.events.Who.TheVariants as maker;
 ghost use Rattle.sw_ledgers.specs.Promised.{meaning};
-ghost use Rattle.sw_pages.specs.Active.{IsOwned, active_match};
-ghost use Rattle.sw_pages.specs.Acts.{outcome_of};
+ghost use Rattle.sw_pages.specs.Active.{active_match};
+ghost use Rattle.sw_pages.specs.Acts.{Gives, MayGive, outcome_of};
+ghost use Rattle.sw_pages.specs.Fits.{FitsHost};
 ghost use Rattle.sw_pages.specs.Listed.{is_listed};
-ghost use Rattle.sw_reg.specs.Table as registrations;
 ghost use Rattle.sw_reg.specs.Table.{registration_at};
 ghost use Rattle.sw_rules.specs.Clients as rules;
-ghost use Rattle.sw_rules.specs.Jobs.{awaited_value};
+ghost use Rattle.sw_rules.specs.Jobs.{awaited_value, promised_value};
 ghost use Rattle.sw_rules.specs.Rows.{active_worker_number};
-ghost use Rattle.sw_scope.specs.Scopes.{Scopes};
-ghost use Rattle.sw_tables.specs.Lent.{Rest, lent};
-ghost use Rattle.sw_tables.specs.Linked.{ArePlaces, HasScopes, HasSlots};
-ghost use Rattle.sw_worker.specs.Table as workers;
+ghost use Rattle.sw_rules.specs.Told as told;
+ghost use Rattle.sw_state.specs.Hosted.{IsOwned, state_of};
+ghost use Rattle.sw_tables.specs.Linked.{ArePlaces};
 
 use crate::worked::{PageAct, Worked, answered};
 use std::alloc::Global;
-use sw_client::Clients;
 use sw_data::{
     Answer, Cause, ClientRow, Fault, Items, NoMemory, RegistrationRow, SecurityCause, Settlement,
     Slot, Text,
 };
-use sw_ledgers::{Awaited, Promises, Tasks};
-use sw_queue::Queues;
+use sw_ledgers::Awaited;
 use sw_reg::Registrations;
 use sw_scope::ScopeMap;
-use sw_tables::{matched, slot_row};
+use sw_state::HostTables;
 use sw_url::{UrlFault, resolve, same_origin};
-use sw_worker::Workers;
 
 // A TypeError of this cause, which leaves all as it is.
 pub(crate) fn refused(cause: Cause) -> Worked
@@ -47,68 +41,50 @@ pub(crate) fn refused(cause: Cause) -> Worked
 }
 
 // The active worker of a registration, with that registration.
-#[tactic(auto, using(crate::proofs::Active::owned))]
-fn active_of(
-    registration: u32,
-    workers: &Workers,
-    registrations: &Registrations,
-) -> Option<(u32, u32)>
-    requires { HasSlots workers.now registrations.now }
-    ensures found { (scopes : Scopes) (of_clients : clients.Table) (rest : Rest) → result
-        ≡ option_map (λ worker. (worker, registration))
-        (active_worker_number (lent scopes workers.now registrations.now of_clients rest) registration) }
-    ensures owner { IfSome result (IsOwned workers.now registrations.now) }
+fn active_of(host: &HostTables, registration: u32) -> Option<(u32, u32)>
+    ensures found { result ≡ option_map (λ worker. (worker, registration))
+        (active_worker_number (state_of host.now) registration) }
+    ensures owner { IfSome result (IsOwned host.now) }
 {
-    match slot_row(Slot::Active, registration, workers, registrations) {
+    match host.slot_row(Slot::Active, registration) {
         Some(row) => Some((row.number, registration)),
         None => None,
     }
 }
 
 // The active worker of the registration that an address of a key matches, with that registration.
-pub(crate) fn active_at(
-    key: &Text,
-    address: &[u8],
-    map: &ScopeMap,
-    workers: &Workers,
-    registrations: &Registrations,
-) -> Option<(u32, u32)>
-    requires slots { HasSlots workers.now registrations.now }
-    requires scopes { HasScopes map.now registrations.now }
-    ensures found { (of_clients : clients.Table) (rest : Rest) → result ≡ active_match
-        (lent map.now workers.now registrations.now of_clients rest) key.now address.now }
-    ensures owner { IfSome result (IsOwned workers.now registrations.now) }
+pub(crate) fn active_at(host: &HostTables, key: &Text, address: &[u8]) -> Option<(u32, u32)>
+    ensures found { result ≡ active_match (state_of host.now) key.now address.now }
+    ensures owner { IfSome result (IsOwned host.now) }
 {
-    match matched(key, address, map, registrations) {
-        Some(registration) => active_of(registration, workers, registrations),
+    match host.matched(key, address) {
+        Some(registration) => active_of(host, registration),
         None => None,
     }
 }
 
-/// The registration that a client's address matches, once it has an active worker (Service Workers,
-/// ServiceWorkerContainer, "ready"). It takes no memory.
-pub fn ready(
-    client: u32,
-    map: &ScopeMap,
-    workers: &Workers,
-    registrations: &Registrations,
-    clients: &Clients,
-) -> Option<Worked>
-    requires slots { HasSlots workers.now registrations.now }
-    requires scopes { HasScopes map.now registrations.now }
-    ensures act { IfSome result (λ worked. worked.act ≡ PageAct.Nothing) }
-    ensures outcome { (who : Who) (rest : Rest) → option_map
-        (λ worked. outcome_of who worked
-        (lent map.now workers.now registrations.now clients.now rest)) result
-        ≡ rules.ready (lent map.now workers.now registrations.now clients.now rest) client }
+/// The registration that a client's address matches, once it has an active worker, as an answer. It takes no memory.
+pub fn ready_answer(host: &HostTables, client: u32) -> Option<Answer>
+    ensures { option_map (told.answered (state_of host.now)) result
+        ≡ rules.ready (state_of host.now) client }
 {
-    let Some(row) = clients.row(client) else {
-        return Some(answered(Answer::NoClient));
+    let Some(row) = host.client_row(client) else {
+        return Some(Answer::NoClient);
     };
-    match active_at(&row.key, row.url.as_bytes(), map, workers, registrations) {
-        Some(found) => Some(answered(Answer::Registration(found.1))),
+    match active_at(host, &row.key, row.url.as_bytes()) {
+        Some(found) => Some(Answer::Registration(found.1)),
         None => None,
     }
+}
+
+/// The registration that a client's address matches, which has an active worker (Service Workers,
+/// ServiceWorkerContainer, "ready"). It takes no memory.
+pub fn ready(host: &HostTables, client: u32) -> Worked
+    requires { IsSome (rules.ready (state_of host.now) client) }
+    ensures fits { FitsHost result host.now }
+    ensures gives { MayGive (λ state who. rules.ready state client) result host.now }
+{
+    answered(ready_answer(host, client).unwrap())
 }
 
 // The answer of a registration, where there is one.
@@ -123,23 +99,17 @@ fn registration_or_undefined(registration: Option<u32>) -> Answer
 
 // The registration that an address matches, of a client of its origin.
 fn matched_at(
+    host: &HostTables,
     alloc: Global,
     row: &ClientRow,
     url: &Text,
-    map: &ScopeMap,
-    registrations: &Registrations,
 ) -> Result<Worked, NoMemory>
-    requires scopes { HasScopes map.now registrations.now }
-    requires places { ArePlaces (λ row. row.number) registrations.now.rows }
-    ensures act { IfOk result (λ worked. worked.act ≡ PageAct.Nothing) }
-    ensures outcome { IfOk result (λ worked. (who : Who) (of_workers : workers.Table)
-        (of_clients : clients.Table) (rest : Rest)
-        → rules.registration_at (lent map.now of_workers registrations.now of_clients rest)
-        row.now url.now
-        ≡ outcome_of who worked (lent map.now of_workers registrations.now of_clients rest)) }
+    ensures fits { IfOk result (λ worked. FitsHost worked host.now) }
+    ensures gives { IfOk result (λ worked. Gives (λ state who.
+        rules.registration_at state row.now url.now) worked host.now) }
 {
     if same_origin(alloc, url, &row.url)? {
-        let found = matched(&row.key, url.as_bytes(), map, registrations);
+        let found = host.matched(&row.key, url.as_bytes());
         Ok(answered(registration_or_undefined(found)))
     } else {
         Ok(answered(Answer::Fault(Fault::SecurityError(SecurityCause::Origin))))
@@ -149,26 +119,20 @@ fn matched_at(
 /// The registration that an address matches, its text being parsed against the client's address (Service Workers,
 /// ServiceWorkerContainer, "getRegistration()").
 pub fn registration_at(
+    host: &HostTables,
     alloc: Global,
     client: u32,
     url: &Text,
-    map: &ScopeMap,
-    registrations: &Registrations,
-    clients: &Clients,
 ) -> Result<Worked, NoMemory>
-    requires scopes { HasScopes map.now registrations.now }
-    requires places { ArePlaces (λ row. row.number) registrations.now.rows }
-    ensures act { IfOk result (λ worked. worked.act ≡ PageAct.Nothing) }
-    ensures outcome { IfOk result (λ worked. (who : Who) (of_workers : workers.Table) (rest : Rest)
-        → rules.get_registration (lent map.now of_workers registrations.now clients.now rest)
-        client url.now
-        ≡ outcome_of who worked (lent map.now of_workers registrations.now clients.now rest)) }
+    ensures fits { IfOk result (λ worked. FitsHost worked host.now) }
+    ensures gives { IfOk result (λ worked. Gives (λ state who.
+        rules.get_registration state client url.now) worked host.now) }
 {
-    let Some(row) = clients.row(client) else {
+    let Some(row) = host.client_row(client) else {
         return Ok(answered(Answer::NoClient));
     };
     match resolve(alloc, url, &row.url) {
-        Ok(url) => matched_at(alloc, row, &url, map, registrations),
+        Ok(url) => matched_at(host, alloc, row, &url),
         Err(UrlFault::NoMemory) => Err(NoMemory),
         Err(_) => Ok(refused(Cause::Unparsed)),
     }
@@ -226,40 +190,35 @@ fn numbers_of(
 }
 
 /// The mapped registrations of a client's key (Service Workers, ServiceWorkerContainer, "getRegistrations()").
-pub fn registrations_of(
-    alloc: Global,
-    client: u32,
-    map: &ScopeMap,
-    registrations: &Registrations,
-    clients: &Clients,
-) -> Result<Worked, NoMemory>
-    requires { ArePlaces (λ row. row.number) registrations.now.rows }
-    ensures act { IfOk result (λ worked. worked.act ≡ PageAct.Nothing) }
-    ensures outcome { IfOk result (λ worked. (who : Who) (of_workers : workers.Table) (rest : Rest)
-        → rules.get_registrations (lent map.now of_workers registrations.now clients.now rest)
-        client
-        ≡ outcome_of who worked (lent map.now of_workers registrations.now clients.now rest)) }
+pub fn registrations_of(host: &HostTables, alloc: Global, client: u32) -> Result<Worked, NoMemory>
+    ensures fits { IfOk result (λ worked. FitsHost worked host.now) }
+    ensures gives { IfOk result (λ worked. Gives (λ state who.
+        rules.get_registrations state client) worked host.now) }
 {
-    let Some(row) = clients.row(client) else {
+    let Some(row) = host.client_row(client) else {
         return Ok(answered(Answer::NoClient));
     };
-    let found = numbers_of(alloc, &row.key, map, registrations)?;
+    let found = numbers_of(alloc, &row.key, &host.map, &host.registrations)?;
     Ok(answered(Answer::Registrations(Items::from_vec(found))))
 }
 
 // The value of what a promise waits for, where it has one.
-fn value_of(awaited: Awaited, queues: &Queues, tasks: &Tasks) -> Option<Settlement>
-    ensures { (scopes : Scopes) (of_workers : workers.Table)
-        (of_registrations : registrations.Table) (of_clients : clients.Table) (rest : Rest)
-        → rest.jobs ≡ queues.now.rows → rest.tasks ≡ tasks.now.rows
-        → result ≡ awaited_value (lent scopes of_workers of_registrations of_clients rest)
-        (meaning awaited) }
+fn value_of(host: &HostTables, awaited: Awaited) -> Option<Settlement>
+    ensures { result ≡ awaited_value (state_of host.now) (meaning awaited) }
 {
     match awaited {
         Awaited::Value(value) => Some(value),
-        Awaited::Job(job) => queues.row(job)?.settled,
-        Awaited::Task(task) => tasks.row(task)?.settled,
+        Awaited::Job(job) => host.queues.row(job)?.settled,
+        Awaited::Task(task) => host.tasks.row(task)?.settled,
     }
+}
+
+/// The value of the promise of an action of a lane. None where it has not settled, and where there is no such promise. It
+/// takes no memory.
+pub fn promised_value(host: &HostTables, lane: u32, of: u32) -> Option<Settlement>
+    ensures { result ≡ promised_value (state_of host.now) lane of }
+{
+    value_of(host, host.promises.awaited(lane, of)?)
 }
 
 // The answer of the value of a promise.
@@ -274,27 +233,12 @@ fn settlement_answer(value: Settlement) -> Answer
     }
 }
 
-/// The value of the promise of an action of a lane. None where it has not settled, and where there is no such promise. It
-/// takes no memory.
-pub fn await_promise(
-    lane: u32,
-    of: u32,
-    promises: &Promises,
-    queues: &Queues,
-    tasks: &Tasks,
-) -> Option<Worked>
-    ensures act { IfSome result (λ worked. worked.act ≡ PageAct.Nothing) }
-    ensures outcome { (at : ℕ) (scopes : Scopes) (of_workers : workers.Table)
-        (of_registrations : registrations.Table) (of_clients : clients.Table) (rest : Rest)
-        → rest.jobs ≡ queues.now.rows → rest.promises ≡ promises.now.rows
-        → rest.tasks ≡ tasks.now.rows
-        → option_map (λ worked. outcome_of (maker.Lane lane at) worked
-        (lent scopes of_workers of_registrations of_clients rest)) result
-        ≡ rules.await (lent scopes of_workers of_registrations of_clients rest)
-        (maker.Lane lane at) of }
+/// The value of the promise of an action of this lane, which has settled. It takes no memory.
+pub fn await_promise(host: &HostTables, lane: u32, of: u32) -> Worked
+    requires { (at : ℕ) → IsSome (rules.await (state_of host.now) (maker.Lane lane at) of) }
+    ensures fits { FitsHost result host.now }
+    ensures gives { (at : ℕ) → rules.await (state_of host.now) (maker.Lane lane at) of
+        ≡ Some (outcome_of (maker.Lane lane at) result (state_of host.now)) }
 {
-    match value_of(promises.awaited(lane, of)?, queues, tasks) {
-        Some(value) => Some(answered(settlement_answer(value))),
-        None => None,
-    }
+    answered(settlement_answer(promised_value(host, lane, of).unwrap()))
 }

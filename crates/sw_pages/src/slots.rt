@@ -2,53 +2,43 @@
 
 ghost use Rattle.std.specs.Prelude.{◌≡◌, true, Some, IfErr, IfOk, option_map, if◌then◌else◌};
 ghost use Rattle.sw_data.specs.declared.events.Who.{Who};
-ghost use Rattle.sw_pages.specs.Acts.{outcome_of};
-ghost use Rattle.sw_pages.specs.Named.{FindsNone, FindsRow, FitsSlots, Gives, NamesNone, NamesRow};
+ghost use Rattle.sw_pages.specs.Acts.{Gives, outcome_of};
+ghost use Rattle.sw_pages.specs.Fits.{FitsHost};
+ghost use Rattle.sw_pages.specs.Named.{FindsNone, FindsRow, NamesNone, NamesRow};
 ghost use Rattle.sw_reg.specs.Table.{is_there};
 ghost use Rattle.sw_rules.specs.Clients as rules;
 ghost use Rattle.sw_rules.specs.Rows.{is_active};
 ghost use Rattle.sw_rules.specs.State.{State};
 ghost use Rattle.sw_tables.specs.Lent.{shown_worker};
-ghost use Rattle.sw_tables.specs.Linked.{ArePlaces, HasScopes, HasSlots};
 ghost use Rattle.sw_worker.specs.Table.{worker_at};
 
 use crate::jobs::{named_scope, type_error};
 use crate::worked::{PageAct, Worked, answered};
 use std::alloc::Global;
-use sw_client::Clients;
 use sw_data::{
     Answer, Cause, ClientScope, Fault, NoMemory, RegistrationRow, Slot, StateCause, WorkerRow,
     WorkerState,
 };
-use sw_reg::Registrations;
-use sw_scope::ScopeMap;
-use sw_tables::{mapped_row, slot_row};
-use sw_worker::Workers;
+use sw_state::HostTables;
 
 // The mapped registration of a client's key and a scope that it names, or the answer where there is none.
 pub(crate) fn named<'a>(
+    host: &'a HostTables,
     alloc: Global,
     of: &ClientScope,
-    map: &ScopeMap,
-    registrations: &'a Registrations,
-    clients: &Clients,
 ) -> Result<Result<&'a RegistrationRow, Answer>, NoMemory>
-    requires scopes { HasScopes map.now registrations.now }
-    requires places { ArePlaces (λ row. row.number) registrations.now.rows }
-    ensures found { IfOk result (λ found. IfOk found (λ row.
-        NamesRow of.now row.now map.now registrations.now clients.now)) }
+    ensures found { IfOk result (λ found. IfOk found (λ row. NamesRow of.now row.now host.now)) }
     ensures there { IfOk result (λ found. IfOk found (λ row.
-        is_there row.now.number registrations.now.rows ≡ true)) }
-    ensures none { IfOk result (λ found. IfErr found (λ reply.
-        NamesNone of.now reply map.now registrations.now clients.now)) }
+        is_there row.now.number host.now.registrations.rows ≡ true)) }
+    ensures none { IfOk result (λ found. IfErr found (λ reply. NamesNone of.now reply host.now)) }
 {
-    let Some(client) = clients.row(of.client) else {
+    let Some(client) = host.client_row(of.client) else {
         return Ok(Err(Answer::NoClient));
     };
     let Some(scope) = named_scope(alloc, client, &of.scope)? else {
         return Ok(Err(Answer::Fault(type_error(Cause::Unparsed))));
     };
-    match mapped_row(&client.key, &scope, map, registrations) {
+    match host.mapped_row(&client.key, &scope) {
         Some(row) => Ok(Ok(row)),
         None => Ok(Err(Answer::Fault(Fault::NoRegistration))),
     }
@@ -56,29 +46,24 @@ pub(crate) fn named<'a>(
 
 // The worker in a slot of that registration, or the answer where there is none.
 fn slotted<'a>(
+    host: &'a HostTables,
     alloc: Global,
     of: &ClientScope,
     place: Slot,
-    map: &ScopeMap,
-    workers: &'a Workers,
-    registrations: &Registrations,
-    clients: &Clients,
 ) -> Result<Result<&'a WorkerRow, Answer>, NoMemory>
-    requires scopes { HasScopes map.now registrations.now }
-    requires slots { HasSlots workers.now registrations.now }
     ensures found { IfOk result (λ found. IfOk found (λ row.
-        FindsRow of.now place row.now map.now workers.now registrations.now clients.now)) }
+        FindsRow of.now place row.now host.now)) }
     ensures there { IfOk result (λ found. IfOk found (λ row.
-        option_map shown_worker (worker_at row.now.number workers.now.rows)
+        option_map shown_worker (worker_at row.now.number host.now.workers.rows)
         ≡ Some (shown_worker row.now))) }
     ensures none { IfOk result (λ found. IfErr found (λ reply.
-        FindsNone of.now place reply map.now workers.now registrations.now clients.now)) }
+        FindsNone of.now place reply host.now)) }
 {
-    let registration = match named(alloc, of, map, registrations, clients)? {
+    let registration = match named(host, alloc, of)? {
         Ok(row) => row.number,
         Err(reply) => return Ok(Err(reply)),
     };
-    match slot_row(place, registration, workers, registrations) {
+    match host.slot_row(place, registration) {
         Some(row) => Ok(Ok(row)),
         None => Ok(Err(Answer::NoWorker)),
     }
@@ -105,22 +90,17 @@ pub fn skip_waiting_of(row: &WorkerRow) -> Worked
 /// "skipWaiting()").
 #[tactic(auto, using(crate::proofs::Owned::owner_shown))]
 pub fn skip_waiting(
+    host: &HostTables,
     alloc: Global,
     of: &ClientScope,
     place: Slot,
-    map: &ScopeMap,
-    workers: &Workers,
-    registrations: &Registrations,
-    clients: &Clients,
 ) -> Result<Worked, NoMemory>
-    requires scopes { HasScopes map.now registrations.now }
-    requires slots { HasSlots workers.now registrations.now }
-    ensures fits { IfOk result (λ worked. FitsSlots worked workers.now registrations.now) }
-    ensures outcome { IfOk result (λ worked. Gives
-        (λ state who. rules.with_slot state of.now place (rules.skip_waiting_of state))
-        worked map.now workers.now registrations.now clients.now) }
+    ensures fits { IfOk result (λ worked. FitsHost worked host.now) }
+    ensures gives { IfOk result (λ worked. Gives (λ state who.
+        rules.with_slot state of.now place (rules.skip_waiting_of state))
+        worked host.now) }
 {
-    match slotted(alloc, of, place, map, workers, registrations, clients)? {
+    match slotted(host, alloc, of, place)? {
         Ok(row) => Ok(skip_waiting_of(row)),
         Err(reply) => Ok(answered(reply)),
     }
@@ -158,22 +138,17 @@ pub fn claim_of(row: &WorkerRow) -> Worked
 /// "claim()").
 #[tactic(auto, using(crate::proofs::Owned::active_shown))]
 pub fn claim(
+    host: &HostTables,
     alloc: Global,
     of: &ClientScope,
     place: Slot,
-    map: &ScopeMap,
-    workers: &Workers,
-    registrations: &Registrations,
-    clients: &Clients,
 ) -> Result<Worked, NoMemory>
-    requires scopes { HasScopes map.now registrations.now }
-    requires slots { HasSlots workers.now registrations.now }
-    ensures fits { IfOk result (λ worked. FitsSlots worked workers.now registrations.now) }
-    ensures outcome { IfOk result (λ worked. Gives
-        (λ state who. rules.with_slot state of.now place (rules.claim_of state))
-        worked map.now workers.now registrations.now clients.now) }
+    ensures fits { IfOk result (λ worked. FitsHost worked host.now) }
+    ensures gives { IfOk result (λ worked. Gives (λ state who.
+        rules.with_slot state of.now place (rules.claim_of state))
+        worked host.now) }
 {
-    match slotted(alloc, of, place, map, workers, registrations, clients)? {
+    match slotted(host, alloc, of, place)? {
         Ok(row) => Ok(claim_of(row)),
         Err(reply) => Ok(answered(reply)),
     }

@@ -11,7 +11,7 @@ use Rattle.sw_turns.specs.Ways.{recorded_way}
 use Rattle.sw_turns.specs.declared.ends.DriveEnd.{DriveEnd}
 use Rattle.sw_turns.specs.declared.ends.DriveEnd.TheVariants as drive_end
 use Rattle.sw_turns.specs.declared.progress.Progress.{Progress}
-use Rattle.sw_work.specs.Hosted.{Hosted, rest_of, state_of}
+use Rattle.sw_state.specs.Hosted.{Hosted, rest_of, state_of}
 
 -- the history is legal, and leaves the state of the host
 pub known : {D : Type 0} (disk : Ghosts D) (now : D) (origin : Origin D) (progress : Progress) (end : Option DriveEnd) → Stands disk now origin progress end → is_known end ≡ true

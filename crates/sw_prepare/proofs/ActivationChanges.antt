@@ -10,9 +10,11 @@ use Rattle.sw_rules.specs.Activating as activating
 use Rattle.sw_rules.specs.Clients as clients
 use Rattle.sw_rules.specs.Installing as installing
 use Rattle.sw_rules.specs.Registrations as rules
+use Rattle.sw_rules.specs.Registrations.{become}
 use Rattle.sw_rules.specs.Rows.{has_pending_worker, is_event, is_mapped, is_registration, is_used, registration_row, without}
 use Rattle.sw_rules.specs.State.{State, Registration}
-use Rattle.sw_rules.specs.Told.{Told, Outcome, followed, is_kept, kept_change, quiet}
+use Rattle.sw_rules.specs.Told.{Told, Outcome, followed, is_kept, keep, kept_change, quiet}
+use Rattle.sw_laws.proofs.AtOnce.{activate_changes, clear_only}
 use Rattle.sw_tables.proofs.Rows.{at_changed}
 use Rattle.sw_prepare.specs.Kept.{activation_changes, active_change, kept_registration}
 
@@ -20,14 +22,14 @@ use Rattle.sw_prepare.specs.Kept.{activation_changes, active_change, kept_regist
 
 -- a Try Activate tells the change of the registration's active worker
 tried : (state : State) (registration : ℕ) → (rules.try_activate state registration).changes ≡ activation_changes state registration
-unfolding rules.try_activate rules.activate
+unfolding rules.try_activate
 tried state registration = by (rules.chosen state registration)
   where
     by : (o : Option ℕ)
         → (let told : Told = elim o [ None ↦ quiet state | Some worker ↦ rules.activate state registration worker ] in told.changes)
         ≡ (if is_some o then kept_change state registration (λ row. change.Active row.key row.scope) else [])
     by None = refl
-    by (Some worker) = refl
+    by (Some worker) = activate_changes state registration worker
 
 any_mapped : (registration : ℕ) (rows : List Registration) → list_any (λ row. row.number == registration && row.mapped) rows ≡ false
     → option_map_or (λ (row : Registration). row.mapped) (find (is_registration registration) rows) false ≡ false
@@ -53,21 +55,23 @@ unmapped_activation state registration none = by (is_some (rules.chosen state re
 -- Try Clear changes no registration
 try_cleared : (state : State) (registration : ℕ) → is_mapped state registration ≡ false
     → activation_changes (rules.try_clear state registration).state registration ≡ activation_changes state registration
-unfolding rules.try_clear rules.clear
+unfolding rules.try_clear
 try_cleared state registration none = by (is_used state registration || has_pending_worker state registration)
   where
     by : (b : Bool) → activation_changes (if b then quiet state else rules.clear state registration).state registration ≡ activation_changes state registration
     by true = refl
-    by false = unmapped_activation (rules.clear state registration).state registration none ∙ sym (unmapped_activation state registration none)
+    by false =
+        unmapped_activation (rules.clear state registration).state registration (ap (λ (s : State). is_mapped s registration) (clear_only state registration).rest ∙ none)
+        ∙ sym (unmapped_activation state registration none)
 
 -- and tells no change
-clears_quietly : (state : State) (registration : ℕ) → (rules.try_clear state registration).changes ≡ []
-unfolding rules.try_clear rules.clear
+pub clears_quietly : (state : State) (registration : ℕ) → (rules.try_clear state registration).changes ≡ []
+unfolding rules.try_clear
 clears_quietly state registration = by (is_used state registration || has_pending_worker state registration)
   where
     by : (b : Bool) → (if b then quiet state else rules.clear state registration).changes ≡ []
     by true = refl
-    by false = refl
+    by false = (clear_only state registration).changes
 
 -- what is looked at again tells what a Try Activate tells
 pub rechecked : (state : State) (registration : ℕ) → (rules.recheck state registration).changes ≡ activation_changes state registration
@@ -134,13 +138,18 @@ ended_state worker state = (installing.end_handler state worker).state
 abbrev pub activated_state : ℕ → ℕ → State → State
 activated_state registration worker state = (activating.become_activated state registration worker).state
 
+-- a worker that becomes activated tells that its registration has it
+becomes_activated : (state : State) (registration worker : ℕ) → (activating.become_activated state registration worker).changes ≡ kept_change state registration (λ row. change.Activated row.key row.scope)
+unfolding activating.become_activated followed keep become
+becomes_activated state registration worker = append-nil (kept_change state registration (λ row. change.Activated row.key row.scope))
+
 pub finished : (state : State) (registration worker : ℕ) → (activating.finish_activate state registration worker).changes
     ≡ kept_change (ended_state worker state) registration (λ row. change.Activated row.key row.scope)
     ++ activation_changes (activated_state registration worker (ended_state worker state)) registration
-unfolding activating.finish_activate activating.become_activated installing.end_handler followed
+unfolding activating.finish_activate installing.end_handler followed
 finished state registration worker =
-    ap (λ (l : List Change). kept_change (ended_state worker state) registration (λ row. change.Activated row.key row.scope) ++ l)
-    (rechecked (activated_state registration worker (ended_state worker state)) registration)
+    λ i. becomes_activated (ended_state worker state) registration worker i
+    ++ rechecked (activated_state registration worker (ended_state worker state)) registration i
 
 -- ---- the owed Try Activate
 

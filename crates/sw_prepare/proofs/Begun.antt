@@ -19,7 +19,7 @@ use Rattle.sw_rules.specs.Registering.{rejected}
 use Rattle.sw_rules.specs.Rows.{maker_worker}
 use Rattle.sw_rules.specs.State.{State, AddAll}
 use Rattle.sw_rules.specs.Told.{Outcome, followed, type_error}
-use Rattle.sw_work.specs.Hosted.{Hosted, state_of}
+use Rattle.sw_state.specs.Hosted.{Hosted, state_of}
 use Rattle.sw_work.specs.Plans as plans
 use Rattle.sw_work.specs.Plans.{FitsThen, caller_of}
 use Rattle.sw_work.specs.declared.plan.Then.{Then}

@@ -15,7 +15,7 @@ use Rattle.sw_rules.specs.Jobs.{is_unregister}
 use Rattle.sw_rules.specs.Rows.{is_job}
 use Rattle.sw_rules.specs.State.{State}
 use Rattle.sw_rules.specs.Told.{Told, Outcome, followed}
-use Rattle.sw_work.specs.Hosted.{Hosted, state_of}
+use Rattle.sw_state.specs.Hosted.{Hosted, state_of}
 use Rattle.sw_work.specs.Plans.{IsAsked, Means, told_by_act, told_then}
 use Rattle.sw_work.specs.declared.plan.Act.{Act}
 use Rattle.sw_work.specs.declared.plan.Act.TheVariants as act

@@ -7,9 +7,9 @@ use Rattle.std.proofs.lemmas.List.{append-nil}
 use Rattle.std.proofs.lemmas.Grind.{flat_map-append}
 use Rattle.sw_activate.proofs.Activating.{Goes, begins, loyal_left, one_step, used_there}
 use Rattle.sw_activate.proofs.Claimants.{claimed_by}
-use Rattle.sw_activate.proofs.Leaving.{IsOwned, activated_where, not_activated, same_mapped, same_slot, workers_of}
+use Rattle.sw_activate.proofs.Leaving.{IsOrderly, activated_where, not_activated, same_mapped, same_slot, workers_of}
 use Rattle.sw_activate.proofs.Names.{registration_shown}
-use Rattle.sw_activate.proofs.Shown.{all_owned}
+use Rattle.sw_activate.proofs.Shown.{all_orderly}
 use Rattle.sw_activate.specs.Claiming.{activated_by_claim, activated_by_claims, activated_by_release, activated_by_unload, claimed}
 use Rattle.sw_activate.specs.Counting.{Users, step_users, used_by, users_in}
 use Rattle.sw_activate.specs.Names.{numbers_of}
@@ -85,16 +85,16 @@ module _ (first left : State) (registration : ℕ) (rows : left.registrations �
 
 -- ---- clients that are claimed
 
-module _ (first : State) (is_owned : IsOwned first) (worker registration : ℕ) (owner : registration_of first worker ≡ Some registration) where
+module _ (first : State) (orderly : IsOrderly first) (worker registration : ℕ) (owner : registration_of first worker ≡ Some registration) where
   abbrev told_of : List ℕ → List Change
   told_of = flat_map (active_change first)
 
-  module _ (state : State) (users : Users) (done : List ClientRow) (row : ClientRow) (rows : List ClientRow) (goes : Goes first is_owned worker registration owner state users done (row ∷ rows)) where
+  module _ (state : State) (users : Users) (done : List ClientRow) (row : ClientRow) (rows : List ClientRow) (goes : Goes first orderly worker registration owner state users done (row ∷ rows)) where
     abbrev left : State
     left = left_by row.number state
 
     used_is : used_registration state row.number ≡ used_by first row
-    used_is = used_there first is_owned worker registration owner state users done row rows goes
+    used_is = used_there first orderly worker registration owner state users done row rows goes
 
     release_told : (q : ℕ) → used_by first row ≡ Some q → left_changes left q (is_used left q) ≡ told_of (activated_by_release left q)
     release_told q is = by (is_used left q) refl
@@ -103,7 +103,7 @@ module _ (first : State) (is_owned : IsOwned first) (worker registration : ℕ) 
         by true used = ap (left_changes left q) used ∙ sym (ap told_of (not_activated left q used))
         by false unused =
             ap (left_changes left q) unused
-            ∙ activation_told first left q goes.registrations (loyal_left first is_owned worker registration owner state users done row rows goes q is unused) unused
+            ∙ activation_told first left q goes.registrations (loyal_left first orderly worker registration owner state users done row rows goes q is unused) unused
 
     abbrev left_told : Option ℕ → List Change
     left_told o = elim o [ None ↦ [] | Some q ↦ left_changes left q (is_used left q) ]
@@ -129,13 +129,13 @@ module _ (first : State) (is_owned : IsOwned first) (worker registration : ℕ) 
         by true = append-nil (unload state row.number).changes ∙ unload_told
         by false = refl
 
-  all_told : (rows : List ClientRow) (state : State) (users : Users) (done : List ClientRow) → Goes first is_owned worker registration owner state users done rows
+  all_told : (rows : List ClientRow) (state : State) (users : Users) (done : List ClientRow) → Goes first orderly worker registration owner state users done rows
       → (claim_clients state worker registration (map (λ (row : ClientRow). row.number) rows)).changes
       ≡ told_of (activated_by_claims state worker registration (map (λ (row : ClientRow). row.number) rows))
   unfolding claim_clients followed
   all_told [] state users done goes = refl
   all_told (row ∷ rows) state users done goes =
-      let step = one_step first is_owned worker registration owner state users done row rows goes in
+      let step = one_step first orderly worker registration owner state users done row rows goes in
       let after = (claim_client state worker registration row.number).state in
       let here = claim_told state users done row rows goes in
       let later = all_told rows after (step_users first worker registration users row) (done ++ step.next ∷ []) step.goes_on in
@@ -145,7 +145,7 @@ module _ (first : State) (is_owned : IsOwned first) (worker registration : ℕ) 
   claims_told : IsDistinct nat_eq (map (λ (row : ClientRow). row.number) first.clients)
       → (claim_clients first worker registration (map (λ (row : ClientRow). row.number) first.clients)).changes
       ≡ told_of (activated_by_claims first worker registration (map (λ (row : ClientRow). row.number) first.clients))
-  claims_told apart = all_told first.clients first (users_in first first.clients) [] (begins first is_owned worker registration owner apart)
+  claims_told apart = all_told first.clients first (users_in first first.clients) [] (begins first orderly worker registration owner apart)
 
 -- ---- the worker that claims
 
@@ -185,4 +185,4 @@ changes_told scopes of_workers of of_clients rest linked apart worker registrati
     ap (flat_map (active_change state))
     (claimed_by scopes of_workers of of_clients rest worker found.row found.there true found.active
     ∙ ap (λ (n : ℕ). activated_by_claims state worker n (numbers_of of_clients)) found.owner)
-    ∙ sym (claims_told state (all_owned scopes of_workers of of_clients linked rest) worker registration owner apart)
+    ∙ sym (claims_told state (all_orderly scopes of_workers of of_clients linked rest) worker registration owner apart)

@@ -23,9 +23,10 @@ use Rattle.sw_install.proofs.Enabled.{both, if_some}
 use Rattle.sw_install.specs.Underway.{GoesItsWay, IsMade, IsUnderWay}
 use Rattle.sw_reg.specs.Table as registrations
 use Rattle.sw_reg.specs.Table.{registration_at}
-use Rattle.sw_rules.specs.Installing.{discard, end_handler, ended_handler, fail_install, finish_install, become_waiting, install_ended, installed, is_over, job_worker, kept_worker}
+use Rattle.sw_rules.specs.Installing.{become_waiting, end_handler, ended_handler, fail_install, finish_install, install_ended, installed, is_over, job_worker, kept_worker, owe_try_activate}
+use Rattle.sw_laws.proofs.AtOnce as at_once
 use Rattle.sw_rules.specs.Jobs.{finish}
-use Rattle.sw_rules.specs.Registrations.{unmap}
+use Rattle.sw_rules.specs.Registrations.{become, unmap}
 use Rattle.sw_rules.specs.Rows.{free_handler, is_in_phase, in_slot, is_install, is_installing, is_job, is_registration, is_unsettled_of, is_worker, registration_row, slot_worker, worker_row}
 use Rattle.sw_rules.specs.State.{State, Registration, Worker, Handler}
 use Rattle.sw_rules.specs.Told.{Outcome, Told, followed, is_kept, quiet}
@@ -120,7 +121,7 @@ module _ (of_workers : workers.Table) (are : ArePlaces (λ (row : WorkerRow). ro
   pub fail_told : (scopes : Scopes) (of : registrations.Table) (of_clients : clients.Table) (rest : Rest) (row : JobRow) (registration : ℕ)
       → (fail_install (lent scopes of_workers of of_clients rest) row registration w).changes
       ≡ (if is_none row.remembered then gone_changes (lent scopes of_workers of of_clients rest) registration else [])
-  unfolding fail_install end_handler discard unmap finish followed
+  unfolding fail_install end_handler become unmap finish followed
   fail_told scopes of of_clients rest row registration = by (is_none row.remembered)
     where
       state : State
@@ -136,8 +137,10 @@ module _ (of_workers : workers.Table) (are : ArePlaces (λ (row : WorkerRow). ro
       by false = refl
 
 finish_told : (state : State) (job registration : ℕ) (worker : Worker) → (finish_install state job registration worker).changes ≡ waiting_changes state registration worker
-unfolding finish_install end_handler become_waiting finish followed
-finish_told state job registration worker = append-nil (waiting_changes state registration worker)
+unfolding finish_install end_handler owe_try_activate finish followed
+finish_told state job registration worker =
+    let ended = (end_handler state worker.number).state in
+    append-nil (become_waiting ended registration worker).changes ∙ at_once.waiting_changes ended registration worker
 
 -- a registration gets a waiting worker, as its row says
 pub waiting_told : (scopes : Scopes) (of_workers : workers.Table) (of : registrations.Table) (of_clients : clients.Table) (rest : Rest) (n : ℕ) (worker : Worker)

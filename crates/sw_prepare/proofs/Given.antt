@@ -1,51 +1,16 @@
--- What was worked out on the tables of a host was worked out on the host.
-use Rattle.std.proofs.Common.{◌≡◌, ◌∙◌, ℕ, Option, Some, None, IfSome, IsSome, option_map, is_some, refl, sym, ap, subst, if◌then◌else◌}
-use Rattle.sw_prepare.proofs.Same.{same_refl}
+-- What an action of a page comes to, as it was worked out.
+use Rattle.std.proofs.Common.{◌≡◌, ◌∙◌, ℕ, Option, Some, None, IfSome, refl, sym, ap, subst, if◌then◌else◌}
 use Rattle.sw_data.specs.declared.events.Event.{Event}
 use Rattle.sw_data.specs.declared.events.Event.TheVariants as event
 use Rattle.sw_data.specs.declared.events.Who.{Who}
 use Rattle.sw_data.specs.declared.events.Who.TheVariants as maker
 use Rattle.sw_data.specs.Events.{is_lane, who_of}
-use Rattle.sw_laws.proofs.KeptRechecks.{mapped_some}
-use Rattle.sw_pages.specs.Acts.{outcome_of}
-use Rattle.sw_pages.specs.declared.worked.Worked.{Worked}
 use Rattle.sw_rules.specs.Clients.{await, begin, ready}
 use Rattle.sw_rules.specs.State.{State}
 use Rattle.sw_rules.specs.Step.{step}
 use Rattle.sw_rules.specs.Told.{Outcome}
-use Rattle.sw_work.specs.Hosted.{Hosted, SameRows}
 use Rattle.sw_work.specs.Plans.{IsAsked}
 use Rattle.sw_work.specs.declared.plan.Asked.{Asked}
-use Rattle.sw_worker.specs.Table as workers
-
--- more room for workers alone
-pub workers_same : (host : Hosted) (of_workers : workers.Table) → of_workers.rows ≡ host.workers.rows → of_workers.events ≡ host.workers.events
-    → SameRows host (record host { workers = of_workers })
-workers_same host of_workers rows events =
-    let kept = same_refl host in
-    record {
-      scopes = kept.scopes;
-      jobs = kept.jobs;
-      workers = rows;
-      events = events;
-      registrations = kept.registrations;
-      clients = kept.clients;
-      known = kept.known;
-      caches = kept.caches;
-      preloads = kept.preloads;
-      promises = kept.promises;
-      tasks = kept.tasks;
-      draws = kept.draws;
-    }
-
--- ---- actions that may not be enabled
-
-module _ (who : Who) (state : State) (asked : Option Outcome) (found : Option Worked) (same : option_map (λ w. outcome_of who w state) found ≡ asked) where
-  pub found_there : IsSome asked → IsSome found
-  found_there there = sym (mapped_some (λ (w : Worked). outcome_of who w state) found) ∙ (ap is_some same ∙ there)
-
-  pub found_given : (worked : Worked) → found ≡ Some worked → asked ≡ Some (outcome_of who worked state)
-  found_given worked is = sym same ∙ ap (option_map (λ (w : Worked). outcome_of who w state)) is
 
 pub given : (mine : Outcome) (comes : Option Outcome) → comes ≡ Some mine → IfSome comes (λ outcome. outcome ≡ mine)
 given mine comes is = subst (λ (o : Option Outcome). IfSome o (λ outcome. outcome ≡ mine)) (sym is) refl

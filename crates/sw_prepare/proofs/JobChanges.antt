@@ -25,6 +25,7 @@ use Rattle.sw_data.specs.declared.workers.Slot.TheVariants as slot
 use Rattle.sw_data.specs.Addresses.{same_origin}
 use Rattle.sw_prepare.specs.OfJobs.{evaluation_changes, fetch_changes, gone_changes, mode_changes, new_mode, unregister_changes, unregistered, worker_of_job}
 use Rattle.sw_prepare.specs.Telling.{Tells}
+use Rattle.sw_prepare.proofs.ActivationChanges.{clears_quietly}
 use Rattle.sw_install.proofs.Enabled.{if_some, some_if}
 use Rattle.sw_install.proofs.FetchEnds.{rejected, script_changed, unchanged}
 use Rattle.sw_install.specs.Fetches.{ComesTo, IsOutcome, fetch_outcome}
@@ -32,11 +33,11 @@ use Rattle.sw_install.specs.declared.calls.FetchOutcome.{FetchOutcome}
 use Rattle.sw_install.specs.declared.calls.FetchOutcome.TheVariants as outcome
 use Rattle.sw_reg.specs.Table as registrations
 use Rattle.sw_reg.specs.Table.{registration_at}
-use Rattle.sw_rules.specs.Installing.{begin_install, discard, evaluated, evaluated_worker, fetch_ended, fetched, fetched_of, install, job_worker, keep_script, make_worker, reject_and_drop, tell_update, throw}
+use Rattle.sw_rules.specs.Installing.{begin_install, evaluated, evaluated_worker, fetch_ended, fetched, fetched_of, install, job_worker, keep_script, make_worker, reject_and_drop, remember, tell_update, throw}
 use Rattle.sw_rules.specs.Jobs.{finish, resolve_and_finish, settle}
 use Rattle.sw_rules.specs.Registering.{finished, may_run, run, run_job, run_register, run_unregister, run_update, unregister_mapped}
-use Rattle.sw_rules.specs.Registrations.{clear, drop_registration, set_mode, try_clear, unmap}
-use Rattle.sw_rules.specs.Rows.{has_pending_worker, is_in_phase, is_evaluating, is_fetching, is_job, is_used, job_row, mapped_registration, registration_row, slot_worker, worker_row}
+use Rattle.sw_rules.specs.Registrations.{become, drop_registration, set_mode, start_handler, unmap}
+use Rattle.sw_rules.specs.Rows.{is_in_phase, is_evaluating, is_fetching, is_job, job_row, mapped_registration, registration_row, slot_worker, worker_row}
 use Rattle.sw_rules.specs.State.{State, Registration, Worker}
 use Rattle.sw_rules.specs.Told.{Outcome, followed, is_kept, quiet}
 use Rattle.sw_scope.specs.Scopes.{Scopes, maps}
@@ -53,14 +54,6 @@ use Rattle.sw_worker.specs.Table.{worker_at}
 pub settled_quietly : (state : State) (job : ℕ) (value : Settlement) → (resolve_and_finish state job value).changes ≡ []
 unfolding resolve_and_finish settle finish followed
 settled_quietly state job value = refl
-
-cleared_quietly : (state : State) (n : ℕ) → (try_clear state n).changes ≡ []
-unfolding try_clear clear
-cleared_quietly state n = by (is_used state n || has_pending_worker state n)
-  where
-    by : (b : Bool) → (if b then quiet state else clear state n).changes ≡ []
-    by true = refl
-    by false = refl
 
 -- a registration without a worker isn't kept
 none_kept : (state : State) (n : ℕ) → slot_worker state slot.Waiting n ≡ None → slot_worker state slot.Active n ≡ None → gone_changes state n ≡ []
@@ -103,7 +96,7 @@ rejected_quietly state job n why = ap (λ (list : List Change). list ++ []) (dro
 unmapped_told : (state : State) (job : Job) (n : ℕ) → (unregister_mapped state job n).changes ≡ gone_changes state n
 unfolding unregister_mapped unmap settle finish followed
 unmapped_told state job n =
-    ap (λ (list : List Change). gone_changes state n ++ (list ++ [])) (cleared_quietly _ n) ∙ append-nil (gone_changes state n)
+    ap (λ (list : List Change). gone_changes state n ++ (list ++ [])) (clears_quietly _ n) ∙ append-nil (gone_changes state n)
 
 unregister_told : (state : State) (job : Job) → (run_unregister state job).told.changes
     ≡ (if same_origin job.scope job.referrer then option_map_or (λ (row : Registration). gone_changes state row.number) (mapped_registration state job.key job.scope) [] else [])
@@ -241,11 +234,11 @@ fetch_told state job line given made = by (job_row state job) refl
 -- ---- the evaluation
 
 thrown_quietly : (state : State) (job n worker : ℕ) → (throw state job n worker).changes ≡ []
-unfolding throw discard followed
+unfolding throw become followed
 thrown_quietly state job n worker = rejected_quietly _ job n _
 
 install_told : (state : State) (job : Job) (n worker : ℕ) → (install state job n worker).changes ≡ (set_mode state n job.mode).changes
-unfolding install begin_install settle tell_update followed
+unfolding install begin_install remember become start_handler settle tell_update followed
 install_told state job n worker = append-nil (set_mode state n job.mode).changes
 
 pub evaluation_told : (state : State) (job : ℕ) → Tells (evaluated state job) (evaluation_changes state job)

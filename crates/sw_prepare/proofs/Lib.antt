@@ -11,6 +11,5 @@ pub mod KeptRows
 pub mod Meanings
 pub mod OnCaches
 pub mod Registers
-pub mod Same
 pub mod Taking
 pub mod TellsIt

@@ -5,7 +5,7 @@ use Rattle.sw_rules.specs.State.{State}
 use Rattle.sw_rules.specs.Step.{step}
 use Rattle.sw_rules.specs.Told.{Outcome}
 use Rattle.sw_work.proofs.Working.{if_some_map}
-use Rattle.sw_prepare.proofs.Same.{same_state}
+use Rattle.sw_state.proofs.Same.{same_state}
 use Rattle.sw_work.specs.Planned.{Fits}
 use Rattle.sw_work.specs.declared.plan.Plan.{Plan}
 use Rattle.sw_cachestorage.specs.Added.{IsAdded}
@@ -13,7 +13,7 @@ use Rattle.sw_install.specs.Fetches.{ComesTo}
 use Rattle.sw_rules.specs.Activating as activating
 use Rattle.sw_rules.specs.Installing as installing
 use Rattle.sw_rules.specs.Registering as registering
-use Rattle.sw_work.specs.Hosted.{Hosted, SameRows, state_of}
+use Rattle.sw_state.specs.Hosted.{Hosted, SameRows, state_of}
 use Rattle.sw_work.specs.Plans.{IsAsked, IsStarted, Means, Works}
 use Rattle.sw_work.specs.declared.plan.Work.{Work}
 use Rattle.sw_work.specs.declared.plan.Work.TheVariants as work

@@ -18,8 +18,10 @@ use Rattle.sw_rules.specs.Activating.{become_activated}
 use Rattle.sw_rules.specs.Clients as definitions
 use Rattle.sw_rules.specs.Installing.{end_handler}
 use Rattle.sw_rules.specs.Registrations as rules
+use Rattle.sw_rules.specs.Registrations.{become}
 use Rattle.sw_rules.specs.Rows.{changed, in_slot, is_number, is_used}
 use Rattle.sw_rules.specs.State.{State, FetchEvent}
+use Rattle.sw_rules.specs.Told.{followed, keep}
 use Rattle.sw_scope.specs.Scopes.{Scopes}
 use Rattle.sw_tables.proofs.Lives.{Rests, activated_move, rests}
 use Rattle.sw_tables.proofs.Moves.{same_number}
@@ -203,7 +205,7 @@ module _ (worker registration : ℕ) (of_workers : workers.Table) (of : registra
       one_shown worker ended (λ row. record row { handler = None }) (λ row. refl) of_workers rests_then of of scopes of_clients rest refl refl
 
   pub activated_shown : (rest : Rest) → lent scopes acts_then of of_clients rest ≡ activated_state registration worker (lent scopes rests_then of of_clients rest)
-  unfolding become_activated
+  unfolding become_activated followed keep become
   activated_shown rest =
       one_shown worker (advanced worker_state.Activated) (λ row. record row { state = worker_state.Activated }) (λ row. refl) rests_then acts_then of of scopes of_clients rest refl refl
 

@@ -1,20 +1,20 @@
 //! Actions of pages that were worked out, with the room for their promises and navigation preloads.
 
 ghost use Rattle.std.specs.Prelude.{◌≡◌, None, IfOk};
-ghost use Rattle.sw_prepare.specs.Paged.{FitsHost};
 ghost use Rattle.sw_data.specs.declared.events.Who.TheVariants as maker;
 ghost use Rattle.sw_pages.specs.Acts as pages;
-ghost use Rattle.sw_pages.specs.Fits.{FitsPage};
+ghost use Rattle.sw_pages.specs.Fits.{FitsHost, FitsPage};
 ghost use Rattle.sw_rules.specs.State.{State};
 ghost use Rattle.sw_rules.specs.Told.{Told};
-ghost use Rattle.sw_work.specs.Hosted.{SameRows};
+ghost use Rattle.sw_state.specs.Hosted.{SameRows};
 ghost use Rattle.sw_work.specs.Plans.{FitsAsked, FitsTheAct, FitsThen, IsAsked, caller_of, told_by_act, told_then};
 
 use std::alloc::Global;
 use sw_data::NoMemory;
 use sw_ledgers::Awaited;
 use sw_pages::{PageAct, Worked};
-use sw_work::{Act, Asked, HostTables, Then};
+use sw_state::HostTables;
+use sw_work::{Act, Asked, Then};
 
 // What follows a lane's action whose promise waits for this, if for anything.
 #[tactic(auto, unfolding(sw_rules::specs::Jobs::promise))]

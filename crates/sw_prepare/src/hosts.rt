@@ -8,7 +8,7 @@ ghost use Rattle.sw_rules.specs.Caching.{added};
 ghost use Rattle.sw_rules.specs.Installing as rules;
 ghost use Rattle.sw_rules.specs.Registering.{run};
 ghost use Rattle.sw_rules.specs.Step.{enabled, step};
-ghost use Rattle.sw_work.specs.Hosted.{SameRows, state_of};
+ghost use Rattle.sw_state.specs.Hosted.{SameRows, state_of};
 ghost use Rattle.sw_work.specs.Plans.{Works};
 
 use crate::lanes::work_of_forget;
@@ -16,7 +16,8 @@ use std::alloc::Global;
 use sw_cachestorage::added;
 use sw_data::{Event, FetchLine, NoMemory};
 use sw_install::Rows;
-use sw_work::{HostTables, Work, fetch_ended, fetched_of, run_work};
+use sw_state::HostTables;
+use sw_work::{Work, fetch_ended, fetched_of, run_work};
 
 // The run of a job, which may run.
 fn work_of_run(host: &mut HostTables, alloc: Global, job: u32) -> Result<Work, NoMemory>

@@ -4,30 +4,31 @@ ghost use Rattle.std.specs.Prelude.{◌≡◌, true, false, is_some, IfOk, IfSom
 ghost use Rattle.sw_cachestorage.specs.Actions.{cache_action};
 ghost use Rattle.sw_cachestorage.specs.Adding as adding;
 ghost use Rattle.sw_cachestorage.specs.Adding.{FitsStart};
-ghost use Rattle.sw_prepare.specs.Paged.{FitsHost, is_of_storage};
+ghost use Rattle.sw_prepare.specs.Paged.{is_of_storage};
 ghost use Rattle.sw_data.specs.declared.events.Who.TheVariants as maker;
 ghost use Rattle.sw_data.specs.Events.{is_lane, who_of};
 ghost use Rattle.sw_laws.specs.Coherent.{Coherent};
 ghost use Rattle.sw_pages.specs.Acts as pages;
+ghost use Rattle.sw_pages.specs.Fits.{FitsHost};
 ghost use Rattle.sw_rules.specs.Caching as rules;
 ghost use Rattle.sw_rules.specs.Forgetting as forgetting;
 ghost use Rattle.sw_rules.specs.Step.{enabled, step};
-ghost use Rattle.sw_work.specs.Hosted.{Hosted, SameRows, state_of};
+ghost use Rattle.sw_state.specs.Hosted.{Hosted, SameRows, state_of};
 ghost use Rattle.sw_work.specs.Plans.{FitsAsked, FitsWork, IsAsked, Means, Works};
 
 use crate::asked::{asked, then_of};
-use crate::pages::{
-    await_value, begin, claim_in, close, end, open, preload_state, preload_switch, preload_value,
-    ready_value, register_script, registration, registrations_of, skip_waiting_in, soft_update,
-    unregister, update,
-};
 use std::alloc::Global;
 use sw_cachestorage::{
     AddAllStep, add_all_at, is_busy, is_on_caches, place_key, prepare_on_caches,
 };
 use sw_data::{Answer, CacheAddAll, Event, NoMemory, Place, Who};
-use sw_pages::{PageAct, Worked};
-use sw_work::{Act, Asked, HostTables, Then, Work};
+use sw_pages::{
+    PageAct, Worked, await_promise, begin, claim, close_client, end, open_client, preload_state,
+    preload_switch, preload_value, ready, register, registration_at, registrations_of,
+    skip_waiting, soft_update, unregister, update,
+};
+use sw_state::HostTables;
+use sw_work::{Act, Asked, Then, Work};
 
 // An answer that leaves all as it is.
 fn answered(answer: Answer) -> Asked
@@ -69,18 +70,21 @@ fn page(
             url,
             partition,
             ..
-        } => open(host, alloc, *client, url, partition.as_ref()),
-        Event::Close { client, .. } => Ok(close(host, *client)),
-        Event::Register { register, .. } => register_script(host, alloc, register),
+        } => open_client(host, alloc, *client, url, partition.as_ref()),
+        Event::Close { client, .. } => Ok(close_client(host, *client)),
+        Event::Register {
+            register: registering,
+            ..
+        } => register(host, alloc, registering),
         Event::Update { of, .. } => update(host, alloc, of),
         Event::SoftUpdate { of, .. } => soft_update(host, alloc, of),
         Event::Unregister { of, .. } => unregister(host, alloc, of),
-        Event::Await { of, .. } => Ok(await_value(host, lane, *of)),
-        Event::Ready { client, .. } => Ok(ready_value(host, *client)),
-        Event::Registration { client, url, .. } => registration(host, alloc, *client, url),
+        Event::Await { of, .. } => Ok(await_promise(host, lane, *of)),
+        Event::Ready { client, .. } => Ok(ready(host, *client)),
+        Event::Registration { client, url, .. } => registration_at(host, alloc, *client, url),
         Event::Registrations { client, .. } => registrations_of(host, alloc, *client),
-        Event::SkipWaiting { of, slot, .. } => skip_waiting_in(host, alloc, of, *slot),
-        Event::Claim { of, slot, .. } => claim_in(host, alloc, of, *slot),
+        Event::SkipWaiting { of, slot, .. } => skip_waiting(host, alloc, of, *slot),
+        Event::Claim { of, slot, .. } => claim(host, alloc, of, *slot),
         Event::Begin { client, event, .. } => begin(host, *client, *event),
         Event::End { event, .. } => Ok(end(host, *event)),
         Event::PreloadEnable { of, .. } => preload_switch(host, alloc, of, true),

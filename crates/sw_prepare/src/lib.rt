@@ -13,7 +13,6 @@ mod kept;
 mod lanes;
 mod laws;
 mod lists;
-mod pages;
 mod planning;
 mod preloading;
 mod preparing;

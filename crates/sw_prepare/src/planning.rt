@@ -9,7 +9,8 @@ use sw_cachestorage::mapped_many;
 use sw_data::NoMemory;
 use sw_pages::PageAct;
 use sw_rules::Notices;
-use sw_work::{Act, HostTables, Plan, Work};
+use sw_state::HostTables;
+use sw_work::{Act, Plan, Work};
 
 // A work that isn't done, for want of memory. The arms of `planned` move their work: one that they would drop themselves at
 // an early end costs the check minutes.

@@ -4,7 +4,7 @@ ghost use Rattle.std.specs.Prelude.{◌≡◌, true, IfOk, IfSome};
 ghost use Rattle.sw_work.specs.Planned.{Fits};
 ghost use Rattle.sw_laws.specs.Coherent.{Coherent};
 ghost use Rattle.sw_rules.specs.Step.{enabled, step};
-ghost use Rattle.sw_work.specs.Hosted.{SameRows, state_of};
+ghost use Rattle.sw_state.specs.Hosted.{SameRows, state_of};
 ghost use Rattle.sw_work.specs.Plans.{Means, Works};
 
 use crate::calls::work_of_call;
@@ -13,7 +13,8 @@ use crate::lanes::work_of_lane;
 use crate::planning::planned;
 use std::alloc::Global;
 use sw_data::{Event, NoMemory, Who};
-use sw_work::{HostTables, Plan, Work};
+use sw_state::HostTables;
+use sw_work::{Plan, Work};
 
 // What an event comes to.
 fn work_of(host: &mut HostTables, alloc: Global, event: &Event) -> Result<Work, NoMemory>

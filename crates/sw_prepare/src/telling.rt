@@ -22,7 +22,7 @@ ghost use Rattle.sw_rules.specs.Rows.{is_active, is_job};
 ghost use Rattle.sw_rules.specs.Step.{changes_of, enabled, step};
 ghost use Rattle.sw_rules.specs.Told.{Outcome};
 ghost use Rattle.sw_tables.specs.Linked.{registration_of};
-ghost use Rattle.sw_work.specs.Hosted.{state_of};
+ghost use Rattle.sw_state.specs.Hosted.{state_of};
 ghost use Rattle.sw_work.specs.Plans.{FitsAsked, FitsPageAct, FitsWork, IsAsked, IsUnregister, Means};
 ghost use Rattle.sw_worker.specs.Table.{worker_at};
 
@@ -35,7 +35,8 @@ use sw_data::{Change, Fault, NoMemory};
 use sw_install::FetchOutcome;
 use sw_ledgers::NewPreload;
 use sw_pages::PageAct;
-use sw_work::{Act, Asked, HostTables, Plan, Work};
+use sw_state::HostTables;
+use sw_work::{Act, Asked, Plan, Work};
 
 // ---- acts of pages
 

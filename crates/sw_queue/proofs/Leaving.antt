@@ -10,7 +10,7 @@ use Rattle.std.proofs.lemmas.Option.{slice_get-get_or}
 use Rattle.sw_data.specs.declared.rows.JobPhase.TheVariants as job_phase
 use Rattle.sw_data.specs.declared.rows.JobRow.{JobRow}
 use Rattle.sw_rules.specs.Rows.{first_job, is_in_phase, is_waiting}
-use Rattle.sw_flags.proofs.Placing.{flags_set}
+use Rattle.sw_list.proofs.Placing.{flags_set}
 use Rattle.sw_queue.specs.Kept.{AreFrom, IsKept, number}
 use Rattle.sw_queue.specs.Lines.{Keyed, line_in}
 use Rattle.sw_queue.specs.Ready.{AreMarked, Ready, is_head, led_by, may_start, moved}

@@ -8,7 +8,7 @@ use Rattle.sw_data.specs.declared.rows.JobPhase.{JobPhase}
 use Rattle.sw_data.specs.declared.rows.JobPhase.TheVariants as job_phase
 use Rattle.sw_data.specs.declared.rows.JobRow.{JobRow}
 use Rattle.sw_rules.specs.Rows.{changed, first_job, is_in_phase, is_done, is_evaluating, is_fetching, is_first, is_installing, is_unfinished, is_waiting}
-use Rattle.sw_flags.proofs.Placing.{flags_set}
+use Rattle.sw_list.proofs.Placing.{flags_set}
 use Rattle.sw_queue.specs.Kept.{AreFrom, IsKept, number}
 use Rattle.sw_queue.specs.Lines.{Keyed, line_in}
 use Rattle.sw_queue.specs.Ready.{AreMarked, HasFlags, Ready, is_head, may_start, moved}

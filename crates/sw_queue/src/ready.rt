@@ -8,7 +8,7 @@ ghost use Rattle.sw_queue.specs.Ready.{HasFlags, moved};
 use std::alloc::Global;
 use std::marker::Model;
 use sw_data::{JobPhase, JobRow, NoMemory};
-use sw_flags::Flags;
+use sw_list::Flags;
 
 // A flag for each job and each phase that it may be ready in.
 #[derive(Drop)]

@@ -4,7 +4,8 @@ use Rattle.std.specs.Option.{option_map_or, option_or}
 use Rattle.std.proofs.lemmas.List.{length-append, length-map, length-set, map-append}
 use Rattle.sw_data.specs.declared.rows.RegistrationRow.{RegistrationRow}
 use Rattle.sw_rules.specs.Rows.{changed}
-use Rattle.sw_flags.proofs.Placing.{flags_set}
+use Rattle.sw_list.proofs.Placing.{flags_set}
+use Rattle.sw_data.specs.declared.workers.Slot.TheVariants as place
 use Rattle.sw_reg.specs.declared.edit.Edit.{Edit}
 use Rattle.sw_reg.specs.declared.edit.Edit.TheVariants as edit_of
 use Rattle.sw_reg.specs.Edits.{edited}
@@ -38,8 +39,9 @@ edited_number : (edit : Edit) (row : RegistrationRow) → (edited edit row).numb
 edited_number (edit_of.Installing worker) row = refl
 edited_number (edit_of.Waiting first) row = refl
 edited_number edit_of.Active row = refl
-edited_number edit_of.DropInstalling row = refl
-edited_number edit_of.Clear row = refl
+edited_number (edit_of.Leave place.Installing) row = refl
+edited_number (edit_of.Leave place.Waiting) row = refl
+edited_number (edit_of.Leave place.Active) row = refl
 edited_number (edit_of.Mode mode) row = refl
 edited_number (edit_of.Owed owed) row = refl
 
@@ -47,8 +49,9 @@ edited_number (edit_of.Owed owed) row = refl
 edited_first : (edit : Edit) (row : RegistrationRow) → has_first row ≡ true → has_first (edited edit row) ≡ true
 edited_first (edit_of.Installing worker) row has = has
 edited_first edit_of.Active row has = has
-edited_first edit_of.DropInstalling row has = has
-edited_first edit_of.Clear row has = has
+edited_first (edit_of.Leave place.Installing) row has = has
+edited_first (edit_of.Leave place.Waiting) row has = has
+edited_first (edit_of.Leave place.Active) row has = has
 edited_first (edit_of.Mode mode) row has = has
 edited_first (edit_of.Owed owed) row has = has
 edited_first (edit_of.Waiting first) row has = by row.first has

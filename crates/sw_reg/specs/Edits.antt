@@ -3,6 +3,8 @@ use Rattle.std.specs.Prelude.{ℕ, Bool, false, List, Some, None}
 use Rattle.std.specs.Option.{option_or}
 use Rattle.sw_data.specs.declared.rows.RegistrationRow.{RegistrationRow}
 use Rattle.sw_data.specs.declared.workers.Mode.{Mode}
+use Rattle.sw_data.specs.declared.workers.Slot.{Slot}
+use Rattle.sw_data.specs.declared.workers.Slot.TheVariants as slot
 use Rattle.sw_reg.specs.declared.edit.Edit.{Edit}
 use Rattle.sw_reg.specs.declared.edit.Edit.TheVariants as edit
 
@@ -36,13 +38,11 @@ with_waiting number row = record row {
 abbrev pub with_active : RegistrationRow → RegistrationRow
 with_active row = record row { waiting = None; active = row.waiting }
 
--- there is no installing worker any more (Service Workers, Appendix A, "Update Registration State", with the target "installing" and null)
-abbrev pub without_installing : RegistrationRow → RegistrationRow
-without_installing row = record row { installing = None }
-
--- there is no worker any more (Service Workers, Appendix A, "Clear Registration", by "Update Registration State" with null for each target)
-abbrev pub cleared : RegistrationRow → RegistrationRow
-cleared row = record row { installing = None; waiting = None; active = None }
+-- there is no worker in a slot any more (Service Workers, Appendix A, "Update Registration State", with this target and null)
+abbrev pub without : Slot → RegistrationRow → RegistrationRow
+without slot.Installing row = record row { installing = None }
+without slot.Waiting row = record row { waiting = None }
+without slot.Active row = record row { active = None }
 
 -- the registration has this mode (Service Workers, "update via cache mode")
 abbrev pub with_mode : Mode → RegistrationRow → RegistrationRow
@@ -57,7 +57,6 @@ abbrev pub edited : Edit → RegistrationRow → RegistrationRow
 edited (edit.Installing worker) row = with_installing worker row
 edited (edit.Waiting number) row = with_waiting number row
 edited edit.Active row = with_active row
-edited edit.DropInstalling row = without_installing row
-edited edit.Clear row = cleared row
+edited (edit.Leave place) row = without place row
 edited (edit.Mode mode) row = with_mode mode row
 edited (edit.Owed owed) row = with_owed owed row

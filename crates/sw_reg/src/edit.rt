@@ -4,7 +4,7 @@ ghost use Rattle.std.specs.Prelude.{◌≡◌, ◌&&◌, not};
 ghost use Rattle.sw_reg.specs.Edits.{edited};
 ghost use Rattle.sw_reg.specs.Table.{has_first};
 
-use sw_data::{Mode, RegistrationRow};
+use sw_data::{Mode, RegistrationRow, Slot};
 
 // What a call does to the row of a registration.
 #[derive(Debug, Clone, Copy)]
@@ -15,10 +15,8 @@ pub(crate) enum Edit {
     Waiting(u32),
     /// The waiting worker becomes the active one.
     Active,
-    /// There is no installing worker any more.
-    DropInstalling,
-    /// There is no worker any more.
-    Clear,
+    /// There is no worker in this slot any more.
+    Leave(Slot),
     Mode(Mode),
     /// It is owed a Try Activate, or not.
     Owed(bool),
@@ -37,12 +35,9 @@ pub(crate) fn carry_out(row: &mut RegistrationRow, edit: Edit) -> bool
             row.waiting = row.installing.take();
         }
         Edit::Active => row.active = row.waiting.take(),
-        Edit::DropInstalling => row.installing = None,
-        Edit::Clear => {
-            row.installing = None;
-            row.waiting = None;
-            row.active = None;
-        }
+        Edit::Leave(Slot::Installing) => row.installing = None,
+        Edit::Leave(Slot::Waiting) => row.waiting = None,
+        Edit::Leave(Slot::Active) => row.active = None,
         Edit::Mode(mode) => row.mode = mode,
         Edit::Owed(owed) => row.owed = owed,
     }

@@ -3,16 +3,15 @@
 ghost use Rattle.std.specs.Prelude.{◌≡◌, ◌++◌, ◌∷◌, [], ◌-◌, ◌≤◌, true, find, length, is_none, is_some, IfOk, OnOk, OnErr};
 ghost use Rattle.std.specs.Option.{option_copied};
 ghost use Rattle.sw_rules.specs.Rows.{changed};
-ghost use Rattle.sw_reg.specs.Edits.{cleared, edited, new_registration, with_active, with_installing, with_mode, with_owed, with_waiting, without_installing};
+ghost use Rattle.sw_reg.specs.Edits.{edited, new_registration, with_active, with_installing, with_mode, with_owed, with_waiting, without};
 ghost use Rattle.sw_reg.specs.Fits.{FitsRegistration};
 ghost use Rattle.sw_reg.specs.Table.{firsts, has_registration, is_registration, is_there, newest_of, registration_at, slot_of};
-ghost use Rattle.sw_data.specs.declared.workers.Slot.TheVariants as in_place;
 
 use crate::edit::{Edit, carry_out};
 use std::alloc::Global;
 use std::marker::Model;
 use sw_data::{Mode, NoMemory, RegistrationRow, Slot, Text};
-use sw_flags::Flags;
+use sw_list::Flags;
 
 /// The registrations in order of making, where a registration's number is its place.
 #[derive(Drop)]
@@ -234,51 +233,35 @@ impl Registrations {
         self.edit(id, Edit::Installing(worker));
     }
 
-    /// The installing worker becomes the waiting one; the answer is the one that it replaces. A registration that gets its
-    /// first waiting worker is numbered by how many have got one before. It takes no memory.
-    pub fn to_waiting(&mut self, id: u32) -> Option<u32>
+    /// The installing worker becomes the waiting one. A registration that gets its first waiting worker is numbered by how
+    /// many have got one before. It takes no memory.
+    pub fn to_waiting(&mut self, id: u32)
         requires { has_registration (λ row. is_some row.installing) id self.old.rows ≡ true }
-        ensures rows { self.new ≡ record self.old {
+        ensures { self.new ≡ record self.old {
           rows = changed (is_registration id) (with_waiting (firsts self.old.rows)) self.old.rows;
         } }
-        ensures replaced { result ≡ slot_of in_place.Waiting id self.old.rows }
     {
-        let replaced = self.slot(id, Slot::Waiting);
         self.edit(id, Edit::Waiting(self.firsts));
-        replaced
     }
 
-    /// The waiting worker becomes the active one; the answer is the one that it replaces. It takes no memory.
-    pub fn to_active(&mut self, id: u32) -> Option<u32>
+    /// The waiting worker becomes the active one. It takes no memory.
+    pub fn to_active(&mut self, id: u32)
         requires { has_registration (λ row. is_some row.waiting) id self.old.rows ≡ true }
-        ensures rows { self.new ≡ record self.old {
+        ensures { self.new ≡ record self.old {
           rows = changed (is_registration id) with_active self.old.rows;
         } }
-        ensures replaced { result ≡ slot_of in_place.Active id self.old.rows }
     {
-        let replaced = self.slot(id, Slot::Active);
         self.edit(id, Edit::Active);
-        replaced
     }
 
-    /// The installing slot becomes empty. It takes no memory.
-    pub fn drop_installing(&mut self, id: u32)
+    /// A slot becomes empty. It takes no memory.
+    pub fn leave(&mut self, id: u32, slot: Slot)
         requires { is_there id self.old.rows ≡ true }
         ensures { self.new ≡ record self.old {
-          rows = changed (is_registration id) without_installing self.old.rows;
+          rows = changed (is_registration id) (without slot) self.old.rows;
         } }
     {
-        self.edit(id, Edit::DropInstalling);
-    }
-
-    /// All three slots become empty. It takes no memory.
-    pub fn clear(&mut self, id: u32)
-        requires { is_there id self.old.rows ≡ true }
-        ensures { self.new ≡ record self.old {
-          rows = changed (is_registration id) cleared self.old.rows;
-        } }
-    {
-        self.edit(id, Edit::Clear);
+        self.edit(id, Edit::Leave(slot));
     }
 
     /// A registration gets this mode. It takes no memory.

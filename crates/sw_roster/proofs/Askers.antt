@@ -17,7 +17,7 @@ use Rattle.sw_rules.specs.Rows.{is_client, key_of_worker}
 use Rattle.sw_tables.proofs.Lookups.{worker_shown}
 use Rattle.sw_tables.proofs.Rows.{find_map}
 use Rattle.sw_tables.specs.Lent.{shown_registration, shown_worker}
-use Rattle.sw_work.specs.Hosted.{Hosted, rest_of, state_of}
+use Rattle.sw_state.specs.Hosted.{Hosted, rest_of, state_of}
 use Rattle.sw_worker.specs.Table.{worker_at}
 
 -- ---- workers

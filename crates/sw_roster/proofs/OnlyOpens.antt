@@ -18,27 +18,31 @@ use Rattle.sw_data.specs.declared.rows.JobRow.{JobRow}
 use Rattle.sw_data.specs.declared.storage.Change.{Change}
 use Rattle.sw_data.specs.declared.workers.Phase.{Phase}
 use Rattle.sw_data.specs.declared.workers.Slot.{Slot}
+use Rattle.sw_data.specs.declared.workers.Slot.TheVariants as slot
+use Rattle.sw_data.specs.declared.workers.WorkerState.TheVariants as worker_state
 use Rattle.sw_data.specs.Addresses.{address_of}
 use Rattle.sw_data.specs.Events.{who_of}
 use Rattle.sw_data.specs.Keys.{key_of}
+use Rattle.sw_laws.proofs.AtOnce.{clear_only, retire_only, waiting_leaves}
 use Rattle.sw_laws.proofs.Events.{gives_control, step-law}
+use Rattle.sw_laws.proofs.Forgotten.{forgotten_leaves}
 use Rattle.sw_laws.proofs.Lists.{bound_holds, by_option, by_test, mapped_holds}
 use Rattle.sw_laws.proofs.Split.{IsLaw, IsRecheckLaw, unload-law}
 use Rattle.sw_roster.specs.Members.{has_closed, has_opened, opened}
 use Rattle.sw_rules.specs.Activating.{become_activated, worker_or_none}
 use Rattle.sw_rules.specs.Caching.{add_cache, add_task, carry_out, drop_cache, settle_task}
-use Rattle.sw_rules.specs.Forgetting.{forget_key, forget_registrations, is_mapped_of}
+use Rattle.sw_rules.specs.Forgetting.{forget_key, is_mapped_of}
 use Rattle.sw_rules.specs.Calls.{is_next_call, make_call, note_call, noted}
 use Rattle.sw_rules.specs.Clients.{add_client, add_event, claim_client, claim_clients, claim_of, claims, close, leave, new_client, open_at, open_client, opening_controller, remove_client, remove_event, take_control, with_slot}
-use Rattle.sw_rules.specs.Installing.{become_waiting, begin_install, discard, end_handler, fail_install, finish_install, make_worker, reject_and_drop, tell_update, throw}
+use Rattle.sw_rules.specs.Installing.{become_waiting, begin_install, end_handler, fail_install, finish_install, make_worker, reject_and_drop, remember, tell_update, throw}
 use Rattle.sw_rules.specs.Jobs.{finish, promise, schedule, settle}
 use Rattle.sw_rules.specs.Preloading.{set_preload}
 use Rattle.sw_rules.specs.Registering.{fetch_script}
-use Rattle.sw_rules.specs.Registrations.{activate, clear, controlled_by, drop_registration, map_registration, set_mode, unload, unmap}
-use Rattle.sw_rules.specs.Rows.{changed, client_row, is_active, is_client, is_number, mapped_registration, named_scope, newest_worker, registration_row, slot_worker, uses, without, worker_row}
-use Rattle.sw_rules.specs.State.{State, Registration, Worker, Awaited}
+use Rattle.sw_rules.specs.Registrations.{activate, become, controlled_by, drop_registration, map_registration, retire, set_mode, start_handler, take_over, unload, unmap}
+use Rattle.sw_rules.specs.Rows.{changed, client_row, is_active, is_client, is_number, mapped_registration, named_scope, newest_worker, registration_row, slot_worker, without, worker_row}
+use Rattle.sw_rules.specs.State.{State, Worker, Awaited}
 use Rattle.sw_rules.specs.Step.{Step, step}
-use Rattle.sw_rules.specs.Told.{Told, Outcome, followed, quiet}
+use Rattle.sw_rules.specs.Told.{Told, Outcome, followed, keep, quiet}
 use Rattle.std.specs.Prelude.{is_none}
 
 -- ---- clients that aren't there
@@ -72,13 +76,19 @@ further : (state : State) (told : Told) (next : State → Told) → Keeps state 
 unfolding followed
 further state told next one other n out = other n (one n out)
 
+-- where the clients are as they were
+same_out : (old new : List ClientRow) → new ≡ old → (n : ℕ) → IsOut n old → IsOut n new
+same_out old new same n out = subst (IsOut n) (sym same) out
+
 rechecks_keep : IsRecheckLaw Keeps
-unfolding activate clear
+unfolding activate followed keep become take_over start_handler
 rechecks_keep = record {
   nothing = λ state n out. out;
   further = further;
-  activating = λ state registration worker is n out. changed_out n (uses state.workers registration) (controlled_by worker) (λ c. refl) state.clients out;
-  clearing = λ state registration gone unused calm n out. out;
+  activating = λ state registration worker is n out.
+      let retired = retire state slot.Active registration in
+      changed_out n _ (controlled_by worker) (λ c. refl) retired.state.clients (same_out state.clients retired.state.clients (ap (λ (s : State). s.clients) (retire_only state slot.Active registration).rest) n out);
+  clearing = λ state registration gone unused calm. same_out state.clients _ (ap (λ (s : State). s.clients) (clear_only state registration).rest);
 }
 
 unload_keeps : (state : State) (client : ℕ) → Keeps state (unload state client)
@@ -123,16 +133,16 @@ reject_keeps state job registration why =
     further state settled _ (λ n out. out) (further settled.state dropped _ (drop_keeps settled.state registration) (λ n out. out))
 
 throw_keeps : (state : State) (job registration worker : ℕ) → Keeps state (throw state job registration worker)
-unfolding throw discard
+unfolding throw become
 throw_keeps state job registration worker =
-    let discarded = discard state worker in
+    let discarded = become state worker worker_state.Redundant in
     further state discarded _ (λ n out. out) (reject_keeps discarded.state job registration _)
 
 fail_keeps : (state : State) (row : JobRow) (registration worker : ℕ) → Keeps state (fail_install state row registration worker)
-unfolding fail_install end_handler discard finish unmap
+unfolding fail_install end_handler become finish unmap
 fail_keeps state row registration worker =
     let ended = end_handler state worker in
-    let discarded = discard ended.state worker in
+    let discarded = become ended.state worker worker_state.Redundant in
     let gone = if is_none row.remembered then unmap discarded.state registration else quiet discarded.state in
     further state ended _ (λ n out. out)
     (further ended.state discarded _ (λ n out. out)
@@ -141,19 +151,15 @@ fail_keeps state row registration worker =
     (λ n out. out)))
 
 install_keeps : (state : State) (job registration : ℕ) (worker : Worker) → Keeps state (finish_install state job registration worker)
-unfolding finish_install end_handler become_waiting finish
+unfolding finish_install end_handler finish
 install_keeps state job registration worker =
     let ended = end_handler state worker.number in
     let waiting = become_waiting ended.state registration worker in
-    further state ended _ (λ n out. out) (further ended.state waiting _ (λ n out. out) (λ n out. out))
-
-forgets_keep : (rows : List Registration) (state : State) → Keeps state (forget_registrations state rows)
-unfolding forget_registrations followed unmap clear
-forgets_keep [] state = λ n out. out
-forgets_keep (row ∷ rows) state = forgets_keep rows (clear (unmap state row.number).state row.number).state
+    further state ended _ (λ n out. out)
+    (further ended.state waiting _ (same_out state.clients waiting.state.clients (ap (λ (s : State). s.clients) (waiting_leaves ended.state registration worker))) (λ n out. out))
 
 keep_law : IsLaw Keeps false
-unfolding followed schedule settle finish map_registration unmap set_mode set_preload fetch_script make_worker begin_install tell_update end_handler become_activated add_event remove_event add_cache drop_cache carry_out forget_key add_task settle_task note_call
+unfolding followed schedule settle finish map_registration unmap set_mode set_preload fetch_script make_worker begin_install remember become start_handler tell_update end_handler become_activated keep add_event remove_event add_cache drop_cache carry_out forget_key add_task settle_task note_call
 keep_law = record {
   rechecks = rechecks_keep;
   scheduling = λ state job is n out. out;
@@ -181,7 +187,7 @@ keep_law = record {
   caching = λ state key name free n out. out;
   dropping = λ state key name n out. out;
   carrying = λ state key name ops pairs new there is n out. out;
-  forgetting = λ state key free. forgets_keep (filter (is_mapped_of key) state.registrations) state;
+  forgetting = λ state key free. same_out state.clients _ (ap (λ (s : State). s.clients) (forgotten_leaves state (filter (is_mapped_of key) state.registrations)));
   awaiting = λ state maker key name requests runs n out. out;
   answering = λ state number result faulted may n out. out;
   noting = λ state worker faulted n out. out;

@@ -8,7 +8,7 @@ ghost use Rattle.sw_roster.specs.Members as rules;
 ghost use Rattle.sw_roster.specs.Members.{is_other, is_redundant, is_same, numbers_of};
 ghost use Rattle.sw_rules.specs.Rows as rows;
 ghost use Rattle.sw_rules.specs.Rows.{is_client, is_number};
-ghost use Rattle.sw_work.specs.Hosted.{state_of};
+ghost use Rattle.sw_state.specs.Hosted.{state_of};
 
 use crate::recent::Recent;
 use std::alloc::Global;

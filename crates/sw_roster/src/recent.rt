@@ -8,7 +8,7 @@ ghost use Rattle.sw_rules.specs.Rows.{without};
 use std::alloc::Global;
 use std::marker::Model;
 use sw_data::NoMemory;
-use sw_order::Ordered;
+use sw_list::Ordered;
 
 // The clients with a focus. A focus takes a binary search, a constant number of look-ups and a plain move of those that were
 // focused later.

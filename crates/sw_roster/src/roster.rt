@@ -6,7 +6,7 @@ ghost use Rattle.sw_roster.specs.Members as rules;
 ghost use Rattle.sw_roster.specs.Members.{by_focus, dropped, is_same, may_ask, members};
 ghost use Rattle.sw_rules.specs.Rows.{client_row, without};
 ghost use Rattle.sw_rules.specs.Step.{Step, enabled};
-ghost use Rattle.sw_work.specs.Hosted.{state_of};
+ghost use Rattle.sw_state.specs.Hosted.{state_of};
 
 use crate::asking::{add_others, got, listed_of, may_ask};
 use crate::faults::RosterFault;
@@ -29,7 +29,7 @@ pub struct Roster {
 impl Model for Roster {
     ghost use Rattle.sw_laws.specs.Coherent.{Coherent};
     ghost use Rattle.sw_roster.specs.Members.{Rostered};
-    ghost use Rattle.sw_work.specs.Hosted.{state_of};
+    ghost use Rattle.sw_state.specs.Hosted.{state_of};
 
     ghost Value = { Rostered };
 

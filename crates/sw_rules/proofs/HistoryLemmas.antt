@@ -57,11 +57,3 @@ stamp_at : (clock : ℕ) (entries : List Entry) (k : ℕ) (entry : Entry) → Al
 stamp_at clock [] k entry all got = absurd cc
 stamp_at clock (first ∷ entries) zero entry all got = let e : first ≡ entry = cc in ap (λ (x : Entry). x.stamp) (sym e) ∙ all.0
 stamp_at clock (first ∷ entries) (suc k) entry all got = stamp_at clock entries k entry all.1 got
-
--- where the clock stands still all entries have its stamp
-pub stamped_standing : (base : Kept) (clock : ℕ) (history : List Entry) → AllStampedAt clock history → Stamped base clock clock history
-stamped_standing base clock [] all = (omega arith, tt)
-stamped_standing base clock (opening ∷ entries) all = (
-  stamped_from clock clock (opening ∷ entries) refl all,
-  λ k entry got. let is : entry.stamp ≡ clock = stamp_at clock entries k entry all.1 got in omega (arith, is, all.0),
-)

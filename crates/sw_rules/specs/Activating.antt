@@ -1,16 +1,15 @@
 -- Activating: the owed Try Activate, and the end of an activate handler.
-use Rattle.std.specs.Prelude.{ℕ, Bool, false, not, ◌&&◌, ◌==◌, [], ◌∷◌, Option, Some, None, option_map, option_and_then, if◌then◌else◌}
+use Rattle.std.specs.Prelude.{ℕ, Bool, false, not, ◌&&◌, ◌==◌, Option, Some, None, option_map, option_and_then, if◌then◌else◌}
 use Rattle.std.specs.List.{list_any}
 use Rattle.sw_data.specs.declared.answers.Answer.{Answer}
 use Rattle.sw_data.specs.declared.answers.Answer.TheVariants as answer
-use Rattle.sw_data.specs.declared.answers.Notice.TheVariants as notice
 use Rattle.sw_data.specs.declared.storage.Change.TheVariants as change
 use Rattle.sw_data.specs.declared.workers.WorkerState.TheVariants as worker_state
-use Rattle.sw_rules.specs.Installing.{advance, end_handler, ended_handler}
-use Rattle.sw_rules.specs.Registrations.{chosen, recheck, try_activate}
+use Rattle.sw_rules.specs.Installing.{end_handler, ended_handler}
+use Rattle.sw_rules.specs.Registrations.{become, chosen, recheck, try_activate}
 use Rattle.sw_rules.specs.Rows.{changed, is_registration, is_install, worker_row}
 use Rattle.sw_rules.specs.State.{State}
-use Rattle.sw_rules.specs.Told.{Told, Outcome, followed, kept_change}
+use Rattle.sw_rules.specs.Told.{Told, Outcome, followed, keep}
 
 -- ---- the owed Try Activate (Service Workers, Appendix A, "Install", its last step)
 
@@ -39,13 +38,11 @@ tryactivate state registration = if is_owed state registration then Some (pay st
 
 -- ---- the end of an activate handler (Service Workers, Appendix A, "Activate", from the activate event on)
 
--- a worker becomes activated
+-- the active worker of a registration, of this number, becomes activated
 unfoldable pub become_activated : State → ℕ → ℕ → Told
-become_activated state registration worker = record {
-  state = record state { workers = advance worker worker_state.Activated state.workers };
-  notices = notice.Worker worker worker_state.Activated ∷ [];
-  changes = kept_change state registration (λ row. change.Activated row.key row.scope);
-}
+become_activated state registration worker =
+    followed (keep state registration (λ row. change.Activated row.key row.scope))
+    (λ kept. become kept worker worker_state.Activated)
 
 -- the activate handler of a worker has ended; what follows, and the moment, is own
 unfoldable pub finish_activate : State → ℕ → ℕ → Told

@@ -20,14 +20,13 @@ use Rattle.sw_data.specs.declared.storage.KeptWorker.{KeptWorker}
 use Rattle.sw_data.specs.declared.workers.Phase.{Phase}
 use Rattle.sw_data.specs.declared.workers.Phase.TheVariants as phase
 use Rattle.sw_data.specs.declared.workers.Slot.TheVariants as slot
-use Rattle.sw_data.specs.declared.workers.WorkerState.{WorkerState}
 use Rattle.sw_data.specs.declared.workers.WorkerState.TheVariants as worker_state
 use Rattle.sw_data.specs.Addresses.{is_within_bound, scope_bound}
 use Rattle.sw_data.specs.Headers.{first_value}
 use Rattle.sw_data.specs.Media.{is_javascript}
 use Rattle.sw_rules.specs.Jobs.{finish, resolve_and_finish, same_kind, settle}
-use Rattle.sw_rules.specs.Registrations.{new_handler, drop_registration, set_mode, shift, tell_redundant, unmap}
-use Rattle.sw_rules.specs.Rows.{changed, free_handler, is_in_phase, is_evaluating, is_fetching, is_install, is_installing, is_job, is_registration, is_worker, job_row, newest_worker, registration_row, slot_worker, worker_row}
+use Rattle.sw_rules.specs.Registrations.{become, drop_registration, retire, set_mode, start_handler, unmap}
+use Rattle.sw_rules.specs.Rows.{changed, free_handler, is_in_phase, is_evaluating, is_fetching, is_install, is_installing, is_job, is_registration, is_worker, job_row, newest_worker, registration_row, worker_row}
 use Rattle.sw_rules.specs.State.{State, Registration, Worker, Handler}
 use Rattle.sw_rules.specs.Told.{Told, Outcome, followed, quiet, type_error}
 
@@ -129,43 +128,31 @@ fetched state number line =
 
 -- ---- the evaluation of a script (Service Workers, Appendix A, "Update" and "Install")
 
-abbrev pub advance : ℕ → WorkerState → List Worker → List Worker
-advance worker to rows = changed (is_worker worker) (λ row. record row { state = to }) rows
-
--- a worker becomes redundant
-unfoldable pub discard : State → ℕ → Told
-discard state worker = record {
-  state = record state { workers = advance worker worker_state.Redundant state.workers };
-  notices = notice.Worker worker worker_state.Redundant ∷ [];
-  changes = [];
-}
-
 -- a script threw (that its worker becomes redundant here is own)
 unfoldable pub throw : State → ℕ → ℕ → ℕ → Told
 throw state job registration worker =
-    followed (discard state worker) (λ discarded.
+    followed (become state worker worker_state.Redundant) (λ discarded.
     reject_and_drop discarded job registration (type_error cause.Threw))
 
--- a worker becomes installing, and its install handler starts
-abbrev pub installing : Worker → Worker
-installing row = record row { state = worker_state.Installing; handler = Some (new_handler phase.Install) }
+-- a job goes on to its install, and remembers the newest worker before it
+unfoldable pub remember : State → ℕ → ℕ → Told
+remember state job registration =
+    quiet (record state {
+      jobs =
+          changed (is_job job)
+          (λ row. record row {
+            phase = job_phase.Installing;
+            remembered = option_map (λ newest. newest.number) (newest_worker state registration);
+          })
+          state.jobs;
+    })
 
--- a job's worker begins to install: the newest worker is remembered
+-- a job's worker begins to install
 unfoldable pub begin_install : State → ℕ → ℕ → ℕ → Told
-begin_install state job registration worker = record {
-  state = record state {
-    workers = changed (is_worker worker) installing state.workers;
-    jobs =
-        changed (is_job job)
-        (λ row. record row {
-          phase = job_phase.Installing;
-          remembered = option_map (λ newest. newest.number) (newest_worker state registration);
-        })
-        state.jobs;
-  };
-  notices = notice.Worker worker worker_state.Installing ∷ [];
-  changes = [];
-}
+begin_install state job registration worker =
+    followed (remember state job registration) (λ remembered.
+    followed (become remembered worker worker_state.Installing) (λ installing.
+    start_handler installing worker phase.Install))
 
 -- what is told where an update was found
 unfoldable pub tell_update : State → ℕ → Told
@@ -220,15 +207,9 @@ end_handler state worker =
 unfoldable pub fail_install : State → JobRow → ℕ → ℕ → Told
 fail_install state row registration worker =
     followed (end_handler state worker) (λ ended.
-    followed (discard ended worker) (λ discarded.
+    followed (become ended worker worker_state.Redundant) (λ discarded.
     followed (if is_none row.remembered then unmap discarded registration else quiet discarded) (λ left.
     finish left row.job.number)))
-
--- the state of a worker when its registration's installing one becomes waiting
-abbrev pub install_state : WorkerState → WorkerState
-install_state worker_state.Installing = worker_state.Installed
-install_state worker_state.Installed = worker_state.Redundant
-install_state state = state
 
 -- how many registrations have got a waiting worker
 abbrev pub first_counter : List Registration → ℕ
@@ -241,21 +222,25 @@ placed place row = record row { first = option_or row.first (Some place); owed =
 abbrev pub kept_worker : Worker → KeptWorker
 kept_worker row = record { script = row.script; kind = row.kind; body = row.body }
 
--- the installing worker becomes the waiting one in place of another, and a Try Activate is owed (Service Workers, Appendix A, "Install")
-unfoldable pub become_waiting : State → ℕ → Worker → Told
-become_waiting state registration worker = record {
+-- a registration gets this waiting worker: that is kept, and a Try Activate is owed
+unfoldable pub owe_try_activate : State → ℕ → Worker → Told
+owe_try_activate state registration worker = record {
   state = record state {
     registrations =
         changed (is_registration registration) (placed (first_counter state.registrations)) state.registrations;
-    workers = shift registration install_state state.workers;
   };
-  notices =
-      tell_redundant (slot_worker state slot.Waiting registration)
-      ++ notice.Worker worker.number worker_state.Installed ∷ [];
+  notices = [];
   changes =
       option_map_or (λ row. change.Waiting row.key row.scope row.mode (kept_worker worker) ∷ [])
       (registration_row state registration) [];
 }
+
+-- the installing worker becomes the waiting one in place of another (Service Workers, Appendix A, "Install")
+unfoldable pub become_waiting : State → ℕ → Worker → Told
+become_waiting state registration worker =
+    followed (owe_try_activate state registration worker) (λ owed.
+    followed (retire owed slot.Waiting registration) (λ retired.
+    become retired worker.number worker_state.Installed))
 
 -- an install succeeded
 unfoldable pub finish_install : State → ℕ → ℕ → Worker → Told

@@ -1,7 +1,6 @@
 -- Registrations: their making, mode and leaving of the map, activation, clearing, and clients that leave them.
-use Rattle.std.specs.Prelude.{ℕ, Bool, true, false, not, ◌&&◌, ◌||◌, ◌==◌, List, [], ◌∷◌, ◌++◌, map, filter, length, codes, is_none, Option, Some, None, option_and_then, if◌then◌else◌}
+use Rattle.std.specs.Prelude.{ℕ, Bool, true, false, not, ◌&&◌, ◌||◌, [], ◌∷◌, ◌++◌, map, filter, length, codes, is_none, Option, Some, None, option_and_then, if◌then◌else◌}
 use Rattle.std.specs.Option.{option_map_or}
-use Rattle.sw_data.specs.declared.answers.Notice.{Notice}
 use Rattle.sw_data.specs.declared.answers.Notice.TheVariants as notice
 use Rattle.sw_data.specs.declared.rows.ClientRow.{ClientRow}
 use Rattle.sw_data.specs.declared.rows.Job.{Job}
@@ -9,13 +8,14 @@ use Rattle.sw_data.specs.declared.storage.Change.TheVariants as change
 use Rattle.sw_data.specs.declared.workers.Mode.{Mode}
 use Rattle.sw_data.specs.declared.workers.Phase.{Phase}
 use Rattle.sw_data.specs.declared.workers.Phase.TheVariants as phase
+use Rattle.sw_data.specs.declared.workers.Slot.{Slot}
 use Rattle.sw_data.specs.declared.workers.Slot.TheVariants as slot
 use Rattle.sw_data.specs.declared.workers.WorkerState.{WorkerState}
 use Rattle.sw_data.specs.declared.workers.WorkerState.TheVariants as worker_state
 use Rattle.sw_rules.specs.Jobs.{same_mode}
-use Rattle.sw_rules.specs.Rows.{changed, client_row, has_pending, has_pending_worker, is_activating, is_client, is_mapped, is_registration, is_used, newest_worker, registration_of, registration_row, slot_worker, uses}
+use Rattle.sw_rules.specs.Rows.{changed, client_row, has_pending, has_pending_worker, is_activating, is_client, is_mapped, is_registration, is_used, is_worker, newest_worker, registration_of, registration_row, slot_worker, uses}
 use Rattle.sw_rules.specs.State.{State, Registration, Worker, Handler}
-use Rattle.sw_rules.specs.Told.{Told, followed, kept_change, quiet}
+use Rattle.sw_rules.specs.Told.{Told, followed, keep, kept_change, quiet}
 
 -- ---- the map (Service Workers, "scope to registration map")
 
@@ -75,17 +75,23 @@ set_mode state registration mode = record {
       else kept_change state registration (λ row. change.Mode row.key row.scope mode);
 }
 
--- ---- states of workers (Service Workers, Appendix A, "Update Worker State", "Update Registration State")
+-- ---- states of workers
 
--- each worker of a registration goes on in this way
-abbrev pub shift : ℕ → (WorkerState → WorkerState) → List Worker → List Worker
-shift registration on rows =
-    changed (λ row. row.registration == registration) (λ row. record row { state = on row.state }) rows
+-- the state of a worker becomes this one (Service Workers, Appendix A, "Update Worker State")
+unfoldable pub become : State → ℕ → WorkerState → Told
+become state worker to = record {
+  state = record state { workers = changed (is_worker worker) (λ row. record row { state = to }) state.workers };
+  notices = notice.Worker worker to ∷ [];
+  changes = [];
+}
 
--- what is told of a worker that becomes redundant, where there is one
-abbrev pub tell_redundant : Option Worker → List Notice
-tell_redundant (Some old) = notice.Worker old.number worker_state.Redundant ∷ []
-tell_redundant None = []
+-- the worker of a registration in a slot, where there is one, becomes redundant
+unfoldable pub retire : State → Slot → ℕ → Told
+retire state place registration =
+    elim (slot_worker state place registration) [
+      | None ↦ quiet state
+      | Some old ↦ become state old.number worker_state.Redundant
+    ]
 
 -- ---- Activate
 
@@ -93,33 +99,35 @@ tell_redundant None = []
 abbrev pub new_handler : Phase → Handler
 new_handler in_phase = record { phase = in_phase; made = 0; faulted = false }
 
--- a worker of a registration when the waiting one becomes active: that one is activating, and its activate handler starts
-abbrev pub promote : Worker → Worker
-promote row =
-    elim row.state [
-      | worker_state.Installed ↦
-          record row { state = worker_state.Activating; handler = Some (new_handler phase.Activate) }
-      | worker_state.Activating ↦ record row { state = worker_state.Redundant }
-      | worker_state.Activated ↦ record row { state = worker_state.Redundant }
-      | _ ↦ row
-    ]
+-- the handler of a worker starts
+unfoldable pub start_handler : State → ℕ → Phase → Told
+start_handler state worker in_phase =
+    quiet (record state {
+      workers = changed (is_worker worker) (λ row. record row { handler = Some (new_handler in_phase) }) state.workers;
+    })
 
 abbrev pub controlled_by : ℕ → ClientRow → ClientRow
 controlled_by worker client = record client { controller = Some worker }
 
--- the waiting worker of a registration, of this number, becomes the active one in place of another, and the controller of each client that uses the registration (Service Workers, Appendix A, "Activate")
-unfoldable pub activate : State → ℕ → ℕ → Told
-activate state registration worker = record {
+-- a worker becomes the controller of each client that uses the registration
+unfoldable pub take_over : State → ℕ → ℕ → Told
+take_over state registration worker = record {
   state = record state {
-    workers = changed (λ row. row.registration == registration) promote state.workers;
     clients = changed (uses state.workers registration) (controlled_by worker) state.clients;
   };
   notices =
-      tell_redundant (slot_worker state slot.Active registration)
-      ++ notice.Worker worker worker_state.Activating ∷ []
-      ++ map (λ client. notice.ControllerChange client.number) (filter (uses state.workers registration) state.clients);
-  changes = kept_change state registration (λ row. change.Active row.key row.scope);
+      map (λ client. notice.ControllerChange client.number) (filter (uses state.workers registration) state.clients);
+  changes = [];
 }
+
+-- the waiting worker of a registration, of this number, becomes the active one in place of another, and the controller of each client that uses the registration (Service Workers, Appendix A, "Activate")
+unfoldable pub activate : State → ℕ → ℕ → Told
+activate state registration worker =
+    followed (keep state registration (λ row. change.Active row.key row.scope)) (λ kept.
+    followed (retire kept slot.Active registration) (λ retired.
+    followed (become retired worker worker_state.Activating) (λ activating.
+    followed (take_over activating registration worker) (λ taken.
+    start_handler taken worker phase.Activate))))
 
 -- the active worker, if any, may be replaced by this waiting one
 abbrev pub may_replace : State → ℕ → Worker → Option Worker → Bool
@@ -149,25 +157,11 @@ try_activate state registration =
 
 -- ---- Clear Registration
 
--- the state of a worker when its registration is cleared
-abbrev pub clear_state : WorkerState → WorkerState
-clear_state worker_state.Parsed = worker_state.Parsed
-clear_state state = worker_state.Redundant
-
--- what is told where a registration is cleared: its installing, waiting and active worker become redundant
-abbrev pub clear_notices : State → ℕ → List Notice
-clear_notices state registration =
-    tell_redundant (slot_worker state slot.Installing registration)
-    ++ tell_redundant (slot_worker state slot.Waiting registration)
-    ++ tell_redundant (slot_worker state slot.Active registration)
-
--- the workers of a registration become redundant (Service Workers, Appendix A, "Clear Registration")
+-- the installing, the waiting and the active worker of a registration become redundant (Service Workers, Appendix A, "Clear Registration")
 unfoldable pub clear : State → ℕ → Told
-clear state registration = record {
-  state = record state { workers = shift registration clear_state state.workers };
-  notices = clear_notices state registration;
-  changes = [];
-}
+clear state registration =
+    followed (retire state slot.Installing registration) (λ one.
+    followed (retire one slot.Waiting registration) (λ two. retire two slot.Active registration))
 
 -- a registration without users and pending events is cleared (Service Workers, Appendix A, "Try Clear Registration")
 unfoldable pub try_clear : State → ℕ → Told

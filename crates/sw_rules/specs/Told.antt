@@ -59,3 +59,7 @@ is_kept state row =
 abbrev pub kept_change : State → ℕ → (Registration → Change) → List Change
 kept_change state number change_of =
     option_map_or (λ row. if is_kept state row then change_of row ∷ [] else []) (registration_row state number) []
+
+-- that change is made, and the state stays as it is
+unfoldable pub keep : State → ℕ → (Registration → Change) → Told
+keep state number change_of = record { state = state; notices = []; changes = kept_change state number change_of }

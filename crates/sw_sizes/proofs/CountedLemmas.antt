@@ -6,7 +6,7 @@ use Rattle.std.proofs.lemmas.Bool.{and_parts, cases_Bool}
 use Rattle.std.proofs.lemmas.List.Filters.{sum_by-filter_both}
 use Rattle.std.proofs.lemmas.List.Sums.{get_or-le-sum_by, sum_by-cons, sum_by-le-sum_by, sum_by-set, sum_by_push}
 use Rattle.std.proofs.lemmas.Option.{get_or_from_slice_get, slice_get_within}
-use Rattle.sw_index.specs.Named.{is_at, is_of, with_value}
+use Rattle.sw_list.specs.Named.{is_at, is_of, with_value}
 use Rattle.sw_sizes.specs.declared.row.Parts.{Parts}
 use Rattle.sw_sizes.specs.declared.sums.Sums.{Sums}
 use Rattle.sw_sizes.specs.Counted.{IsCounted, at_key, held}

@@ -14,7 +14,7 @@ use Rattle.sw_data.specs.declared.workers.Mode.{Mode}
 use Rattle.sw_data.specs.Sizes.{text_size}
 use Rattle.sw_caches.proofs.TableLemmas.{filter_mapped}
 use Rattle.sw_caches.specs.Changes.{change_size}
-use Rattle.sw_index.specs.Named.{is_at, is_of}
+use Rattle.sw_list.specs.Named.{is_at, is_of}
 use Rattle.sw_rules.specs.Durable.{active_changes, preload_changes, waiting_changes}
 use Rattle.sw_rules.specs.Storage.{applied, first_waiting, is_cache, is_registration, marked_activated, promoted, with_registration, with_waiting as with_waiting_worker}
 use Rattle.sw_sizes.specs.declared.row.Edit.TheVariants as edit

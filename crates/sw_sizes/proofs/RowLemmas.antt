@@ -11,8 +11,8 @@ use Rattle.std.proofs.lemmas.List.Quantifiers.{position-Some}
 use Rattle.std.proofs.lemmas.List.Sums.{sum_by-cons}
 use Rattle.std.proofs.lemmas.Option.{get_or_from_slice_get, slice_get_within}
 use Rattle.sw_change.proofs.Apart.{apart-push, none-all}
-use Rattle.sw_index.proofs.FindLemmas.{found_any, found_position, none_position}
-use Rattle.sw_index.specs.Named.{Label, is_at, values, with_value}
+use Rattle.sw_list.proofs.FindLemmas.{found_any, found_position, none_position}
+use Rattle.sw_list.specs.Named.{Label, is_at, values, with_value}
 use Rattle.sw_sizes.specs.declared.row.Edit.TheVariants as edit
 use Rattle.sw_sizes.specs.declared.row.Parts.{Parts}
 use Rattle.sw_sizes.specs.Counted.{StandsAt, StandsNowhere, is_same}

@@ -2,7 +2,7 @@
 use Rattle.std.specs.Prelude.{◌≡◌, ℕ, ◌&&◌, Bool, not, List, bytes_eq, filter, slice_get, Some, if◌then◌else◌}
 use Rattle.std.specs.Map.{count_at}
 use Rattle.indexmap.specs.IndexMap.{get}
-use Rattle.sw_index.specs.Named.{Label, is_at, values, with_value}
+use Rattle.sw_list.specs.Named.{Label, is_at, values, with_value}
 use Rattle.sw_sizes.specs.declared.row.Parts.{Parts}
 use Rattle.sw_sizes.specs.declared.sums.Sums.{Sums}
 use Rattle.sw_sizes.specs.Rows.{Row, bytes_at, parts_bytes, rows_bytes, with_parts}

@@ -7,7 +7,7 @@ use Rattle.sw_data.specs.declared.storage.Kept.{Kept}
 use Rattle.sw_data.specs.declared.storage.KeptRegistration.{KeptRegistration}
 use Rattle.sw_data.specs.declared.storage.KeptWorker.{KeptWorker}
 use Rattle.sw_data.specs.Sizes.{text_size}
-use Rattle.sw_index.specs.Named.{Label, is_at, is_of}
+use Rattle.sw_list.specs.Named.{Label, is_at, is_of}
 use Rattle.sw_sizes.specs.declared.row.Edit.{Edit}
 use Rattle.sw_sizes.specs.declared.row.Edit.TheVariants as edit
 use Rattle.sw_sizes.specs.declared.row.Parts.{Parts}

@@ -4,7 +4,7 @@ ghost use Rattle.std.specs.Prelude.{◌≡◌, ◌++◌, ◌∷◌, ◌<◌, [],
 ghost use Rattle.std.specs.List.{list_any};
 ghost use Rattle.std.specs.Option.{IfSome};
 ghost use Rattle.sw_data.specs.declared.storage.Kept.{Kept};
-ghost use Rattle.sw_index.specs.Named.{is_at, is_of, values, with_value};
+ghost use Rattle.sw_list.specs.Named.{is_at, is_of, values, with_value};
 ghost use Rattle.sw_rules.specs.Storage.{applied, kept_after, nothing};
 ghost use Rattle.sw_sizes.specs.Counted.{StandsAt, StandsNowhere};
 ghost use Rattle.sw_sizes.specs.declared.row.Edit.TheVariants as Edit;
@@ -17,7 +17,7 @@ use std::alloc::Global;
 use std::marker::Model;
 use sw_caches::Caches;
 use sw_data::{Change, KeptWorker, NoMemory, Text};
-use sw_index::Named;
+use sw_list::Named;
 
 /// The bytes of the registrations of a content, of each key and in all. An index finds a registration, and each change
 /// costs what it touches.

@@ -21,7 +21,7 @@ use Rattle.sw_store.specs.declared.errors.StageError.{StageError}
 use Rattle.sw_store.specs.declared.errors.StageError.TheVariants as error
 use Rattle.sw_store.specs.Groups.{IsEntry, IsGroup, IsPlaced, IsStaged, IsTooLong}
 use Rattle.sw_store.specs.Stores.{GroupState, IsSameTwin, StoreState, store_of}
-use Rattle.sw_work.specs.Hosted.{Hosted, state_of}
+use Rattle.sw_state.specs.Hosted.{Hosted, state_of}
 
 -- ---- refusals
 

@@ -13,7 +13,7 @@ use Rattle.sw_rules.specs.State.{State}
 use Rattle.sw_rules.specs.Step.{Step, changes_of, enabled, step}
 use Rattle.sw_store.specs.Stores.{GroupState, StoreState, same_but_room}
 use Rattle.sw_twin.specs.Twin.{TwinState}
-use Rattle.sw_work.specs.Hosted.{Hosted, state_of}
+use Rattle.sw_state.specs.Hosted.{Hosted, state_of}
 use Rattle.sw_work.specs.Plans.{Means}
 use Rattle.sw_work.specs.Planned.{Fits}
 use Rattle.sw_work.specs.declared.plan.Plan.{Plan}

@@ -18,7 +18,7 @@ use Rattle.sw_store.specs.declared.errors.OpenError.{OpenError}
 use Rattle.sw_store.specs.declared.errors.OpenError.TheVariants as error
 use Rattle.sw_store.specs.Stores.{IsQuiet, StoreState}
 use Rattle.sw_twin.specs.Twin.{IsPastFirst, StandsIn, TwinState}
-use Rattle.sw_work.specs.Hosted.{state_of}
+use Rattle.sw_state.specs.Hosted.{state_of}
 
 -- the content that a restart makes of a content
 abbrev pub kept_restarted : Kept → Kept

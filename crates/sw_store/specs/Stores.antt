@@ -6,7 +6,7 @@ use Rattle.sw_kept.specs.Spelling.{IsContents}
 use Rattle.sw_journal.specs.Format.{format_2, needed_length}
 use Rattle.sw_store.specs.declared.limits.TheConstants.{GROWTH}
 use Rattle.sw_twin.specs.Twin.{TwinState}
-use Rattle.sw_work.specs.Hosted.{Hosted, state_of}
+use Rattle.sw_state.specs.Hosted.{Hosted, state_of}
 
 -- own: the entries of the events that wait, the spellings of their changes, and the room for more of each
 pub record GroupState : Type 0 where

@@ -15,7 +15,7 @@ ghost use Rattle.sw_rules.specs.Storage.{kept_after};
 ghost use Rattle.sw_store.specs.Groups.{IsEntry, IsTooLong};
 ghost use Rattle.sw_store.specs.Stores.{IsQuiet, IsSame};
 ghost use Rattle.sw_twin.specs.Twin.{StandsFor};
-ghost use Rattle.sw_work.specs.Hosted.{state_of};
+ghost use Rattle.sw_state.specs.Hosted.{state_of};
 
 use crate::errors::{ApplyError, CommitError, StageError};
 use crate::store::Store;

@@ -16,7 +16,7 @@ ghost use Rattle.sw_rules.specs.Restart.{restart};
 ghost use Rattle.sw_rules.specs.Storage.{IsMade};
 ghost use Rattle.sw_store.specs.Opened.{HasNoRoom, HasNoted, HasOpened, IsContentTooLong, IsFresh, IsOpened, IsRestartTooLong, IsUnopened, kept_restarted};
 ghost use Rattle.sw_twin.specs.Twin.{StandsFor};
-ghost use Rattle.sw_work.specs.Hosted.{state_of};
+ghost use Rattle.sw_state.specs.Hosted.{state_of};
 
 use crate::errors::OpenError;
 use crate::group::Group;

@@ -9,7 +9,7 @@ ghost use Rattle.sw_rules.specs.State.{State};
 ghost use Rattle.sw_rules.specs.Step.{changes_of, enabled};
 ghost use Rattle.sw_store.specs.Groups.{IsEntry, IsGroup, IsPlaced, IsStaged, IsTooLong, IsWorkedOut};
 ghost use Rattle.sw_store.specs.Stores.{FitsBehind, IsSame, IsSameTwin};
-ghost use Rattle.sw_work.specs.Hosted.{state_of};
+ghost use Rattle.sw_state.specs.Hosted.{state_of};
 
 use crate::errors::StageError;
 use crate::group::Group;

@@ -17,7 +17,7 @@ ghost use Rattle.sw_rules.specs.Durable.{durable};
 ghost use Rattle.sw_rules.specs.Storage.{IsMade, kept_after};
 ghost use Rattle.sw_store.specs.Stores.{FitsBehind, HasGrown, IsQuiet, IsTended, IsWrittenAnew, all_stamped};
 ghost use Rattle.sw_twin.specs.Twin.{StandsFor};
-ghost use Rattle.sw_work.specs.Hosted.{state_of};
+ghost use Rattle.sw_state.specs.Hosted.{state_of};
 
 use crate::errors::{CommitError, TendError};
 use crate::limits::GROWTH;

@@ -1,5 +1,5 @@
 -- The counts of addAlls that have not settled, where rows of workers change.
-use Rattle.std.proofs.Common.{◌≡◌, ◌∙◌, ℕ, ◌+◌, Bool, true, false, ◌&&◌, ◌==◌, List, [], ◌∷◌, ◌++◌, Option, Some, None, option_map, is_some, refl, sym, ap, true≢false, arith, if◌then◌else◌}
+use Rattle.std.proofs.Common.{◌≡◌, ◌∙◌, ℕ, ◌+◌, Bool, true, false, ◌&&◌, ◌==◌, List, [], ◌∷◌, ◌++◌, Option, Some, None, option_map, refl, sym, ap, arith, if◌then◌else◌}
 use Rattle.std.specs.Prelude.{is_none, IfSome}
 use Rattle.std.specs.Option.{option_map_or}
 use Rattle.std.proofs.lemmas.Bool.Decides.{nat_tests}
@@ -8,15 +8,13 @@ use Rattle.sw_data.specs.declared.rows.WorkerRow.{WorkerRow}
 use Rattle.sw_data.specs.declared.workers.Phase.{Phase}
 use Rattle.sw_data.specs.declared.workers.WorkerState.{WorkerState}
 use Rattle.sw_data.specs.declared.workers.WorkerState.TheVariants as worker_state
-use Rattle.sw_reg.specs.Table as registrations
 use Rattle.sw_rules.specs.Rows.{changed}
 use Rattle.sw_tables.proofs.Lives.{Rests}
+use Rattle.sw_tables.proofs.Waiting.{Waits}
 use Rattle.sw_tables.proofs.Rows.{at_changed, at_others, find_same, found_number}
 use Rattle.sw_tables.specs.Ends.{is_in}
 use Rattle.sw_tables.specs.Happened.{KeepCounts, unsettled_of}
-use Rattle.sw_tables.specs.Linked.{HasSlots, runs_handler}
-use Rattle.sw_tables.specs.Parts.{without_replaced}
-use Rattle.sw_tables.specs.Shifts.{is_of, promoted_worker}
+use Rattle.sw_tables.specs.Shifts.{retired}
 use Rattle.sw_worker.specs.Edits.{advanced, call_counted, with_handler}
 use Rattle.sw_worker.specs.Table as workers
 use Rattle.sw_worker.specs.Table.{has_calls_left, has_worker, is_worker, worker_at}
@@ -145,36 +143,17 @@ module _ (worker : ℕ) (fault task : Bool) (rows : List WorkerRow) (left : has_
           by_task true = ap counted_in (at_others (λ row. row.number) noted (λ x. refl) n worker is rows)
           by_task false = ap counted_in (at_others (λ row. row.number) noted (λ x. refl) n worker is rows)
 
--- ---- a worker that is replaced
+-- ---- a worker that leaves its slot
 
-pub replaced_keeps : (replaced : Option ℕ) (old new : workers.Table) → new ≡ record old { rows = without_replaced replaced old.rows } → KeepCounts old new
-replaced_keeps None old new is = λ number. ap (λ (t : workers.Table). unsettled_of number t.rows) is
-replaced_keeps (Some worker) old new is =
+pub retired_keeps : (worker : Option ℕ) (old new : workers.Table) → new ≡ record old { rows = retired worker old.rows } → KeepCounts old new
+retired_keeps None old new is = λ number. ap (λ (t : workers.Table). unsettled_of number t.rows) is
+retired_keeps (Some worker) old new is =
     plainly (is_worker worker) (advanced worker_state.Redundant) (λ x. refl) old new is (λ x. refl)
 
--- ---- the waiting worker becomes the active one
-
--- where its handler starts, none ran
-promoted_count : (x : WorkerRow) (state : WorkerState) (o : Option HandlerRow) → (is_some o ≡ true → runs_handler state ≡ true)
-    → counted (promoted_worker (record x { state = state; handler = o })) ≡ counted (record x { state = state; handler = o })
-promoted_count x worker_state.Parsed o runs = refl
-promoted_count x worker_state.Installing o runs = refl
-promoted_count x worker_state.Installed None runs = refl
-promoted_count x worker_state.Installed (Some handler) runs = absurd (true≢false (sym (runs refl)))
-promoted_count x worker_state.Activating o runs = refl
-promoted_count x worker_state.Activated o runs = refl
-promoted_count x worker_state.Redundant o runs = refl
-
-promoted_number : (x : WorkerRow) (state : WorkerState) → (promoted_worker (record x { state = state })).number ≡ x.number
-promoted_number x worker_state.Parsed = refl
-promoted_number x worker_state.Installing = refl
-promoted_number x worker_state.Installed = refl
-promoted_number x worker_state.Activating = refl
-promoted_number x worker_state.Activated = refl
-promoted_number x worker_state.Redundant = refl
-
-pub promoted_keeps : (registration : ℕ) (old new : workers.Table) (from : registrations.Table) → HasSlots old from
-    → new ≡ record old { rows = changed (is_of registration) promoted_worker old.rows } → KeepCounts old new
-promoted_keeps registration old new from has is =
-    changed_keeps (is_of registration) promoted_worker (λ x. promoted_number x x.state) old new is
-    (λ n x there passes. promoted_count x x.state x.handler (has.rows n x there).handler)
+-- a waiting worker has no handler
+pub waiting_counts : (registration worker : ℕ) (row : WorkerRow) (old : workers.Table) → Waits registration worker row old → unsettled_of worker old.rows ≡ 0
+waiting_counts registration worker row old known = ap counted_in known.here ∙ by row.handler known.handler
+  where
+    by : (o : Option HandlerRow) → is_none o ≡ true → option_map_or (λ handler. handler.unsettled) o 0 ≡ 0
+    by None is = refl
+    by (Some handler) is = absurd cc

@@ -1,11 +1,10 @@
-pub mod Going
 pub mod Moves
 pub mod Pending
 pub mod Rows
 pub mod Lives
 pub mod OneMoves
 pub mod Shown
-pub mod Shifting
+pub mod Retiring
 pub mod Standing
 pub mod Lookups
 pub mod OfClients

@@ -1,6 +1,7 @@
 -- A worker from parsed to activated or redundant, and the slots of its registration.
 use Rattle.std.proofs.Common.{◌≡◌, ◌∙◌, ℕ, Bool, true, false, List, map, Option, Some, None, option_map, option_and_then, refl, sym, ap, subst, true≢false, arith, if◌then◌else◌}
 use Rattle.std.specs.Prelude.{is_none, is_some}
+use Rattle.std.specs.List.{list_any}
 use Rattle.std.specs.Option.{option_map_or}
 use Rattle.std.proofs.lemmas.Bool.Decides.{nat_tests}
 use Rattle.sw_data.specs.declared.rows.RegistrationRow.{RegistrationRow}
@@ -10,7 +11,7 @@ use Rattle.sw_data.specs.declared.workers.Slot.{Slot}
 use Rattle.sw_data.specs.declared.workers.Slot.TheVariants as slot
 use Rattle.sw_data.specs.declared.workers.WorkerState.{WorkerState}
 use Rattle.sw_data.specs.declared.workers.WorkerState.TheVariants as worker_state
-use Rattle.sw_reg.specs.Edits.{with_installing, without_installing}
+use Rattle.sw_reg.specs.Edits.{with_installing, without}
 use Rattle.sw_reg.specs.Table as registrations
 use Rattle.sw_reg.specs.Table.{is_registration, registration_at, slot_of}
 use Rattle.sw_rules.specs.Rows.{changed, in_slot, is_number}
@@ -24,7 +25,7 @@ use Rattle.sw_tables.specs.Linked.{HasSlots}
 use Rattle.sw_tables.specs.Parts.{is_activating, is_installing, is_parsed, is_young, rests_in}
 use Rattle.sw_worker.specs.Edits.{advanced, started}
 use Rattle.sw_worker.specs.Table as workers
-use Rattle.sw_worker.specs.Table.{has_worker, is_activated, is_idle, is_worker, worker_at}
+use Rattle.sw_worker.specs.Table.{has_worker, is_activated, is_idle, is_on, is_worker, worker_at}
 
 -- own: what a worker that rests in some states is known by
 pub record Rests (test : WorkerState → Bool) (registration worker : ℕ) (row : WorkerRow) (old : workers.Table) : Type 0 where
@@ -58,7 +59,7 @@ in_redundant slot.Active is = absurd cc
 
 -- a worker that no handler and no event needs becomes redundant, and leaves its slots
 pub gone_move : (registration worker : ℕ) (row : WorkerRow) (slots : Slot → Option ℕ) (old new : workers.Table) (from to : registrations.Table)
-    → Goes registration slots from to → row.registration ≡ registration → worker_at worker old.rows ≡ Some row → is_none row.handler ≡ true → is_activated row ≡ false
+    → Goes registration slots from to → row.registration ≡ registration → worker_at worker old.rows ≡ Some row → is_none row.handler ≡ true → (list_any (is_on worker) old.events ≡ true → is_activated row ≡ false)
     → ((place : Slot) → in_slot place row.state ≡ true → slots place ≡ None) → ((place : Slot) → in_slot place row.state ≡ false → slots place ≡ slot_of place registration from.rows)
     → new ≡ record old { rows = changed (is_worker worker) (advanced worker_state.Redundant) old.rows }
     → OneMove registration worker row (advanced worker_state.Redundant) slots old new from to
@@ -70,7 +71,7 @@ gone_move registration worker row slots old new from to goes of here idle passiv
   number = λ x. refl;
   owner = λ x. refl;
   handler = λ runs. absurd (none_runs row.handler idle runs);
-  activated = λ was. absurd (true≢false (sym was ∙ passive));
+  activated = λ on was. absurd (true≢false (sym was ∙ passive on));
   stands = λ place in_place. absurd (in_redundant place in_place);
   enters = λ place in_place was. absurd (in_redundant place in_place);
   leaves = λ place will was. leaves place was;
@@ -105,10 +106,10 @@ self_number : (o : Option ℕ) (n : ℕ) → o ≡ Some n → is_number o n ≡ 
 self_number None n is = absurd cc
 self_number (Some m) n is = grind (arith, nat_tests, is)
 
-without_keeps : KeepsName without_installing
+without_keeps : KeepsName (without slot.Installing)
 without_keeps = record { number = λ row. refl; key = λ row. refl; scope = λ row. refl }
 
-none_left : (o : Option RegistrationRow) → option_and_then (λ row. registrations.in_slot slot.Installing (without_installing row)) o ≡ None
+none_left : (o : Option RegistrationRow) → option_and_then (λ row. registrations.in_slot slot.Installing (without slot.Installing row)) o ≡ None
 none_left None = refl
 none_left (Some row) = refl
 
@@ -117,18 +118,18 @@ module _ (registration worker : ℕ) (row : WorkerRow) (old new : workers.Table)
   own_slot : (place : Slot) → in_slot place row.state ≡ true → slot_of place registration from.rows ≡ Some worker
   own_slot place was = ap (λ q. slot_of place q from.rows) (sym known.of) ∙ (has.rows worker row known.here).slots place was
 
-  installing_out : is_number (slot_of slot.Installing registration from.rows) worker ≡ true → to ≡ record from { rows = changed (is_registration registration) without_installing from.rows }
+  installing_out : is_number (slot_of slot.Installing registration from.rows) worker ≡ true → to ≡ record from { rows = changed (is_registration registration) (without slot.Installing) from.rows }
       → (slots : Slot → Option ℕ) × OneMove registration worker row (advanced worker_state.Redundant) slots old new from to
   installing_out installs out = (
     _,
-    gone_move registration worker row (slots_after without_installing registration from) old new from to
-        (goes_edited registration without_installing without_keeps from to (ap (λ (t : registrations.Table). t.rows) out))
-        known.of known.here known.handler (young_passive row.state row refl known.state)
-        (λ place was. subst (λ p. slots_after without_installing registration from p ≡ None) (sym (young_slots row.state known.state place was).0) (none_left (registration_at registration from.rows)))
+    gone_move registration worker row (slots_after (without slot.Installing) registration from) old new from to
+        (goes_edited registration (without slot.Installing) without_keeps from to (ap (λ (t : registrations.Table). t.rows) out))
+        known.of known.here known.handler (λ on. young_passive row.state row refl known.state)
+        (λ place was. subst (λ p. slots_after (without slot.Installing) registration from p ≡ None) (sym (young_slots row.state known.state place was).0) (none_left (registration_at registration from.rows)))
         stays is,
   )
     where
-      stays : (place : Slot) → in_slot place row.state ≡ false → slots_after without_installing registration from place ≡ slot_of place registration from.rows
+      stays : (place : Slot) → in_slot place row.state ≡ false → slots_after (without slot.Installing) registration from place ≡ slot_of place registration from.rows
       stays slot.Installing was =
           let own = is_this (slot_of slot.Installing registration from.rows) worker installs in
           absurd (true≢false (sym (stands_there old from slot.Installing registration worker row has known.here own).0 ∙ was))
@@ -140,7 +141,7 @@ module _ (registration worker : ℕ) (row : WorkerRow) (old new : workers.Table)
   parsed_out apart same = subst (λ t. (slots : Slot → Option ℕ) × OneMove registration worker row (advanced worker_state.Redundant) slots old new from t) (sym same) (
     _,
     gone_move registration worker row (λ place. slot_of place registration from.rows) old new from from (goes_same registration from)
-        known.of known.here known.handler (young_passive row.state row refl known.state)
+        known.of known.here known.handler (λ on. young_passive row.state row refl known.state)
         (λ place was. absurd (never place was)) (λ place was. refl) is,
   )
     where
@@ -149,25 +150,25 @@ module _ (registration worker : ℕ) (row : WorkerRow) (old new : workers.Table)
           let own = subst (λ p. slot_of p registration from.rows ≡ Some worker) (young_slots row.state known.state place was).0 (own_slot place was) in
           true≢false (sym (self_number (slot_of slot.Installing registration from.rows) worker own) ∙ apart)
 
-  pub discard_move : to ≡ (if is_number (slot_of slot.Installing registration from.rows) worker then record from { rows = changed (is_registration registration) without_installing from.rows } else from)
+  pub discard_move : to ≡ (if is_number (slot_of slot.Installing registration from.rows) worker then record from { rows = changed (is_registration registration) (without slot.Installing) from.rows } else from)
       → (slots : Slot → Option ℕ) × OneMove registration worker row (advanced worker_state.Redundant) slots old new from to
   discard_move left = by (is_number (slot_of slot.Installing registration from.rows) worker) refl left
     where
-      by : (b : Bool) → is_number (slot_of slot.Installing registration from.rows) worker ≡ b → to ≡ (if b then record from { rows = changed (is_registration registration) without_installing from.rows } else from)
+      by : (b : Bool) → is_number (slot_of slot.Installing registration from.rows) worker ≡ b → to ≡ (if b then record from { rows = changed (is_registration registration) (without slot.Installing) from.rows } else from)
           → (slots : Slot → Option ℕ) × OneMove registration worker row (advanced worker_state.Redundant) slots old new from to
       by true installs out = installing_out installs out
       by false apart out = parsed_out apart out
 
 pub discarded_shown : (registration worker : ℕ) (from to : registrations.Table) (scopes : Scopes) (rest : Rest)
-    → to ≡ (if is_number (slot_of slot.Installing registration from.rows) worker then record from { rows = changed (is_registration registration) without_installing from.rows } else from)
+    → to ≡ (if is_number (slot_of slot.Installing registration from.rows) worker then record from { rows = changed (is_registration registration) (without slot.Installing) from.rows } else from)
     → map (shown_registration scopes rest) to.rows ≡ map (shown_registration scopes rest) from.rows
 discarded_shown registration worker from to scopes rest left = by (is_number (slot_of slot.Installing registration from.rows) worker) left
   where
-    by : (b : Bool) → to ≡ (if b then record from { rows = changed (is_registration registration) without_installing from.rows } else from)
+    by : (b : Bool) → to ≡ (if b then record from { rows = changed (is_registration registration) (without slot.Installing) from.rows } else from)
         → map (shown_registration scopes rest) to.rows ≡ map (shown_registration scopes rest) from.rows
     by true out =
         ap (λ (t : registrations.Table). map (shown_registration scopes rest) t.rows) out
-        ∙ unseen_changed (shown_registration scopes rest) (is_registration registration) without_installing (λ row. refl) from.rows
+        ∙ unseen_changed (shown_registration scopes rest) (is_registration registration) (without slot.Installing) (λ row. refl) from.rows
     by false same = ap (λ (t : registrations.Table). map (shown_registration scopes rest) t.rows) same
 
 -- ---- a parsed worker begins to install
@@ -203,7 +204,7 @@ install_move registration worker row old new from to has known empty is set = re
   number = λ x. refl;
   owner = λ x. refl;
   handler = λ runs. refl;
-  activated = λ was. absurd (cc (parsed, was));
+  activated = λ on was. absurd (cc (parsed, was));
   stands = stands;
   enters = enters;
   leaves = λ place will was. absurd (never place was);
@@ -280,7 +281,7 @@ activated_move registration worker row old new of has known is = record {
   number = λ x. refl;
   owner = λ x. refl;
   handler = λ runs. absurd (none_runs row.handler known.handler runs);
-  activated = λ was. refl;
+  activated = λ on was. refl;
   stands = λ place will. ap (λ q. slot_of place q of.rows) (sym known.of) ∙ (has.rows worker row known.here).slots place (as_before place ∙ will);
   enters = λ place will was. absurd (true≢false (sym will ∙ (sym (as_before place) ∙ was)));
   leaves = λ place will was. absurd (true≢false (sym was ∙ (as_before place ∙ will)));

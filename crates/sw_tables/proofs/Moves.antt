@@ -1,10 +1,11 @@
 -- Workers of one registration go on, and its slots with them: the tables stay linked.
 use Rattle.std.proofs.Common.{◌≡◌, ◌∙◌, ◌&&◌, ℕ, Bool, true, false, ◌==◌, List, [], ◌∷◌, All, map, Option, Some, None, option_map, option_and_then, length, refl, sym, ap, subst, arith, if◌then◌else◌}
 use Rattle.std.specs.Prelude.{bytes_eq, is_some, slice_index_or}
-use Rattle.std.specs.List.{range_with_len}
+use Rattle.std.specs.List.{list_any, range_with_len}
 use Rattle.std.specs.Option.{option_map_or}
 use Rattle.std.proofs.lemmas.Bool.{and_parts}
 use Rattle.std.proofs.lemmas.Bool.Decides.{nat_tests}
+use Rattle.std.proofs.lemmas.List.Folds.{list_any_at}
 use Rattle.sw_client.specs.declared.OpenClient.{OpenClient}
 use Rattle.sw_data.specs.declared.rows.RegistrationRow.{RegistrationRow}
 use Rattle.sw_data.specs.declared.rows.WorkerRow.{WorkerRow}
@@ -16,7 +17,7 @@ use Rattle.sw_tables.proofs.Rows.{at_changed, at_others, find_same}
 use Rattle.sw_tables.specs.Linked.{ArePlaces, HasSlots, IsNoted, StandsRight, registration_of, runs_handler}
 use Rattle.sw_tables.specs.Parts.{StayLinked}
 use Rattle.sw_worker.specs.Table as workers
-use Rattle.sw_worker.specs.Table.{has_worker, is_activated, is_worker, worker_at}
+use Rattle.sw_worker.specs.Table.{has_worker, is_activated, is_on, is_worker, worker_at}
 
 -- ---- rows that are there
 
@@ -249,13 +250,13 @@ module _ (registration : ℕ) (edit : WorkerRow → WorkerRow) (slots : Slot →
 
 -- the events of a table whose activated workers stay so
 pub events_stay : (edit : WorkerRow → WorkerRow) (old new : workers.Table) → ((n : ℕ) → worker_at n new.rows ≡ option_map edit (worker_at n old.rows))
-    → ((n : ℕ) (row : WorkerRow) → worker_at n old.rows ≡ Some row → is_activated row ≡ true → is_activated (edit row) ≡ true) → new.events ≡ old.events
+    → ((n : ℕ) (row : WorkerRow) → worker_at n old.rows ≡ Some row → list_any (is_on n) old.events ≡ true → is_activated row ≡ true → is_activated (edit row) ≡ true) → new.events ≡ old.events
     → All (λ event. has_worker is_activated event.worker old.rows ≡ true) old.events → All (λ event. has_worker is_activated event.worker new.rows ≡ true) new.events
 events_stay edit old new at stay same were =
     subst (All (λ event. has_worker is_activated event.worker new.rows ≡ true)) (sym same)
-    (λ k d below. one (slice_index_or old.events k d).worker (were k d below))
+    (λ k d below. let n = (slice_index_or old.events k d).worker in one n (list_any_at (is_on n) old.events k d below (grind (arith, nat_tests))) (were k d below))
   where
-    one : (n : ℕ) → has_worker is_activated n old.rows ≡ true → has_worker is_activated n new.rows ≡ true
-    one n was =
+    one : (n : ℕ) → list_any (is_on n) old.events ≡ true → has_worker is_activated n old.rows ≡ true → has_worker is_activated n new.rows ≡ true
+    one n on was =
         let found = there is_activated (worker_at n old.rows) was in
-        passing is_activated (worker_at n new.rows) (edit found.0) (at n ∙ ap (option_map edit) found.1) (stay n found.0 found.1 found.2)
+        passing is_activated (worker_at n new.rows) (edit found.0) (at n ∙ ap (option_map edit) found.1) (stay n found.0 found.1 on found.2)

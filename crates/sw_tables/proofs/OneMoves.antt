@@ -1,6 +1,7 @@
 -- One worker goes on, and the slots of its registration with it.
 use Rattle.std.proofs.Common.{◌≡◌, ◌∙◌, ◌&&◌, ℕ, Bool, true, false, ◌==◌, map, Option, Some, None, option_map, refl, sym, ap, subst, true≢false, arith, if◌then◌else◌}
 use Rattle.std.specs.Prelude.{is_some}
+use Rattle.std.specs.List.{list_any}
 use Rattle.std.specs.Option.{option_map_or}
 use Rattle.std.proofs.lemmas.Bool.{and_parts}
 use Rattle.std.proofs.lemmas.Bool.Decides.{nat_tests}
@@ -17,7 +18,7 @@ use Rattle.sw_tables.specs.Linked.{HasSlots, StandsRight, runs_handler}
 use Rattle.sw_tables.specs.Parts.{StayLinked, is_of_in, rests_in}
 use Rattle.sw_worker.specs.Edits.{call_counted, ended, skipping, with_handler}
 use Rattle.sw_worker.specs.Table as workers
-use Rattle.sw_worker.specs.Table.{has_worker, is_activated, is_worker, worker_at}
+use Rattle.sw_worker.specs.Table.{has_worker, is_activated, is_on, is_worker, worker_at}
 
 -- ---- one worker goes on
 
@@ -33,7 +34,7 @@ pub record OneMove (registration worker : ℕ) (row : WorkerRow) (edit : WorkerR
   pub number : (x : WorkerRow) → (edit x).number ≡ x.number
   pub owner : (x : WorkerRow) → (edit x).registration ≡ x.registration
   pub handler : is_some (edit row).handler ≡ true → runs_handler (edit row).state ≡ true
-  pub activated : is_activated row ≡ true → is_activated (edit row) ≡ true
+  pub activated : list_any (is_on worker) old.events ≡ true → is_activated row ≡ true → is_activated (edit row) ≡ true
   -- it stands in a slot; one that it enters was empty, one that it leaves becomes so, and the others stay
   pub stands : (place : Slot) → in_slot place (edit row).state ≡ true → slots place ≡ Some worker
   pub enters : (place : Slot) → in_slot place (edit row).state ≡ true → in_slot place row.state ≡ false → slot_of place registration from.rows ≡ None
@@ -126,7 +127,7 @@ module _ (registration worker : ℕ) (row : WorkerRow) (edit : WorkerRow → Wor
     filled = filled_now;
     events = events_stay at_one_worker old new
         (λ n. ap (worker_at n) rows_now ∙ find_same (is_worker n) at_one_worker (λ x. ap (λ m. m == n) (part_kept (λ r. r.number) move.number x)) old.rows)
-        (λ n x is. each (λ y z. is_activated y ≡ true → is_activated z ≡ true) n x is (λ same. move.activated) (λ other was. was))
+        (λ n x is. each (λ y z. list_any (is_on n) old.events ≡ true → is_activated y ≡ true → is_activated z ≡ true) n x is (λ same on. move.activated (ap (λ m. list_any (is_on m) old.events) (sym same) ∙ on)) (λ other on was. was))
         (ap (λ (t : workers.Table). t.events) move.is) has.events;
   }
 
@@ -155,7 +156,7 @@ put_move worker edit old new of put has row here is = record {
   number = put.number;
   owner = put.owner;
   handler = λ runs. ap (λ s. runs_handler s) (put.state row) ∙ right.handler (put.handler row runs);
-  activated = λ was. cc (put.state row, was);
+  activated = λ on was. cc (put.state row, was);
   stands = λ place in_place. right.slots place (ap (λ s. in_slot place s) (sym (put.state row)) ∙ in_place);
   enters = λ place will was. absurd (cc (put.state row, will, was));
   leaves = λ place will was. absurd (cc (put.state row, will, was));

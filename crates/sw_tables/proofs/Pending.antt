@@ -15,10 +15,9 @@ use Rattle.sw_reg.specs.Table.{slot_of}
 use Rattle.sw_rules.specs.Rows.{has_pending_worker}
 use Rattle.sw_rules.specs.State.{FetchEvent}
 use Rattle.sw_scope.specs.Scopes.{Scopes}
-use Rattle.sw_tables.proofs.Going.{activated_state, neither, runs_in, stands_there}
 use Rattle.sw_tables.proofs.Moves.{there}
 use Rattle.sw_tables.proofs.Rows.{found_number, no_row}
-use Rattle.sw_tables.proofs.Standing.{is_same, stands}
+use Rattle.sw_tables.proofs.Standing.{activated_state, is_same, neither, runs_in, stands, stands_where}
 use Rattle.sw_tables.specs.Lent.{Rest, lent, shown_handler, shown_worker}
 use Rattle.sw_tables.specs.Linked.{HasSlots}
 use Rattle.sw_tables.specs.Shifts.{IsQuiet, is_of, is_pending_in}
@@ -42,7 +41,7 @@ handler_shown None = refl
 handler_shown (Some handler) = refl
 
 -- a worker on which a fetch event is pending is activated
-on_activated : (rows : List WorkerRow) (n : ℕ) (events : List FetchEvent) → All (λ event. has_worker is_activated event.worker rows ≡ true) events → list_any (is_on n) events ≡ true → has_worker is_activated n rows ≡ true
+pub on_activated : (rows : List WorkerRow) (n : ℕ) (events : List FetchEvent) → All (λ event. has_worker is_activated event.worker rows ≡ true) events → list_any (is_on n) events ≡ true → has_worker is_activated n rows ≡ true
 on_activated rows n [] all is = absurd cc
 on_activated rows n (e ∷ es) all is = by (e.worker == n) refl (on_activated rows n es (All-tail (λ event. has_worker is_activated event.worker rows ≡ true) e es all))
   where
@@ -89,7 +88,7 @@ module _ (of_workers : workers.Table) (of_registrations : registrations.Table) (
       idle own false is_it = refl
       idle own true runs =
           let at = runs_in row.state ((has.rows row.number row is).handler runs) in
-          let here = stands_there of_workers of_workers of_registrations of_registrations has registration at.0 row.number row is own at.1 in
+          let here = stands_where of_workers of_registrations has at.0 registration row.number row is own at.1 in
           sym runs ∙ (ap (λ o. option_map_or is_running o false) (sym is) ∙ (neither _ _ (rests at.0 here at.2)).0)
 
       none_on : is_of registration row ≡ true → (b : Bool) → list_any (is_on row.number) of_workers.events ≡ b → b ≡ false
@@ -98,7 +97,7 @@ module _ (of_workers : workers.Table) (of_registrations : registrations.Table) (
           let found = there is_activated (worker_at row.number of_workers.rows) (on_activated of_workers.rows row.number of_workers.events has.events on) in
           let same : found.0 ≡ row = cc (found.1, is) in
           let state = ap (λ (w : WorkerRow). is_activated w) (sym same) ∙ found.2 in
-          let here = stands_there of_workers of_workers of_registrations of_registrations has registration place.Active row.number row is own (activated_state row.state row state) in
+          let here = stands_where of_workers of_registrations has place.Active registration row.number row is own (activated_state row.state row state) in
           sym on ∙ (neither _ _ (rests_in place.Active active here)).1
 
       by : (b : Bool) → is_of registration row ≡ b → pends row ≡ false

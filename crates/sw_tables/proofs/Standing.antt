@@ -1,9 +1,7 @@
 -- Where workers stand: in the slots of their registrations that their states name.
-use Rattle.std.proofs.Common.{◌≡◌, ◌∙◌, ℕ, Bool, true, false, ◌&&◌, ◌==◌, List, Option, Some, None, option_map, option_and_then, IfSome, refl, sym, ap, true≢false, arith}
-use Rattle.std.specs.Option.{option_map_or}
+use Rattle.std.proofs.Common.{◌≡◌, ◌∙◌, ℕ, Bool, true, false, ◌&&◌, ◌||◌, ◌==◌, List, Option, Some, refl, sym, ap, true≢false, arith}
 use Rattle.std.proofs.lemmas.Bool.{and_parts}
 use Rattle.std.proofs.lemmas.Bool.Decides.{nat_tests}
-use Rattle.sw_client.specs.Table as clients
 use Rattle.sw_data.specs.declared.rows.WorkerRow.{WorkerRow}
 use Rattle.sw_data.specs.declared.workers.Slot.{Slot}
 use Rattle.sw_data.specs.declared.workers.Slot.TheVariants as place
@@ -11,31 +9,44 @@ use Rattle.sw_data.specs.declared.workers.WorkerState.{WorkerState}
 use Rattle.sw_data.specs.declared.workers.WorkerState.TheVariants as worker_state
 use Rattle.sw_reg.specs.Table as registrations
 use Rattle.sw_reg.specs.Table.{slot_of}
-use Rattle.sw_rules.specs.Registrations.{tell_redundant}
-use Rattle.sw_rules.specs.Rows.{in_slot, is_number, slot_worker}
-use Rattle.sw_scope.specs.Scopes.{Scopes}
+use Rattle.sw_rules.specs.Rows.{in_slot, is_number}
 use Rattle.sw_tables.proofs.Moves.{same_number, there}
-use Rattle.sw_tables.proofs.Rows.{found_number}
-use Rattle.sw_tables.proofs.Shown.{slot_shown}
-use Rattle.sw_tables.specs.Lent.{Rest, lent, shown_worker}
-use Rattle.sw_tables.specs.Linked.{HasSlots}
-use Rattle.sw_tables.specs.Shifts.{is_of, told_redundant}
+use Rattle.sw_tables.specs.Linked.{HasSlots, runs_handler}
+use Rattle.sw_tables.specs.Shifts.{is_of}
 use Rattle.sw_worker.specs.Table as workers
-use Rattle.sw_worker.specs.Table.{may_advance, may_follow, worker_at}
+use Rattle.sw_worker.specs.Table.{is_activated, may_follow, worker_at}
 
 pub is_same : (a b : ℕ) → a ≡ b → (a == b) ≡ true
 is_same a b is = grind (arith, nat_tests, is)
 
-pub flipped : (a b : ℕ) → (a == b) ≡ (b == a)
-flipped a b = grind (arith, nat_tests)
-
-follows : (p : Slot) (state : WorkerState) → in_slot p state ≡ true → may_follow state worker_state.Redundant ≡ true
+pub follows : (p : Slot) (state : WorkerState) → in_slot p state ≡ true → may_follow state worker_state.Redundant ≡ true
 follows place.Installing state is = grind (arith, is)
 follows place.Waiting state is = grind (arith, is)
 follows place.Active state is = grind (arith, is)
 
 both_in : (p : Slot) (row : WorkerRow) (registration : ℕ) → (row.registration == registration) ≡ true → in_slot p row.state ≡ true → (is_of registration row && in_slot p row.state) ≡ true
 both_in p row registration own is = cc (own, is)
+
+pub neither : (a b : Bool) → (a || b) ≡ false → (a ≡ false) × (b ≡ false)
+neither false b is = (refl, is)
+neither true b is = absurd cc
+
+pub activated_state : (state : WorkerState) (row : WorkerRow) → is_activated (record row { state = state }) ≡ true → in_slot place.Active state ≡ true
+activated_state worker_state.Activated row is = refl
+activated_state worker_state.Parsed row is = absurd cc
+activated_state worker_state.Installing row is = absurd cc
+activated_state worker_state.Installed row is = absurd cc
+activated_state worker_state.Activating row is = absurd cc
+activated_state worker_state.Redundant row is = absurd cc
+
+-- a handler runs in a slot other than the waiting one
+pub runs_in : (state : WorkerState) → runs_handler state ≡ true → (p : Slot) × (in_slot p state ≡ true) × (p ≡ place.Waiting → ⊥)
+runs_in worker_state.Installing is = (place.Installing, refl, λ same. absurd cc)
+runs_in worker_state.Activating is = (place.Active, refl, λ same. absurd cc)
+runs_in worker_state.Parsed is = absurd cc
+runs_in worker_state.Installed is = absurd cc
+runs_in worker_state.Activated is = absurd cc
+runs_in worker_state.Redundant is = absurd cc
 
 -- own: a worker of this number stands in a slot of a registration
 pub record InSlot (p : Slot) (registration number : ℕ) (rows : List WorkerRow) (row : WorkerRow) : Type 0 where
@@ -76,26 +87,10 @@ module _ (of_workers : workers.Table) (of_registrations : registrations.Table) (
       by false b own here = other _ refl (λ passes. true≢false (sym (told passes).0 ∙ own)) ∙ cc own
       by true false own here = other _ refl (λ passes. true≢false (sym (told passes).1 ∙ here)) ∙ cc (own, here)
 
-  -- what is told of the worker in a slot
-  pub told_in : (scopes : Scopes) (of_clients : clients.Table) (rest : Rest) (p : Slot) (registration : ℕ)
-      → tell_redundant (slot_worker (lent scopes of_workers of_registrations of_clients rest) p registration) ≡ told_redundant (slot p registration)
-  told_in scopes of_clients rest p registration = ap tell_redundant (slot_shown of_workers of_registrations scopes of_clients rest p registration has) ∙ by (slot p registration) refl
-    where
-      by : (o : Option ℕ) → slot p registration ≡ o → tell_redundant (option_map shown_worker (option_and_then (λ n. worker_at n of_workers.rows) o)) ≡ told_redundant o
-      by None none = refl
-      by (Some n) is =
-          let stood = stands p registration n is in
-          ap (λ o. tell_redundant (option_map shown_worker o)) stood.1.is
-          ∙ ap (λ m. told_redundant (Some m)) (found_number (λ row. row.number) n of_workers.rows stood.0 stood.1.is)
-
-  -- a worker in a slot may become redundant, also after other workers have changed
-  pub may_retire : (p : Slot) (registration : ℕ) (worker : Option ℕ) (rows : List WorkerRow) → worker ≡ slot p registration
-      → ((n : ℕ) → slot p registration ≡ Some n → worker_at n rows ≡ worker_at n of_workers.rows) → IfSome worker (λ n. may_advance n worker_state.Redundant rows ≡ true)
-  may_retire p registration None rows is same = search
-  may_retire p registration (Some n) rows is same =
-      let stood = stands p registration n (sym is) in
-      ap (λ o. option_map_or (λ row. may_follow row.state worker_state.Redundant) o false) (same n (sym is) ∙ stood.1.is)
-      ∙ follows p stood.0.state stood.1.state
+  -- a worker of a registration in a slot's state stands there
+  pub stands_where : (p : Slot) (registration n : ℕ) (row : WorkerRow) → worker_at n of_workers.rows ≡ Some row → is_of registration row ≡ true → in_slot p row.state ≡ true → slot p registration ≡ Some n
+  stands_where p registration n row is own here =
+      ap (λ q. slot_of p q of_registrations.rows) (sym (same_number row.registration registration own)) ∙ (has.rows n row is).slots p here
 
   -- no worker stands in two slots
   pub apart : (p q : Slot) → ((state : WorkerState) → in_slot p state ≡ true → in_slot q state ≡ false) → (registration n : ℕ) → slot p registration ≡ Some n → is_number (slot q registration) n ≡ false

@@ -1,8 +1,6 @@
 -- What a part of an algorithm does to the tables that it is lent, whatever the others hold.
-use Rattle.std.specs.Prelude.{◌≡◌, true, false, Bool, is_none, ℕ, ◌&&◌, ◌||◌, ◌==◌, List, [], ◌∷◌, Option, Some, None}
+use Rattle.std.specs.Prelude.{◌≡◌, true, false, Bool, is_none, ℕ, ◌&&◌, ◌||◌, ◌==◌}
 use Rattle.sw_client.specs.Table as clients
-use Rattle.sw_data.specs.declared.answers.Notice.{Notice}
-use Rattle.sw_data.specs.declared.answers.Notice.TheVariants as notice
 use Rattle.sw_data.specs.declared.rows.RegistrationRow.{RegistrationRow}
 use Rattle.sw_data.specs.declared.rows.WorkerRow.{WorkerRow}
 use Rattle.sw_data.specs.declared.workers.WorkerState.{WorkerState}
@@ -10,15 +8,12 @@ use Rattle.sw_data.specs.declared.workers.WorkerState.TheVariants as worker_stat
 use Rattle.sw_reg.specs.Edits.{with_owed, with_waiting}
 use Rattle.sw_reg.specs.Table as registrations
 use Rattle.sw_rules.specs.Noticing.{Did, NoticeList}
-use Rattle.sw_rules.specs.Rows.{changed}
 use Rattle.sw_rules.specs.State.{State}
 use Rattle.sw_rules.specs.Told.{Told}
 use Rattle.sw_scope.specs.Scopes.{Scopes}
 use Rattle.sw_tables.specs.Lent.{Rest, lent}
 use Rattle.sw_tables.specs.Linked.{Linked}
-use Rattle.sw_worker.specs.Edits.{advanced}
 use Rattle.sw_worker.specs.Table as workers
-use Rattle.sw_worker.specs.Table.{is_worker}
 
 -- own: workers and registrations go on by this part, which tells its notices
 abbrev pub SlotsDid : (State → Told) → NoticeList → NoticeList → workers.Table → registrations.Table → workers.Table → registrations.Table → Type 0
@@ -70,18 +65,8 @@ is_young state = is_parsed state || is_installing state
 abbrev pub may_be_discarded : ℕ → WorkerRow → Bool
 may_be_discarded registration row = rests_in is_young registration row
 
--- ---- a worker that replaces another
+-- ---- a worker that waits
 
 -- a registration's installing worker becomes the waiting one, and a Try Activate is owed (Service Workers, Appendix A, "Install"); that the registration is numbered is own
 abbrev pub waits : ℕ → RegistrationRow → RegistrationRow
 waits number row = with_owed true (with_waiting number row)
-
--- the worker that is replaced becomes redundant, where there is one (Service Workers, Appendix A, "Install" and "Activate")
-abbrev pub without_replaced : Option ℕ → List WorkerRow → List WorkerRow
-without_replaced (Some old) rows = changed (is_worker old) (advanced worker_state.Redundant) rows
-without_replaced None rows = rows
-
--- what is told of it
-abbrev pub replaced_notices : Option ℕ → List Notice
-replaced_notices (Some old) = notice.Worker old worker_state.Redundant ∷ []
-replaced_notices None = []

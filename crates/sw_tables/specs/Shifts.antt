@@ -1,4 +1,4 @@
--- What becomes of the rows of workers where a registration is cleared, or its waiting worker becomes the active one.
+-- What a part of an algorithm asks and leaves of the slots of a registration.
 use Rattle.std.specs.Prelude.{◌≡◌, ℕ, Bool, true, false, not, ◌&&◌, ◌||◌, ◌==◌, nat_lt, List, [], ◌∷◌, Option, Some, None, option_and_then, if◌then◌else◌}
 use Rattle.std.specs.Option.{option_map_or}
 use Rattle.sw_client.specs.Table as clients
@@ -12,45 +12,53 @@ use Rattle.sw_data.specs.declared.workers.Slot.TheVariants as place
 use Rattle.sw_data.specs.declared.workers.WorkerState.TheVariants as worker_state
 use Rattle.sw_reg.specs.Table as registrations
 use Rattle.sw_reg.specs.Table.{slot_of}
-use Rattle.sw_rules.specs.Registrations.{clear_state}
 use Rattle.sw_rules.specs.Rows.{changed, has_pending_worker, is_number, is_used}
 use Rattle.sw_rules.specs.State.{State}
+use Rattle.sw_tables.specs.Linked.{registration_of}
 use Rattle.sw_tables.specs.Parts.{is_activating}
 use Rattle.sw_worker.specs.Edits.{advanced, started}
 use Rattle.sw_worker.specs.Table as workers
-use Rattle.sw_worker.specs.Table.{has_pending, has_worker}
+use Rattle.sw_worker.specs.Table.{has_pending, has_worker, is_worker, worker_at}
 
--- own: no handler runs and no fetch event is pending on the workers in the slots of a registration
+-- own: no handler runs and no fetch event is pending on the worker in a slot of a registration
+abbrev pub IsQuietIn : Slot → ℕ → workers.Table → registrations.Table → Type 0
+IsQuietIn place registration of_workers of_registrations =
+    (number : ℕ) → slot_of place registration of_registrations.rows ≡ Some number
+    → has_pending number of_workers ≡ false
+
+-- own: and on those in all three
 abbrev pub IsQuiet : ℕ → workers.Table → registrations.Table → Type 0
 IsQuiet registration of_workers of_registrations =
-    (place : Slot) (number : ℕ) → slot_of place registration of_registrations.rows ≡ Some number
-    → has_pending number of_workers ≡ false
+    (place : Slot) → IsQuietIn place registration of_workers of_registrations
 
 abbrev pub is_of : ℕ → WorkerRow → Bool
 is_of registration row = row.registration == registration
 
+-- ---- a worker that leaves its slot
+
 -- own: the worker of this number, where there is one, becomes redundant
 abbrev pub retired : Option ℕ → List WorkerRow → List WorkerRow
-retired worker rows = changed (λ row. is_number worker row.number) (advanced worker_state.Redundant) rows
+retired (Some worker) rows = changed (is_worker worker) (advanced worker_state.Redundant) rows
+retired None rows = rows
 
 -- own: what is told of it
 abbrev pub told_redundant : Option ℕ → List Notice
 told_redundant (Some worker) = notice.Worker worker worker_state.Redundant ∷ []
 told_redundant None = []
 
--- a worker of a registration that is cleared (Service Workers, Appendix A, "Clear Registration")
-abbrev pub cleared_worker : WorkerRow → WorkerRow
-cleared_worker row = record row { state = clear_state row.state }
+-- own: a slot of a registration is empty now; its other slots, the other workers, and what is pending stay
+pub record Vacates (place : Slot) (registration : ℕ) (old new : workers.Table) (from to : registrations.Table) : Type 0 where
+  pub empty : slot_of place registration to.rows ≡ None
+  pub others : (other : Slot) → (other ≡ place → ⊥) → slot_of other registration to.rows ≡ slot_of other registration from.rows
+  pub there : registrations.is_there registration to.rows ≡ registrations.is_there registration from.rows
+  pub workers : (number : ℕ) → is_number (slot_of place registration from.rows) number ≡ false
+      → worker_at number new.rows ≡ worker_at number old.rows
+  pub pending : (number : ℕ) → has_pending number new ≡ has_pending number old
+  pub owners : (number : ℕ) → registration_of new.rows number ≡ registration_of old.rows number
 
--- a worker of a registration whose waiting worker becomes the active one (Service Workers, Appendix A, "Activate")
-abbrev pub promoted_worker : WorkerRow → WorkerRow
-promoted_worker row =
-    elim row.state [
-      | worker_state.Installed ↦ started phase.Activate (advanced worker_state.Activating row)
-      | worker_state.Activating ↦ advanced worker_state.Redundant row
-      | worker_state.Activated ↦ advanced worker_state.Redundant row
-      | _ ↦ row
-    ]
+-- the row of a worker that begins to activate (Service Workers, Appendix A, "Activate")
+abbrev pub activating : WorkerRow → WorkerRow
+activating row = started phase.Activate (advanced worker_state.Activating row)
 
 -- ---- what Try Activate asks
 

@@ -7,7 +7,7 @@ ghost use Rattle.sw_data.specs.declared.answers.Notice.TheVariants as notice;
 ghost use Rattle.sw_data.specs.declared.workers.Phase.TheVariants as phase;
 ghost use Rattle.sw_data.specs.declared.workers.Slot.TheVariants as in_place;
 ghost use Rattle.sw_data.specs.declared.workers.WorkerState.TheVariants as worker_state;
-ghost use Rattle.sw_reg.specs.Edits.{cleared, with_active};
+ghost use Rattle.sw_reg.specs.Edits.{with_active};
 ghost use Rattle.sw_reg.specs.Table as registrations_table;
 ghost use Rattle.sw_reg.specs.Table.{is_registration, is_there, slot_of};
 ghost use Rattle.sw_rules.specs.Noticing.{Did};
@@ -18,94 +18,35 @@ ghost use Rattle.sw_scope.specs.Scopes.{Scopes};
 ghost use Rattle.sw_tables.specs.Happened.{KeepCounts};
 ghost use Rattle.sw_tables.specs.Lent.{Rest, lent};
 ghost use Rattle.sw_tables.specs.Linked.{HasSlots, IsNoted, Linked};
-ghost use Rattle.sw_tables.specs.Shifts.{IsQuiet, cleared_worker, is_free, is_of, is_pending_in, may_replace, picked, promoted_worker, retired, told_redundant};
+ghost use Rattle.sw_tables.specs.Shifts.{IsQuiet, IsQuietIn, activating, is_free, is_pending_in, may_replace, picked};
 ghost use Rattle.sw_tables.specs.Parts.{SlotsDid, is_activating, StayLinked};
 ghost use Rattle.sw_worker.specs.Edits.{advanced, started};
 ghost use Rattle.sw_worker.specs.Table as workers_table;
 ghost use Rattle.sw_worker.specs.Table.{has_pending, has_worker, is_idle, is_worker, may_advance};
 
+use crate::slots::retire;
 use sw_client::Clients;
 use sw_data::{Notice, Phase, Slot, WorkerState};
 use sw_reg::Registrations;
 use sw_rules::Notices;
 use sw_worker::Workers;
 
-// A worker, where there is one, becomes redundant.
-#[tactic(auto, using(crate::proofs::Shifting::none_retired))]
-fn retire(worker: Option<u32>, workers: &mut Workers, notices: &mut Notices)
-    requires may { IfSome worker
-        (λ number. may_advance number worker_state.Redundant workers.old.rows ≡ true) }
-    requires room { 0 < notices.old.spare }
-    ensures rows { workers.new ≡ record workers.old { rows = retired worker workers.old.rows } }
-    ensures told { notices.new.rows ≡ notices.old.rows ++ told_redundant worker }
-    ensures room { notices.old.spare ≤ notices.new.spare + 1 }
-{
-    if let Some(worker) = worker {
-        let _ = workers.advance(worker, WorkerState::Redundant);
-        notices.push(Notice::Worker {
-            worker,
-            state: WorkerState::Redundant,
-        });
-    }
-}
-
-// The workers in the slots of a registration become redundant, and its slots empty.
-fn clear_rows(
-    registration: u32,
-    workers: &mut Workers,
-    registrations: &mut Registrations,
-    notices: &mut Notices,
-)
-    requires slots { HasSlots workers.old registrations.old }
-    requires there { is_there registration registrations.old.rows ≡ true }
-    requires room { 3 ≤ notices.old.spare }
-    ensures workers { workers.new ≡ record workers.old {
-      rows = changed (is_of registration) cleared_worker workers.old.rows;
-    } }
-    ensures registrations { registrations.new ≡ record registrations.old {
-      rows = changed (is_registration registration) cleared registrations.old.rows;
-    } }
-    ensures told { notices.new.rows ≡ notices.old.rows
-        ++ told_redundant (slot_of in_place.Installing registration registrations.old.rows)
-        ++ told_redundant (slot_of in_place.Waiting registration registrations.old.rows)
-        ++ told_redundant (slot_of in_place.Active registration registrations.old.rows) }
-    ensures room { notices.old.spare ≤ notices.new.spare + 3 }
-{
-    retire(
-        registrations.slot(registration, Slot::Installing),
-        workers,
-        notices,
-    );
-    retire(
-        registrations.slot(registration, Slot::Waiting),
-        workers,
-        notices,
-    );
-    retire(
-        registrations.slot(registration, Slot::Active),
-        workers,
-        notices,
-    );
-    registrations.clear(registration);
-}
-
 // A waiting worker becomes activating, and its activate handler starts.
-#[tactic(auto, using(crate::proofs::Shifting::begun_twice, crate::proofs::Shifting::idle_still))]
+#[tactic(auto, using(crate::proofs::TakeOver::begun_twice, crate::proofs::TakeOver::idle_still))]
 fn begin(worker: u32, workers: &mut Workers)
     requires may { may_advance worker worker_state.Activating workers.old.rows ≡ true }
     requires idle { has_worker is_idle worker workers.old.rows ≡ true }
     ensures { workers.new ≡ record workers.old {
-      rows = changed (is_worker worker)
-          (λ row. started phase.Activate (advanced worker_state.Activating row))
-          workers.old.rows;
+      rows = changed (is_worker worker) activating workers.old.rows;
     } }
 {
     let _ = workers.advance(worker, WorkerState::Activating);
     workers.start_handler(worker, Phase::Activate);
 }
 
-// The active worker of a registration, where there is one, becomes redundant, and the waiting one takes its slot.
-fn promote_rows(
+// The waiting worker of a registration becomes the active one, which is told, and its activate handler starts; none was
+// active.
+fn replace(
     registration: u32,
     worker: u32,
     workers: &mut Workers,
@@ -114,29 +55,24 @@ fn promote_rows(
 )
     requires slots { HasSlots workers.old registrations.old }
     requires waiting { slot_of in_place.Waiting registration registrations.old.rows ≡ Some worker }
-    requires room { 2 ≤ notices.old.spare }
+    requires empty { slot_of in_place.Active registration registrations.old.rows ≡ None }
+    requires room { 0 < notices.old.spare }
     ensures workers { workers.new ≡ record workers.old {
-      rows = changed (is_of registration) promoted_worker workers.old.rows;
+      rows = changed (is_worker worker) activating workers.old.rows;
     } }
     ensures registrations { registrations.new ≡ record registrations.old {
       rows = changed (is_registration registration) with_active registrations.old.rows;
     } }
-    ensures told { notices.new.rows ≡ notices.old.rows
-        ++ told_redundant (slot_of in_place.Active registration registrations.old.rows)
-        ++ notice.Worker worker worker_state.Activating ∷ [] }
-    ensures room { notices.old.spare ≤ notices.new.spare + 2 }
+    ensures told { notices.new.rows
+        ≡ notices.old.rows ++ notice.Worker worker worker_state.Activating ∷ [] }
+    ensures room { notices.new.spare + 1 ≡ notices.old.spare }
 {
-    retire(
-        registrations.slot(registration, Slot::Active),
-        workers,
-        notices,
-    );
     begin(worker, workers);
     notices.push(Notice::Worker {
         worker,
         state: WorkerState::Activating,
     });
-    let _ = registrations.to_active(registration);
+    registrations.to_active(registration);
 }
 
 /// A registration is cleared: its installing, waiting and active worker become redundant, in this order, and its slots
@@ -158,7 +94,15 @@ pub fn clear(
     ensures counts { KeepCounts workers.old workers.new }
     ensures room { notices.old.spare ≤ notices.new.spare + 3 }
 {
-    clear_rows(registration, workers, registrations, notices);
+    retire(
+        Slot::Installing,
+        registration,
+        workers,
+        registrations,
+        notices,
+    );
+    retire(Slot::Waiting, registration, workers, registrations, notices);
+    retire(Slot::Active, registration, workers, registrations, notices);
 }
 
 // A handler or a fetch event of the worker in a slot is pending.
@@ -349,9 +293,7 @@ pub fn activate(
     requires slots { HasSlots workers.old registrations.old }
     requires noted { All (IsNoted workers.old) clients.old.rows }
     requires waiting { slot_of in_place.Waiting registration registrations.old.rows ≡ Some worker }
-    requires quiet { (number : ℕ)
-        → slot_of in_place.Active registration registrations.old.rows ≡ Some number
-        → has_pending number workers.old ≡ false }
+    requires quiet { IsQuietIn in_place.Active registration workers.old registrations.old }
     requires room { 2 + users_of registration clients.old.rows ≤ notices.old.spare }
     ensures did { (scopes : Scopes) (rest : Rest)
         → Did (rules.activate
@@ -363,7 +305,8 @@ pub fn activate(
     ensures room { notices.old.spare
         ≤ notices.new.spare + (2 + users_of registration clients.old.rows) }
 {
-    promote_rows(registration, worker, workers, registrations, notices);
+    retire(Slot::Active, registration, workers, registrations, notices);
+    replace(registration, worker, workers, registrations, notices);
     clients.take_over(registration, worker, notices);
 }
 

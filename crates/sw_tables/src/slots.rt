@@ -3,22 +3,24 @@
 ghost use Rattle.std.specs.Prelude.{◌≡◌, ◌<◌, ◌≤◌, ◌+◌, ◌++◌, ◌∷◌, ◌==◌, ◌&&◌, [], ℕ, Bool, true, None, is_some, if◌then◌else◌};
 ghost use Rattle.std.specs.Option.{option_map_or};
 ghost use Rattle.sw_data.specs.declared.answers.Notice.TheVariants as notice;
+ghost use Rattle.sw_data.specs.declared.workers.Phase.TheVariants as in_phase;
 ghost use Rattle.sw_data.specs.declared.workers.Slot.TheVariants as in_place;
 ghost use Rattle.sw_data.specs.declared.workers.WorkerState.{WorkerState};
 ghost use Rattle.sw_data.specs.declared.workers.WorkerState.TheVariants as in_state;
-ghost use Rattle.sw_reg.specs.Edits.{without_installing};
+ghost use Rattle.sw_reg.specs.Edits.{without};
 ghost use Rattle.sw_reg.specs.Table as registrations_of;
 ghost use Rattle.sw_reg.specs.Table.{firsts, has_registration, is_registration, slot_of};
 ghost use Rattle.sw_rules.specs.Activating as activating;
 ghost use Rattle.sw_rules.specs.Clients.{flagged};
 ghost use Rattle.sw_rules.specs.Installing as rules;
-ghost use Rattle.sw_rules.specs.Rows as definitions;
+ghost use Rattle.sw_rules.specs.Registrations.{become, retire, start_handler};
 ghost use Rattle.sw_rules.specs.Rows.{changed, is_number};
 ghost use Rattle.sw_rules.specs.State.{Worker};
 ghost use Rattle.sw_tables.specs.Happened.{KeepCounts, unsettled_of};
 ghost use Rattle.sw_tables.specs.Linked.{HasSlots};
+ghost use Rattle.sw_tables.specs.Shifts.{IsQuietIn, Vacates, retired, told_redundant};
 ghost use Rattle.sw_tables.specs.Parts as parts;
-ghost use Rattle.sw_tables.specs.Parts.{SlotsBecome, SlotsDid, StayLinked, is_activating, is_of_in, is_parsed, may_be_discarded, replaced_notices, rests_in, waits, without_replaced};
+ghost use Rattle.sw_tables.specs.Parts.{SlotsBecome, SlotsDid, StayLinked, is_activating, is_of_in, is_parsed, may_be_discarded, rests_in, waits};
 ghost use Rattle.sw_worker.specs.Edits.{advanced};
 ghost use Rattle.sw_rules.specs.Calls as calls;
 ghost use Rattle.sw_worker.specs.Table.{has_calls_left, has_worker, is_running, is_there, is_worker, may_advance};
@@ -69,12 +71,12 @@ fn leave_installing(registration: u32, worker: u32, registrations: &mut Registra
     ensures { registrations.new
         ≡ (if is_number (slot_of in_place.Installing registration registrations.old.rows) worker
         then record registrations.old {
-          rows = changed (is_registration registration) without_installing registrations.old.rows;
+          rows = changed (is_registration registration) (without in_place.Installing) registrations.old.rows;
         }
         else registrations.old) }
 {
     if is_installing(registration, worker, registrations) {
-        registrations.drop_installing(registration);
+        registrations.leave(registration, Slot::Installing);
     }
 }
 
@@ -144,7 +146,7 @@ pub fn discard(
     requires slots { HasSlots workers.old registrations.old }
     requires worker { has_worker (may_be_discarded registration) worker workers.old.rows ≡ true }
     requires room { 0 < notices.old.spare }
-    ensures did { SlotsDid (λ state. rules.discard state worker) notices.old notices.new
+    ensures did { SlotsDid (λ state. become state worker in_state.Redundant) notices.old notices.new
         workers.old registrations.old workers.new registrations.new }
     ensures slots { HasSlots workers.new registrations.new }
     ensures linked { StayLinked workers.old registrations.old workers.new registrations.new }
@@ -166,9 +168,9 @@ pub fn to_installing(
     requires slots { HasSlots workers.old registrations.old }
     requires worker { has_worker (rests_in is_parsed registration) worker workers.old.rows ≡ true }
     requires empty { slot_of in_place.Installing registration registrations.old.rows ≡ None }
-    ensures state { SlotsBecome (λ state. record state {
-      workers = changed (definitions.is_worker worker) rules.installing state.workers;
-    }) workers.old registrations.old workers.new registrations.new }
+    ensures state { SlotsBecome (λ state. (start_handler
+        (become state worker in_state.Installing).state worker in_phase.Install).state)
+        workers.old registrations.old workers.new registrations.new }
     ensures slots { HasSlots workers.new registrations.new }
     ensures linked { StayLinked workers.old registrations.old workers.new registrations.new }
     ensures counts { KeepCounts workers.old workers.new }
@@ -178,37 +180,58 @@ pub fn to_installing(
     registrations.to_installing(registration, worker);
 }
 
-// A worker that another replaces becomes redundant, which is told, where there is one. It takes no memory.
-fn tell_replaced(replaced: Option<u32>, workers: &mut Workers, notices: &mut Notices)
+// A worker, where there is one, becomes redundant, which is told. It takes no memory.
+fn tell_redundant(worker: Option<u32>, workers: &mut Workers, notices: &mut Notices)
     requires follows { option_map_or (λ old. may_advance old in_state.Redundant workers.old.rows)
-        replaced true ≡ true }
+        worker true ≡ true }
     requires room { 0 < notices.old.spare }
-    ensures rows { workers.new ≡ record workers.old {
-      rows = without_replaced replaced workers.old.rows;
-    } }
-    ensures told { notices.new.rows ≡ notices.old.rows ++ replaced_notices replaced }
+    ensures rows { workers.new ≡ record workers.old { rows = retired worker workers.old.rows } }
+    ensures told { notices.new.rows ≡ notices.old.rows ++ told_redundant worker }
     ensures room { notices.old.spare ≤ notices.new.spare + 1 }
 {
-    match replaced {
+    match worker {
         Some(old) => tell_state(old, WorkerState::Redundant, workers, notices),
         None => {}
     }
 }
 
-// The installing worker of a registration becomes the waiting one, and a Try Activate is owed; the answer is the one
-// that it replaces. It takes no memory.
-fn wait(registration: u32, registrations: &mut Registrations) -> Option<u32>
+// The worker in a slot of a registration, where there is one, becomes redundant, which is told, and the slot is empty.
+// It takes no memory.
+pub(crate) fn retire(
+    place: Slot,
+    registration: u32,
+    workers: &mut Workers,
+    registrations: &mut Registrations,
+    notices: &mut Notices,
+)
+    requires slots { HasSlots workers.old registrations.old }
+    requires there { registrations_of.is_there registration registrations.old.rows ≡ true }
+    requires quiet { IsQuietIn place registration workers.old registrations.old }
+    requires room { 0 < notices.old.spare }
+    ensures did { SlotsDid (λ state. retire state place registration) notices.old notices.new
+        workers.old registrations.old workers.new registrations.new }
+    ensures vacates { Vacates place registration
+        workers.old workers.new registrations.old registrations.new }
+    ensures slots { HasSlots workers.new registrations.new }
+    ensures linked { StayLinked workers.old registrations.old workers.new registrations.new }
+    ensures counts { KeepCounts workers.old workers.new }
+    ensures room { notices.old.spare ≤ notices.new.spare + 1 }
+{
+    tell_redundant(registrations.slot(registration, place), workers, notices);
+    registrations.leave(registration, place);
+}
+
+// The installing worker of a registration becomes the waiting one, and a Try Activate is owed. It takes no memory.
+fn wait(registration: u32, registrations: &mut Registrations)
     requires { has_registration (λ row. is_some row.installing) registration registrations.old.rows
         ≡ true }
-    ensures rows { registrations.new ≡ record registrations.old {
+    ensures { registrations.new ≡ record registrations.old {
       rows = changed (is_registration registration) (waits (firsts registrations.old.rows))
           registrations.old.rows;
     } }
-    ensures replaced { result ≡ slot_of in_place.Waiting registration registrations.old.rows }
 {
-    let replaced = registrations.to_waiting(registration);
+    registrations.to_waiting(registration);
     registrations.owe(registration, true);
-    replaced
 }
 
 /// The installing worker of a registration becomes the waiting one, which is told; the one that it replaces becomes
@@ -232,8 +255,8 @@ pub fn become_waiting(
     ensures counts { KeepCounts workers.old workers.new }
     ensures room { notices.old.spare ≤ notices.new.spare + 2 }
 {
-    let replaced = wait(registration, registrations);
-    tell_replaced(replaced, workers, notices);
+    retire(Slot::Waiting, registration, workers, registrations, notices);
+    wait(registration, registrations);
     tell_state(worker, WorkerState::Installed, workers, notices);
 }
 

@@ -33,7 +33,7 @@ use Rattle.sw_rules.specs.Restart.{restart, restored_registration}
 use Rattle.sw_rules.specs.State.{Registration, State}
 use Rattle.sw_store.specs.Opened.{CanRestart, HasNotedOn, HasOpened, IsFresh, IsLeft, kept_restarted}
 use Rattle.sw_store.specs.Stores.{StoreState, all_stamped}
-use Rattle.sw_work.specs.Hosted.{state_of}
+use Rattle.sw_state.specs.Hosted.{state_of}
 
 -- ---- the history of a restart
 

@@ -20,7 +20,7 @@ use Rattle.sw_turns.specs.Acting.{IsTaking, action_of_event}
 use Rattle.sw_turns.specs.Coming.{AreOfTurn, ArePicked, GrowsByPick, HaveLanded, IsPickedNext}
 use Rattle.sw_turns.specs.Flights.{Flies}
 use Rattle.sw_core.specs.Machines.{IsEventOf}
-use Rattle.sw_work.specs.Hosted.{state_of}
+use Rattle.sw_state.specs.Hosted.{state_of}
 
 -- ---- an action that goes back
 

@@ -37,7 +37,7 @@ use Rattle.sw_rules.specs.Told.{Outcome}
 use Rattle.sw_store.specs.Groups.{IsEntry, IsTooLong}
 use Rattle.sw_store.specs.Opened.{CanRestart}
 use Rattle.sw_store.specs.Stores.{StoreState, all_stamped}
-use Rattle.sw_work.specs.Hosted.{state_of}
+use Rattle.sw_state.specs.Hosted.{state_of}
 
 -- a history by so many workers that goes a way, and in its order where there is one
 pub record IsPlayed (workers : ℕ) (way : Way) (base : Kept) (history : List Entry) : Type 0 where

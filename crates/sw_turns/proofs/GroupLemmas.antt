@@ -35,7 +35,7 @@ use Rattle.sw_rules.specs.Told.{Outcome}
 use Rattle.sw_store.specs.Groups.{IsEntry, IsGroup, IsStaged, IsTooLong}
 use Rattle.sw_store.specs.Stores.{IsSame, IsSameTwin, StoreState, all_stamped, stamped}
 use Rattle.sw_twin.specs.Twin.{TwinState}
-use Rattle.sw_work.specs.Hosted.{Hosted, state_of}
+use Rattle.sw_state.specs.Hosted.{Hosted, state_of}
 
 -- ---- an event has joined
 
@@ -313,12 +313,6 @@ further_own pass old middle new one more = (
   more.1 ∙ (ap (λ (entries : List Entry). entries ++ more.0) one.1 ∙ append_assoc old one.0 more.0),
   All-append (λ (entry : Entry). entry.pass ≡ pass) one.0 more.0 one.2 more.2,
 )
-
--- one more waits where an event has joined
-pub one_more_on : {T E : Type 0} (result : Result T E) (happened : Event) (old new : List Entry) → OnOk result ((entry : Entry) × (entry.event ≡ happened) × (new ≡ old ++ entry ∷ []))
-    → OnOk result (length new ≡ length old + 1)
-one_more_on (Err why) happened old new is = tt
-one_more_on (Ok value) happened old new is = ap length is.2 ∙ length-append old (is.0 ∷ [])
 
 -- the first that joins a group in which nothing waited is its first
 pub first_waits : (pass : ℕ) (old middle new : List Entry) (entry : Entry) → old ≡ [] → middle ≡ old ++ entry ∷ [] → ThenOwn (λ (other : Entry). other.pass) pass middle new

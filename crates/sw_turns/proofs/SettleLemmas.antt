@@ -42,7 +42,7 @@ use Rattle.sw_store.proofs.Appends.{same_kept}
 use Rattle.sw_store.specs.Groups.{IsTooLong}
 use Rattle.sw_store.specs.Stores.{HasGrown, IsQuiet, IsTended, IsWrittenAnew, StoreState, all_stamped}
 use Rattle.sw_twin.specs.Twin.{TwinState}
-use Rattle.sw_work.specs.Hosted.{Hosted, state_of}
+use Rattle.sw_state.specs.Hosted.{Hosted, state_of}
 
 -- ---- what stopped a group
 
@@ -285,14 +285,6 @@ pub anew_by : {D : Type 0} (disk : Ghosts D) (old new : D) (store next : StoreSt
     → (new ≡ old) ⊎ IsAnew (disk.clock new) next
 anew_by disk old new store next true core did not = inr (inl (subst (λ (host : Hosted). IsWrittenAnew (durable (state_of host)) next) (sym core) (did refl).1))
 anew_by disk old new store next false core did not = inl (not refl).1
-
--- a record, and what is kept written anew where that was due
-pub one_record : {D : Type 0} (disk : Ghosts D) (old middle new : D) (next : StoreState) → disk.clock middle ≤ disk.clock old + 4 → disk.clock new ≤ disk.clock middle + 7
-    → (new ≡ middle) ⊎ IsAnew (disk.clock new) next → IsOneRecord (disk.clock old) (disk.clock new) next
-one_record disk old middle new next wrote tended anew = record {
-  most = omega (arith, wrote, tended);
-  few = ⊎_elim (λ same. inl (omega (arith, wrote, ap disk.clock same))) inr anew;
-}
 
 -- what a call makes of a store and a disk that keeps the durable part of the state, written anew or not
 pub record HasTended {D : Type 0} (disk : Ghosts D) (old new : D) (store next : StoreState) : Type 0 where

@@ -46,7 +46,7 @@ use Rattle.sw_turns.specs.declared.ends.Stop.TheVariants as stop
 use Rattle.sw_turns.specs.declared.ends.Turn.TheVariants as turn
 use Rattle.sw_turns.specs.declared.progress.Progress.{Progress}
 use Rattle.sw_twin.specs.Twin.{StandsIn, TwinState}
-use Rattle.sw_work.specs.Hosted.{Hosted, state_of}
+use Rattle.sw_state.specs.Hosted.{Hosted, state_of}
 
 -- ---- what is under way
 

@@ -17,7 +17,7 @@ use Rattle.sw_store.specs.Stores.{StoreState}
 use Rattle.sw_turns.specs.Flights.{Flies}
 use Rattle.sw_core.specs.Machines.{IsEventOf}
 use Rattle.sw_twin.specs.Twin.{TwinState}
-use Rattle.sw_work.specs.Hosted.{state_of}
+use Rattle.sw_state.specs.Hosted.{state_of}
 
 -- own: the event of what was picked, and what it leaves of the lanes; a fetch has none, since it is taken up
 abbrev pub IsMadeOf : List FetchLine → State → List Left → Work → Event → List Left → Type 0

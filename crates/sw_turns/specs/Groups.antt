@@ -28,7 +28,7 @@ use Rattle.sw_rules.specs.State.{State}
 use Rattle.sw_rules.specs.Step.{changes_of}
 use Rattle.sw_store.specs.Groups.{IsGroup, IsTooLong}
 use Rattle.sw_store.specs.Stores.{StoreState, all_stamped}
-use Rattle.sw_work.specs.Hosted.{state_of}
+use Rattle.sw_state.specs.Hosted.{state_of}
 
 -- own: the history goes on by the entries that wait, whatever clock they will be stamped with; they are no more than sixteen,
 -- and what waits to be written are their changes

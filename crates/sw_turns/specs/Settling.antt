@@ -16,7 +16,7 @@ use Rattle.sw_turns.specs.declared.ends.Stop.TheVariants as stop
 use Rattle.sw_rules.specs.Durable.{durable}
 use Rattle.sw_rules.specs.History.{Opens}
 use Rattle.sw_store.specs.Stores.{IsWrittenAnew, StoreState, all_stamped}
-use Rattle.sw_work.specs.Hosted.{state_of}
+use Rattle.sw_state.specs.Hosted.{state_of}
 
 -- own: which way a run goes, what is left of its lanes and in flight, and why no further event joins a group
 pub record Standing : Type 0 where

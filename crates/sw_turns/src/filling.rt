@@ -22,7 +22,7 @@ ghost use Rattle.sw_turns.specs.Groups.{Begins, ComesBehind, HasEntered, HasJoin
 ghost use Rattle.sw_turns.specs.Ways.{Way, recorded_way};
 ghost use Rattle.sw_turns.specs.declared.ends.Refusal.TheVariants as refused;
 ghost use Rattle.sw_turns.specs.declared.ends.Stop.TheVariants as stopped;
-ghost use Rattle.sw_work.specs.Hosted.{state_of};
+ghost use Rattle.sw_state.specs.Hosted.{state_of};
 
 use crate::ends::{Refusal, Stop};
 use crate::next::{action_event, landing, put_back, ready_event};

@@ -12,7 +12,7 @@ ghost use Rattle.sw_turns.specs.Coming.{IsPickedNext};
 ghost use Rattle.sw_turns.specs.Flights.{AreInFlight, Flies, IsDue, Spares};
 ghost use Rattle.sw_core.specs.Machines.{IsEventOf};
 ghost use Rattle.sw_turns.specs.Playing.{ComesByPick};
-ghost use Rattle.sw_work.specs.Hosted.{state_of};
+ghost use Rattle.sw_state.specs.Hosted.{state_of};
 
 use crate::acting::action_of_event;
 use std::alloc::Global;

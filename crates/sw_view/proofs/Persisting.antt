@@ -1,5 +1,5 @@
 -- Registrations keep their keys and scopes in each step, and so a notice names the same ones behind further entries.
-use Rattle.std.proofs.Common.{◌≡◌, ℕ, Bool, true, false, ◌&&◌, ◌==◌, List, [], ◌∷◌, ◌++◌, map, length, IfSome, refl, arith, if◌then◌else◌}
+use Rattle.std.proofs.Common.{◌≡◌, ℕ, Bool, true, false, ◌&&◌, ◌==◌, List, [], ◌∷◌, ◌++◌, map, length, IfSome, refl, sym, ap, subst, arith, if◌then◌else◌}
 use Rattle.std.specs.Prelude.{bytes_eq, filter, is_none}
 use Rattle.std.specs.List.{list_any}
 use Rattle.std.specs.Option.{option_map_or}
@@ -11,20 +11,22 @@ use Rattle.sw_data.specs.declared.events.Event.{Event}
 use Rattle.sw_data.specs.declared.events.Who.{Who}
 use Rattle.sw_data.specs.declared.events.Who.TheVariants as who
 use Rattle.sw_data.specs.declared.rows.JobRow.{JobRow}
+use Rattle.sw_data.specs.declared.workers.WorkerState.TheVariants as worker_state
 use Rattle.sw_rules.specs.Activating.{become_activated, paid}
 use Rattle.sw_rules.specs.Caching.{add_cache, add_task, carry_out, drop_cache, settle_task}
 use Rattle.sw_rules.specs.Forgetting.{forget_key, forget_registrations, is_mapped_of}
 use Rattle.sw_rules.specs.Calls.{note_call}
 use Rattle.sw_rules.specs.Clients.{add_client, add_event, claim_client, claim_clients, claims, leave, remove_client, remove_event, take_control}
-use Rattle.sw_rules.specs.Installing.{become_waiting, begin_install, discard, end_handler, fail_install, finish_install, first_counter, make_worker, placed, reject_and_drop, tell_update, throw}
+use Rattle.sw_rules.specs.Installing.{become_waiting, begin_install, end_handler, fail_install, finish_install, first_counter, make_worker, placed, reject_and_drop, remember, tell_update, throw}
 use Rattle.sw_rules.specs.Jobs.{finish, promise, schedule, settle}
 use Rattle.sw_rules.specs.Preloading.{set_preload}
 use Rattle.sw_rules.specs.Registering.{fetch_script}
-use Rattle.sw_rules.specs.Registrations.{activate, clear, drop_registration, map_registration, new_registration, set_mode, unload, unmap}
+use Rattle.sw_rules.specs.Registrations.{become, clear, drop_registration, map_registration, new_registration, set_mode, start_handler, unload, unmap}
 use Rattle.sw_rules.specs.Rows.{changed, client_row, is_registration, newest_worker}
 use Rattle.sw_rules.specs.State.{State, Registration, Worker, Awaited}
-use Rattle.sw_rules.specs.Told.{Told, followed, quiet, type_error}
+use Rattle.sw_rules.specs.Told.{Told, followed, keep, quiet, type_error}
 use Rattle.sw_rules.specs.Step.{step}
+use Rattle.sw_laws.proofs.AtOnce.{activate_leaves, clear_only, waiting_leaves}
 use Rattle.sw_laws.proofs.Events.{step-law}
 use Rattle.sw_laws.proofs.Lists.{any_changed, by_test}
 use Rattle.sw_laws.proofs.Split.{IsLaw, IsRecheckLaw, unload-law}
@@ -39,6 +41,9 @@ Stay old new = (key scope : List ℕ) (number : ℕ) → has_row key scope old n
 
 stand : (rows : List Registration) → Stay rows rows
 stand rows key scope number is = is
+
+stand_as : (old new : List Registration) → new ≡ old → Stay old new
+stand_as old new same = subst (Stay old) (sym same) (stand old)
 
 both : (one two three : List Registration) → Stay one two → Stay two three → Stay one three
 both one two three first second key scope number is = second key scope number (first key scope number is)
@@ -68,13 +73,15 @@ further : (state : State) (told : Told) (next : State → Told) → Stays state 
 unfolding followed
 further state told next = both state.registrations told.state.registrations (next told.state).state.registrations
 
+clear_stays : (state : State) (registration : ℕ) → Stays state (clear state registration)
+clear_stays state registration = stand_as state.registrations _ (ap (λ (s : State). s.registrations) (clear_only state registration).rest)
+
 rechecks_stay : IsRecheckLaw Stays
-unfolding activate clear
 rechecks_stay = record {
   nothing = λ state. stand state.registrations;
   further = further;
-  activating = λ state registration worker is. stand state.registrations;
-  clearing = λ state registration gone unused calm. stand state.registrations;
+  activating = λ state registration worker is. stand_as state.registrations _ (ap (λ (s : State). s.registrations) (activate_leaves state registration worker));
+  clearing = λ state registration gone unused calm. clear_stays state registration;
 }
 
 unload_stays : (state : State) (client : ℕ) → Stays state (unload state client)
@@ -124,16 +131,16 @@ reject_stays state job registration why =
     (further settled.state dropped _ (drop_stays settled.state registration) (stand dropped.state.registrations))
 
 throw_stays : (state : State) (job registration worker : ℕ) → Stays state (throw state job registration worker)
-unfolding throw discard
+unfolding throw become
 throw_stays state job registration worker =
-    let discarded = discard state worker in
+    let discarded = become state worker worker_state.Redundant in
     further state discarded _ (stand state.registrations) (reject_stays discarded.state job registration (type_error cause.Threw))
 
 fail_stays : (state : State) (row : JobRow) (registration worker : ℕ) → Stays state (fail_install state row registration worker)
-unfolding fail_install end_handler discard finish
+unfolding fail_install end_handler become finish
 fail_stays state row registration worker =
     let ended = end_handler state worker in
-    let discarded = discard ended.state worker in
+    let discarded = become ended.state worker worker_state.Redundant in
     let gone = if is_none row.remembered then unmap discarded.state registration else quiet discarded.state in
     further state ended _ (stand state.registrations)
     (further ended.state discarded _ (stand state.registrations)
@@ -142,26 +149,27 @@ fail_stays state row registration worker =
     (stand gone.state.registrations)))
 
 install_stays : (state : State) (job registration : ℕ) (worker : Worker) → Stays state (finish_install state job registration worker)
-unfolding finish_install end_handler become_waiting finish
+unfolding finish_install end_handler finish
 install_stays state job registration worker =
     let ended = end_handler state worker.number in
     let waiting = become_waiting ended.state registration worker in
     further state ended _ (stand state.registrations)
     (further ended.state waiting _
-    (some_changed (is_registration registration) (placed (first_counter state.registrations)) (λ x. record { number = refl; key = refl; scope = refl }) state.registrations)
+    (subst (Stay state.registrations) (sym (ap (λ (s : State). s.registrations) (waiting_leaves ended.state registration worker)))
+    (some_changed (is_registration registration) (placed (first_counter state.registrations)) (λ x. record { number = refl; key = refl; scope = refl }) state.registrations))
     (stand waiting.state.registrations))
 
 forgets_stay : (rows : List Registration) (state : State) → Stays state (forget_registrations state rows)
-unfolding forget_registrations clear
+unfolding forget_registrations
 forgets_stay [] state = stand state.registrations
 forgets_stay (row ∷ rows) state =
     let unmapped = unmap state row.number in
     let cleared = clear unmapped.state row.number in
     further state unmapped _ (unmap_stays state row.number)
-    (further unmapped.state cleared _ (stand unmapped.state.registrations) (forgets_stay rows cleared.state))
+    (further unmapped.state cleared _ (clear_stays unmapped.state row.number) (forgets_stay rows cleared.state))
 
 stay_law : IsLaw Stays true
-unfolding followed schedule settle finish map_registration set_mode set_preload fetch_script make_worker begin_install tell_update end_handler become_activated add_client add_event remove_event add_cache drop_cache carry_out forget_key add_task settle_task note_call
+unfolding followed schedule settle finish map_registration set_mode set_preload fetch_script make_worker begin_install remember become start_handler tell_update end_handler become_activated keep add_client add_event remove_event add_cache drop_cache carry_out forget_key add_task settle_task note_call
 stay_law = record {
   rechecks = rechecks_stay;
   scheduling = λ state job is. stand state.registrations;

@@ -1,5 +1,5 @@
 -- Calls of handlers that were worked out: what they come to, and that they fit.
-use Rattle.std.proofs.Common.{◌≡◌, ◌∙◌, ◌==◌, ℕ, Bool, true, false, List, [], ◌++◌, map, length, Option, Some, None, IfSome, IsSome, option_map, option_and_then, is_some, nat_lt, slice_get, refl, sym, ap, subst, arith, if◌then◌else◌}
+use Rattle.std.proofs.Common.{◌≡◌, ◌∙◌, ◌&&◌, ◌==◌, ℕ, Bool, true, false, List, [], ◌++◌, map, length, Option, Some, None, IfSome, IsSome, option_map, option_and_then, is_some, nat_lt, slice_get, refl, sym, ap, subst, arith, if◌then◌else◌}
 use Rattle.std.specs.Option.{option_map_or}
 use Rattle.std.specs.Prelude.{IfOk, Result, Ok, Err}
 use Rattle.std.proofs.lemmas.Bool.{and_parts}
@@ -18,6 +18,7 @@ use Rattle.sw_data.specs.declared.events.Who.TheVariants as who
 use Rattle.sw_data.specs.declared.recordings.Call.{Call}
 use Rattle.sw_data.specs.declared.recordings.Handlers.{Handlers}
 use Rattle.sw_data.specs.declared.rows.HandlerRow.{HandlerRow}
+use Rattle.sw_data.specs.declared.rows.Job.{Job}
 use Rattle.sw_data.specs.declared.rows.RegistrationRow.{RegistrationRow}
 use Rattle.sw_data.specs.declared.rows.WorkerRow.{WorkerRow}
 use Rattle.sw_data.specs.declared.storage.Change.{Change}
@@ -26,32 +27,33 @@ use Rattle.sw_data.specs.declared.workers.Phase.TheVariants as phase
 use Rattle.sw_data.specs.Events.{is_handler}
 use Rattle.sw_data.specs.Sameness.{same_call, same_phase}
 use Rattle.sw_laws.specs.Coherent.{Coherent}
+use Rattle.sw_laws.proofs.Lists.{find_any}
 use Rattle.sw_ledgers.specs.declared.promises.Awaited.{Awaited}
 use Rattle.sw_ledgers.specs.Promised.{meaning}
 use Rattle.sw_pages.specs.Acts as pages
 use Rattle.sw_pages.specs.Acts.{told_by}
-use Rattle.sw_pages.specs.Fits.{FitsPage}
+use Rattle.sw_pages.specs.Fits.{FitsHost}
+use Rattle.sw_pages.specs.Jobs.{IsNext, comes_to}
 use Rattle.sw_pages.specs.declared.worked.PageAct.{PageAct}
 use Rattle.sw_pages.specs.declared.worked.PageAct.TheVariants as page
 use Rattle.sw_pages.specs.declared.worked.Worked.{Worked}
-use Rattle.sw_client.specs.Table as clients
-use Rattle.sw_reg.specs.Table as registrations
 use Rattle.sw_reg.specs.Table.{registration_at}
 use Rattle.sw_rules.specs.Caching.{add_task}
 use Rattle.sw_rules.specs.Calls.{call_by, called, is_at, is_fault, is_next_call, make_call, note_call, noted, own_registration}
-use Rattle.sw_rules.specs.Clients.{add_client, add_event, skip_waiting}
+use Rattle.sw_rules.specs.Clients.{skip_waiting}
 use Rattle.sw_rules.specs.Installing as rules
 use Rattle.sw_rules.specs.Jobs.{promise, schedule}
-use Rattle.sw_rules.specs.Rows.{free_handler, is_active, is_number, is_registration, maker_worker, registration_row, worker_row}
+use Rattle.sw_rules.specs.Rows.{free_handler, has_worker, is_active, is_number, is_registration, is_worker, maker_worker, registration_row, worker_row}
 use Rattle.sw_rules.specs.State as state_of_rules
 use Rattle.sw_rules.specs.State.{State, Handler, Registration, Worker}
 use Rattle.sw_rules.specs.Told.{Told, Outcome, followed, quiet}
-use Rattle.sw_scope.specs.Scopes.{Scopes, maps}
+use Rattle.sw_scope.specs.Scopes.{maps}
+use Rattle.sw_state.proofs.Same.{same_state}
 use Rattle.sw_tables.proofs.Lookups.{worker_shown}
 use Rattle.sw_tables.proofs.Rows.{find_map, found_number}
-use Rattle.sw_tables.specs.Lent.{Rest, lent, shown_handler, shown_registration, shown_worker}
+use Rattle.sw_tables.specs.Lent.{shown_handler, shown_worker}
 use Rattle.sw_work.specs.Called.{FitsCall, HasRow, noted_call}
-use Rattle.sw_work.specs.Hosted.{Hosted, rest_of, state_of}
+use Rattle.sw_state.specs.Hosted.{Hosted, SameRows, shown_of, state_of}
 use Rattle.sw_work.specs.Keeping.{KeepsHandler, handling}
 use Rattle.sw_work.specs.Plans.{Agree, FitsWork, IsAsked, IsStarted, Means, Works, has_calls_left, told_by_caches, told_then}
 use Rattle.sw_work.specs.declared.plan.Act.TheVariants as act
@@ -66,6 +68,10 @@ use Rattle.sw_worker.specs.Table.{worker_at}
 pub both_ok : {X E : Type 0} (r : Result X E) (P Q R : X → Type 0) → ((x : X) → P x → Q x → R x) → IfOk r P → IfOk r Q → IfOk r R
 both_ok (Ok x) P Q R goes one other = goes x one other
 both_ok (Err why) P Q R goes one other = tt
+
+pub some_weaker : {X : Type 0} (o : Option X) (P Q : X → Type 0) → ((x : X) → P x → Q x) → IfSome o P → IfSome o Q
+some_weaker None P Q goes holds = tt
+some_weaker (Some x) P Q goes holds = goes x holds
 
 -- ---- what a call comes to, noted
 
@@ -234,7 +240,7 @@ row_left row = by row.handler
     by None = refl
     by (Some h) = ap (λ (calls : List Call). nat_lt h.made (length calls)) (same_calls (shown_worker row) h.phase)
 
-row_shown : (host : Hosted) (worker : ℕ) (row : WorkerRow) → worker_at worker host.workers.rows ≡ Some row → worker_row (state_of host) worker ≡ Some (shown_worker row)
+pub row_shown : (host : Hosted) (worker : ℕ) (row : WorkerRow) → worker_at worker host.workers.rows ≡ Some row → worker_row (state_of host) worker ≡ Some (shown_worker row)
 row_shown host worker row there = worker_shown worker host.workers.rows ∙ ap (option_map shown_worker) there
 
 pub host_left : (host : Hosted) (row : WorkerRow) → HasRow row host → workers.has_calls_left row ≡ true → has_calls_left row.number (state_of host) ≡ true
@@ -256,6 +262,11 @@ module _ (host : Hosted) (row : WorkerRow) (there : HasRow row host) (left : wor
             (skip_waiting_keeps (state_of host) row.registration row.number row.number sound) left_here;
       })
 
+  claims_active : is_active row.state ≡ true → has_worker (λ w. w.registration == row.registration && is_active w.state) (state_of host).workers row.number ≡ true
+  claims_active active =
+      find_any (is_worker row.number) (λ w. is_worker row.number w && (w.registration == row.registration && is_active w.state)) (state_of host).workers (shown_worker row)
+      (row_shown host row.number row there) (grind (arith, nat_tests, active))
+
   pub claim_fits : (done : PageAct) → done ≡ (if is_active row.state then page.Claim row.registration row.number else page.Nothing) → Coherent (state_of host) → FitsCall row.number done host
   claim_fits done is sound = subst (λ (a : PageAct). FitsCall row.number a host) (sym is) (by (is_active row.state) refl)
     where
@@ -266,52 +277,50 @@ module _ (host : Hosted) (row : WorkerRow) (there : HasRow row host) (left : wor
             ∙ ap (λ (b : Bool). Some (row.registration, b)) active;
         calls =
             calls_kept row.number (state_of host) _
-            (claim_keeps (state_of host) row.number row.registration (map (λ client. client.number) (state_of host).clients) row.number sound.workers.handlers) left_here;
+            (claim_keeps (state_of host) row.number row.registration (map (λ client. client.number) (state_of host).clients) row.number (claims_active active) sound) left_here;
       }
       by false active = record { act = tt; calls = left_here }
 
-  -- an act that fits whatever the other tables hold changes no worker
-  pub update_fits : (done : PageAct)
-      → ((of_workers : workers.Table) (of_registrations : registrations.Table) (of_clients : clients.Table) → FitsPage done of_workers of_registrations of_clients host.queues)
-      → FitsCall row.number done host
-  unfolding add_client add_event schedule
-  update_fits page.Nothing fits = record { act = tt; calls = left_here }
-  update_fits (page.Open new) fits = record { act = fits host.workers host.registrations host.clients; calls = left_here }
-  update_fits (page.Close client) fits =
-      let gone = fits host.workers host.registrations (record host.clients { rows = [] }) in absurd cc
-  update_fits (page.Schedule new) fits = record { act = fits host.workers host.registrations host.clients; calls = left_here }
-  update_fits (page.SkipWaiting registration worker) fits =
-      let gone = fits (record host.workers { rows = [] }) host.registrations host.clients in absurd cc
-  update_fits (page.Claim registration worker) fits =
-      let gone = fits (record host.workers { rows = [] }) host.registrations host.clients in absurd cc
-  update_fits (page.Begin event) fits = record { act = fits host.workers host.registrations host.clients; calls = left_here }
-  update_fits (page.End event registration) fits =
-      let gone = fits (record host.workers { events = [] }) host.registrations host.clients in absurd cc
-  update_fits (page.Preload registration on text) fits =
-      let gone = fits host.workers (record host.registrations { rows = [] }) host.clients in absurd cc
+-- a job that is scheduled changes no worker
+pub update_fits : (old new : Hosted) (worker : ℕ) (asked : Result Job Worked) (worked : Worked) → SameRows old new → IsNext old.queues.rows asked → worked ≡ comes_to old.queues.rows asked
+    → FitsHost worked new → has_calls_left worker (state_of old) ≡ true → FitsCall worker worked.act new
+unfolding schedule
+update_fits old new worker asked worked same next is fits left =
+    let here : has_calls_left worker (state_of new) ≡ true = subst (λ (s : State). has_calls_left worker s ≡ true) (sym (same_state old new same)) left in
+    by asked next is here
+  where
+    by : (asked : Result Job Worked) → IsNext old.queues.rows asked → worked ≡ comes_to old.queues.rows asked → has_calls_left worker (state_of new) ≡ true → FitsCall worker worked.act new
+    by (Ok job) next is here =
+        subst (λ (w : Worked). FitsHost w new → FitsCall worker w.act new) (sym is) (λ fits. record { act = fits; calls = here }) fits
+    by (Err other) next is here =
+        let nothing : worked.act ≡ page.Nothing = ap (λ (w : Worked). w.act) is ∙ next in
+        subst (λ (a : PageAct). FitsCall worker a new) (sym nothing) (record { act = tt; calls = here })
 
 -- ---- the registration of a worker
 
-module _ (scopes : Scopes) (of_workers : workers.Table) (of_registrations : registrations.Table) (of_clients : clients.Table) (rest : Rest) (row : WorkerRow) (of : RegistrationRow) (there : registration_at row.registration of_registrations.rows ≡ Some of) where
-  abbrev state : State
-  state = lent scopes of_workers of_registrations of_clients rest
-
-  of_shown : registration_row state row.registration ≡ Some (shown_registration scopes rest of)
+module _ (host : Hosted) (row : WorkerRow) (of : RegistrationRow) (there : registration_at row.registration host.registrations.rows ≡ Some of) where
+  of_shown : registration_row (state_of host) row.registration ≡ Some (shown_of host of)
   of_shown =
-      find_map (is_registration row.registration) (shown_registration scopes rest) of_registrations.rows
-      ∙ ap (option_map (shown_registration scopes rest)) there
+      find_map (is_registration row.registration) (shown_of host) host.registrations.rows
+      ∙ ap (option_map (shown_of host)) there
 
   -- a worker's own registration, where it is mapped
-  pub own_shown : own_registration (lent scopes of_workers of_registrations of_clients rest) (shown_worker row)
-      ≡ option_map (shown_registration scopes rest) (if is_number (maps scopes of.key of.scope) of.number then Some of else None)
+  pub own_shown : own_registration (state_of host) (shown_worker row)
+      ≡ option_map (shown_of host) (if is_number (maps host.scopes of.key of.scope) of.number then Some of else None)
   own_shown =
       ap (option_and_then (λ (r : Registration). if r.mapped then Some r else None)) of_shown
-      ∙ by (is_number (maps scopes of.key of.scope) of.number) refl
+      ∙ by (is_number (maps host.scopes of.key of.scope) of.number) refl
     where
-      by : (mapped : Bool) → is_number (maps scopes of.key of.scope) of.number ≡ mapped
-          → (if mapped then Some (shown_registration scopes rest of) else None) ≡ option_map (shown_registration scopes rest) (if mapped then Some of else None)
+      by : (mapped : Bool) → is_number (maps host.scopes of.key of.scope) of.number ≡ mapped
+          → (if mapped then Some (shown_of host of) else None) ≡ option_map (shown_of host) (if mapped then Some of else None)
       by true is = refl
       by false is = refl
+
+-- a worker whose registration isn't there has none
+pub none_shown : (host : Hosted) (row : WorkerRow) → registration_at row.registration host.registrations.rows ≡ None → own_registration (state_of host) (shown_worker row) ≡ None
+none_shown host row gone =
+    ap (option_and_then (λ (r : Registration). if r.mapped then Some r else None))
+    (find_map (is_registration row.registration) (shown_of host) host.registrations.rows ∙ ap (option_map (shown_of host)) gone)
 
 -- ---- the next call of a handler
 
@@ -345,7 +354,7 @@ module _ (host : Hosted) (worker : ℕ) (in_phase : Phase) (number : ℕ) (asked
       (by (is_next_call (state_of host) (shown_worker row) in_phase number asked))
     where
       by : (is_next : Bool) → IfSome (if is_next then call_by (state_of host) (who.Handler worker in_phase number) (shown_worker row) in_phase asked else None) P
-      by true = subst (λ (o : Option Registration). IfSome (noted_for row o) P) (sym (of_shown host.scopes host.workers host.registrations host.clients (rest_of host) row of held)) holds
+      by true = subst (λ (o : Option Registration). IfSome (noted_for row o) P) (sym (of_shown host row of held)) holds
       by false = tt
 
   -- the worker whose handler makes a call is there
@@ -362,8 +371,8 @@ module _ (host : Hosted) (worker : ℕ) (in_phase : Phase) (number : ℕ) (asked
     pub no_registration : IsSome comes → registration_at row.registration host.registrations.rows ≡ None → ⊥
     no_registration happens gone =
         let none =
-        find_map (is_registration row.registration) (shown_registration host.scopes (rest_of host)) host.registrations.rows
-        ∙ ap (option_map (shown_registration host.scopes (rest_of host))) gone in
+        find_map (is_registration row.registration) (shown_of host) host.registrations.rows
+        ∙ ap (option_map (shown_of host)) gone in
         let by = happens_by happens in
         grind (arith, by, none)
 

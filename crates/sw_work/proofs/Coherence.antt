@@ -21,7 +21,6 @@ use Rattle.sw_laws.proofs.KeptRechecks.{is_underway}
 use Rattle.sw_laws.proofs.Lists.{any_weaker, bytes_eq_same, bytes_eq_symmetric, find_any, find_passes, found_by}
 use Rattle.sw_laws.proofs.Places.{all_at_found, found_any, found_numbered, places_apart}
 use Rattle.sw_laws.proofs.Underway.{is_free, others_free}
-use Rattle.sw_pages.specs.Controlled.{AreControlled}
 use Rattle.sw_queue.specs.Tables.{is_under_way}
 use Rattle.sw_reg.specs.Table as registrations
 use Rattle.sw_reg.specs.Table.{slot_of}
@@ -76,10 +75,6 @@ module _ (scopes : Scopes) (of_workers : workers.Table) (of_registrations : regi
   -- numbers of jobs are their places
   pub job_numbers : Coherent shown → ArePlaces (λ row. row.job.number) rest.jobs
   job_numbers sound = sound.jobs.numbers
-
-  -- each client's controller is active
-  pub are_controlled : Coherent shown → AreControlled of_workers of_clients
-  are_controlled sound = sound.clients.controllers
 
   -- what holds of each worker that is shown holds of a row
   of_row : (test : Worker → Bool) (worker : ℕ) (row : WorkerRow) → list_all test (map shown_worker of_workers.rows) ≡ true → worker_at worker of_workers.rows ≡ Some row → test (shown_worker row) ≡ true

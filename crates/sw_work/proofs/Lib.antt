@@ -1,4 +1,3 @@
-pub mod Beginning
 pub mod Calling
 pub mod Coherence
 pub mod Keeping

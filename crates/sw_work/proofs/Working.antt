@@ -34,7 +34,7 @@ use Rattle.sw_rules.specs.Told.{Outcome}
 use Rattle.sw_scope.specs.Scopes.{Scopes, maps}
 use Rattle.sw_tables.specs.Lent.{Rest, lent, shown_worker}
 use Rattle.sw_work.proofs.Coherence.{registered}
-use Rattle.sw_work.specs.Hosted.{Hosted, SameRows, rest_of, state_of}
+use Rattle.sw_state.specs.Hosted.{Hosted, SameRows, rest_of, state_of}
 use Rattle.sw_work.specs.Plans.{FitsFetch, Means, first_preload}
 use Rattle.sw_work.specs.Running.{HasTables, IsRun}
 use Rattle.sw_work.specs.declared.plan.NewFetch.{NewFetch}

@@ -10,7 +10,7 @@ use Rattle.sw_rules.specs.Calls.{called, noted}
 use Rattle.sw_rules.specs.State.{State}
 use Rattle.sw_rules.specs.Told.{Outcome}
 use Rattle.sw_tables.specs.Lent.{shown_worker}
-use Rattle.sw_work.specs.Hosted.{Hosted, state_of}
+use Rattle.sw_state.specs.Hosted.{Hosted, state_of}
 use Rattle.sw_work.specs.Plans.{FitsPageAct, has_calls_left}
 use Rattle.sw_worker.specs.Table.{worker_at}
 

@@ -1,5 +1,4 @@
 pub mod Called
-pub mod Hosted
 pub mod Keeping
 pub mod Planned
 pub mod Plans

@@ -1,7 +1,7 @@
 -- What a plan needs of a host.
 use Rattle.std.specs.Prelude.{◌≡◌, ◌≤◌, []}
 use Rattle.sw_work.specs.declared.plan.Plan.{Plan}
-use Rattle.sw_work.specs.Hosted.{Hosted}
+use Rattle.sw_state.specs.Hosted.{Hosted}
 use Rattle.sw_work.specs.Plans.{FitsWork, work_room}
 
 -- own: a plan may be carried out on a host without memory, and no notice was told yet

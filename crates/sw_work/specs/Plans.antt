@@ -42,7 +42,7 @@ use Rattle.sw_rules.specs.Registering as registering
 use Rattle.sw_rules.specs.Rows.{is_job, is_promise, maker_worker, without, worker_row}
 use Rattle.sw_rules.specs.State.{State, Promise}
 use Rattle.sw_rules.specs.Told.{Told, Outcome, followed, quiet}
-use Rattle.sw_work.specs.Hosted.{Hosted, state_of}
+use Rattle.sw_state.specs.Hosted.{Hosted, state_of}
 use Rattle.sw_work.specs.declared.plan.Act.{Act}
 use Rattle.sw_work.specs.declared.plan.Act.TheVariants as act
 use Rattle.sw_work.specs.declared.plan.Asked.{Asked}

@@ -8,7 +8,7 @@ use Rattle.sw_reg.specs.Table as registrations
 use Rattle.sw_rules.specs.Registering.{run}
 use Rattle.sw_rules.specs.Rows.{is_job}
 use Rattle.sw_scope.specs.Scopes.{Scopes}
-use Rattle.sw_work.specs.Hosted.{Hosted, state_of}
+use Rattle.sw_state.specs.Hosted.{Hosted, state_of}
 use Rattle.sw_work.specs.Plans.{FitsWork, Means}
 use Rattle.sw_work.specs.declared.plan.Work.{Work}
 

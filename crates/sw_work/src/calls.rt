@@ -1,29 +1,27 @@
 //! Calls of handlers, worked out with all their room.
 
-ghost use Rattle.std.specs.Prelude.{◌≡◌, ℕ, true, List, IfOk, IfSome, Some, None, if◌then◌else◌};
+ghost use Rattle.std.specs.Prelude.{◌≡◌, ℕ, true, List, IfOk, IfSome, IsSome, Some, None, option_map, if◌then◌else◌};
 ghost use Rattle.std.specs.Option.{option_copied};
 ghost use Rattle.sw_cachestorage.specs.Actions.{acts_on_caches};
 ghost use Rattle.sw_cachestorage.specs.Acts.{FitsAct, IsOutcome, IsStep};
 ghost use Rattle.sw_cachestorage.specs.Adding.{FitsStart, begun};
-ghost use Rattle.sw_client.specs.Table as clients_of;
 ghost use Rattle.sw_data.specs.declared.events.Who.{Who};
+ghost use Rattle.sw_data.specs.declared.events.Who.TheVariants as maker;
 ghost use Rattle.sw_data.specs.declared.workers.Phase.{Phase};
 ghost use Rattle.sw_data.specs.Events.{is_handler};
 ghost use Rattle.sw_laws.specs.Coherent.{Coherent};
 ghost use Rattle.sw_pages.specs.Acts as pages;
-ghost use Rattle.sw_pages.specs.Jobs.{FitsJobs};
-ghost use Rattle.sw_reg.specs.Table.{registration_at};
+ghost use Rattle.sw_pages.specs.Jobs.{IsNext, comes_to};
 ghost use Rattle.sw_rules.specs.Calls as calls;
-ghost use Rattle.sw_rules.specs.Rows.{is_number, maker_worker};
+ghost use Rattle.sw_rules.specs.Rows.{is_number, maker_worker, worker_row};
 ghost use Rattle.sw_rules.specs.Told.{Outcome};
 ghost use Rattle.sw_scope.specs.Scopes.{maps};
-ghost use Rattle.sw_tables.specs.Happened.{with_jobs};
-ghost use Rattle.sw_tables.specs.Lent.{Rest, lent, shown_worker};
-ghost use Rattle.sw_tables.specs.Linked.{HasSlots};
+ghost use Rattle.sw_state.specs.Hosted.{Hosted, SameRows, shown_of, state_of};
+ghost use Rattle.sw_tables.specs.Lent.{shown_worker};
 ghost use Rattle.sw_work.specs.Called.{FitsCall, HasRow, noted_call};
-ghost use Rattle.sw_work.specs.Hosted.{Hosted, state_of};
-ghost use Rattle.sw_work.specs.Plans.{FitsWork, Means, has_calls_left};
+ghost use Rattle.sw_work.specs.Plans.{FitsWork, Means, Works, has_calls_left};
 ghost use Rattle.sw_worker.specs.Table as workers_of;
+ghost use Rattle.sw_worker.specs.Table.{is_there};
 
 use crate::plan::{Act, Asked, Then, Work};
 use std::alloc::Global;
@@ -33,14 +31,13 @@ use sw_cachestorage::{
     put_response,
 };
 use sw_data::{
-    Answer, CacheAddAll, Call, Fault, NoMemory, Phase, RegistrationRow, StateCause, Who, WorkerRow,
+    Answer, CacheAddAll, Call, Fault, Job, NoMemory, Phase, RegistrationRow, StateCause, Who,
+    WorkerRow,
 };
 use sw_ledgers::{Draws, Tasks};
-use sw_pages::{PageAct, Worked, claim_of, skip_waiting_of, update_named};
-use sw_queue::Queues;
-use sw_reg::Registrations;
+use sw_pages::{PageAct, Worked, claim_of, schedule_asked, skip_waiting_of, update_named};
 use sw_scope::ScopeMap;
-use sw_worker::Workers;
+use sw_state::HostTables;
 
 // ---- what was worked out, noted
 
@@ -136,8 +133,8 @@ fn on_caches(
     }
 }
 
-/// The work of a call on caches.
-pub fn caches_work(
+// The work of a call on caches.
+fn caches_work(
     alloc: Global,
     row: &WorkerRow,
     of: &RegistrationRow,
@@ -158,8 +155,8 @@ pub fn caches_work(
     Ok(cache_work(row.number, step))
 }
 
-/// The work of skipping the waiting.
-pub fn skip_work(row: &WorkerRow) -> Work
+// The work of skipping the waiting.
+fn skip_work(row: &WorkerRow) -> Work
     requires left { workers_of.has_calls_left row.now ≡ true }
     ensures fits { (host : Hosted) → Coherent (state_of host) → HasRow row.now host
         → FitsWork result host }
@@ -170,8 +167,8 @@ pub fn skip_work(row: &WorkerRow) -> Work
     page_work(row.number, skip_waiting_of(row))
 }
 
-/// The work of claiming clients.
-pub fn claim_work(row: &WorkerRow) -> Work
+// The work of claiming clients.
+fn claim_work(row: &WorkerRow) -> Work
     requires left { workers_of.has_calls_left row.now ≡ true }
     ensures fits { (host : Hosted) → Coherent (state_of host) → HasRow row.now host
         → FitsWork result host }
@@ -194,78 +191,80 @@ fn where_mapped<'a>(of: &'a RegistrationRow, map: &ScopeMap) -> Option<&'a Regis
     }
 }
 
-// An update of a worker's own registration, which an install handler is refused.
-fn update_own(
-    alloc: Global,
-    phase: Phase,
-    row: &WorkerRow,
-    of: &RegistrationRow,
-    map: &ScopeMap,
-    queues: &mut Queues,
-    workers: &Workers,
-    registrations: &Registrations,
-) -> Result<Worked, NoMemory>
-    requires slots { HasSlots workers.now registrations.now }
-    requires own { registration_at row.now.registration registrations.now.rows ≡ Some of.now }
-    ensures same { queues.new.rows ≡ queues.old.rows }
-    ensures fits { IfOk result (λ worked. FitsJobs worked queues.new) }
-    ensures outcome { IfOk result (λ worked. (of_clients : clients_of.Table) (rest : Rest)
-        (by : Who) → calls.update_own (lent map.now workers.now registrations.now of_clients
-        (with_jobs queues.old.rows rest)) by (shown_worker row.now) phase
-        ≡ pages.outcome_of by worked (lent map.now workers.now registrations.now of_clients
-        (with_jobs queues.old.rows rest))) }
+// The registration of a worker, where it is mapped.
+fn own_registration<'a>(host: &'a HostTables, row: &WorkerRow) -> Option<&'a RegistrationRow>
+    ensures { option_map (shown_of host.now) (option_copied result)
+        ≡ calls.own_registration (state_of host.now) (shown_worker row.now) }
 {
-    match phase {
-        Phase::Install => Ok(Worked {
-            answer: Answer::Fault(Fault::InvalidState(StateCause::Installing)),
-            act: PageAct::Nothing,
-            awaited: None,
-        }),
-        Phase::Activate => {
-            let named = where_mapped(of, map);
-            update_named(alloc, named, &row.script, queues, workers, registrations)
-        }
+    match host.registrations.row(row.registration) {
+        Some(of) => where_mapped(of, &host.map),
+        None => None,
     }
 }
 
-/// The work of an update.
-pub fn update_work(
+// What an update of a worker's own registration comes to, which an install handler is refused.
+fn update_own(
+    host: &HostTables,
     alloc: Global,
-    phase: Phase,
     row: &WorkerRow,
-    of: &RegistrationRow,
-    map: &ScopeMap,
-    queues: &mut Queues,
-    workers: &Workers,
-    registrations: &Registrations,
-) -> Result<Work, NoMemory>
-    requires slots { HasSlots workers.now registrations.now }
-    requires own { registration_at row.now.registration registrations.now.rows ≡ Some of.now }
-    requires left { workers_of.has_calls_left row.now ≡ true }
-    ensures same { queues.new.rows ≡ queues.old.rows }
-    ensures fits { IfOk result (λ work. (host : Hosted) → HasRow row.now host
-        → FitsWork work (record host { queues = queues.new })) }
-    ensures means { IfOk result (λ work. (host : Hosted) (by : Who) → is_handler by ≡ true
-        → Means work (record host {
-          scopes = map.now;
-          queues = queues.old;
-          workers = workers.now;
-          registrations = registrations.now;
-        })
-        (noted_call by phase row.now of.now.key Call.Update
-        (state_of (record host {
-          scopes = map.now;
-          queues = queues.old;
-          workers = workers.now;
-          registrations = registrations.now;
-        })))) }
+    phase: Phase,
+) -> Result<Result<Job, Worked>, NoMemory>
+    ensures next { IfOk result (IsNext host.now.queues.rows) }
+    ensures gives { IfOk result (λ job. pages.Gives (λ state by.
+        calls.update_own state by (shown_worker row.now) phase)
+        (comes_to host.now.queues.rows job) host.now) }
 {
-    let worked = update_own(alloc, phase, row, of, map, queues, workers, registrations)?;
-    Ok(page_work(row.number, worked))
+    match phase {
+        Phase::Install => Ok(Err(Worked {
+            answer: Answer::Fault(Fault::InvalidState(StateCause::Installing)),
+            act: PageAct::Nothing,
+            awaited: None,
+        })),
+        Phase::Activate => { update_named(host, alloc, own_registration(host, row), &row.script) }
+    }
 }
 
-/// The work of an addAll.
-pub fn add_all_work(
+// What an update comes to, by the number of the worker, which is there.
+fn update_by(
+    host: &HostTables,
+    alloc: Global,
+    worker: u32,
+    phase: Phase,
+) -> Result<Result<Job, Worked>, NoMemory>
+    requires { is_there worker host.now.workers.rows ≡ true }
+    ensures next { IfOk result (IsNext host.now.queues.rows) }
+    ensures gives { IfOk result (λ job. IfSome (worker_row (state_of host.now) worker) (λ row.
+        pages.Gives (λ state by. calls.update_own state by row phase)
+        (comes_to host.now.queues.rows job) host.now)) }
+{
+    match host.workers.row(worker) {
+        Some(row) => update_own(host, alloc, row, phase),
+        None => unreachable!(),
+    }
+}
+
+// The work of an update.
+fn update_work(
+    host: &mut HostTables,
+    alloc: Global,
+    worker: u32,
+    phase: Phase,
+) -> Result<Work, NoMemory>
+    requires there { is_there worker host.old.workers.rows ≡ true }
+    requires left { has_calls_left worker (state_of host.old) ≡ true }
+    ensures same { SameRows host.old host.new }
+    ensures fits { IfOk result (λ work. FitsWork work host.new) }
+    ensures means { IfOk result (λ work. (by : Who) → is_handler by ≡ true
+        → IfSome (worker_row (state_of host.old) worker) (λ row. Means work host.old
+        (calls.noted (calls.update_own (state_of host.old) by row phase) worker))) }
+{
+    let job = update_by(host, alloc, worker, phase)?;
+    let worked = schedule_asked(host, alloc, job)?;
+    Ok(page_work(worker, worked))
+}
+
+// The work of an addAll.
+fn add_all_work(
     alloc: Global,
     by: Who,
     row: &WorkerRow,
@@ -288,4 +287,48 @@ pub fn add_all_work(
 {
     let step = add_all(alloc, by, &row.script, &of.key, asked, caches, tasks, draws)?;
     Ok(begun_work(row.number, step))
+}
+
+/// The work of the next call of the handler of a worker.
+pub fn call_work(
+    host: &mut HostTables,
+    alloc: Global,
+    worker: u32,
+    phase: Phase,
+    number: u32,
+    call: &Call,
+) -> Result<Work, NoMemory>
+    requires coherent { Coherent (state_of host.old) }
+    requires next { IsSome (calls.make_call (state_of host.old)
+        (maker.Handler worker phase number) call.now) }
+    ensures same { SameRows host.old host.new }
+    ensures works { IfOk result (Works host.old host.new
+        (calls.make_call (state_of host.old) (maker.Handler worker phase number) call.now)) }
+{
+    let Some(row) = host.workers.row(worker) else {
+        unreachable!();
+    };
+    let Some(of) = host.registrations.row(row.registration) else {
+        unreachable!();
+    };
+    match call {
+        Call::SkipWaiting => Ok(skip_work(row)),
+        Call::Claim => Ok(claim_work(row)),
+        Call::Update => update_work(host, alloc, worker, phase),
+        Call::AddAll(asked) => add_all_work(
+            alloc,
+            Who::Handler {
+                worker,
+                phase,
+                call: number,
+            },
+            row,
+            of,
+            asked,
+            &host.caches,
+            &mut host.tasks,
+            &mut host.draws,
+        ),
+        _ => caches_work(alloc, row, of, call, &mut host.caches),
+    }
 }

@@ -16,11 +16,10 @@ ghost use Rattle.sw_worker.specs.Edits.{new_worker};
 ghost use Rattle.sw_worker.specs.Fits.{FitsWorker};
 
 use std::alloc::Global;
-use sw_copy::copy_handlers;
 use sw_data::header::same_name;
 use sw_data::{
     Bytes, Cause, Fault, FetchLine, Fetched, Header, Job, JobRow, NoMemory, SecurityCause, Text,
-    WorkerRow, is_javascript,
+    WorkerRow, copy_handlers, is_javascript,
 };
 use sw_install::FetchOutcome;
 use sw_reg::Registrations;

@@ -7,14 +7,12 @@ mod calls;
 mod fetches;
 mod plan;
 mod runs;
-mod tables;
 
 pub use answers::{
     activate_answer, draw_where, evaluated_answer, fetched_answer, finished_answer,
     installed_answer, ok_answer, ran_answer,
 };
-pub use calls::{add_all_work, caches_work, claim_work, skip_work, update_work};
+pub use calls::call_work;
 pub use fetches::{fetch_ended, fetched_of};
 pub use plan::{Act, Asked, NewFetch, Plan, Reply, Then, Work};
 pub use runs::run_work;
-pub use tables::HostTables;

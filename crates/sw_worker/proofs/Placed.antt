@@ -4,7 +4,7 @@ use Rattle.std.proofs.lemmas.List.{length-append, length-map, length-set, map-ap
 use Rattle.sw_data.specs.declared.rows.HandlerRow.{HandlerRow}
 use Rattle.sw_data.specs.declared.rows.WorkerRow.{WorkerRow}
 use Rattle.sw_rules.specs.Rows.{changed}
-use Rattle.sw_flags.proofs.Placing.{flags_set}
+use Rattle.sw_list.proofs.Placing.{flags_set}
 use Rattle.sw_worker.specs.declared.edit.Edit.{Edit}
 use Rattle.sw_worker.specs.declared.edit.Edit.TheVariants as edit_of
 use Rattle.sw_worker.specs.Edits.{allows, call_counted, edited, task_counted}

@@ -12,8 +12,7 @@ use crate::made::{BeginFault, NewEvent, NewWorker, NoEvent, WrongState};
 use std::alloc::Global;
 use std::marker::Model;
 use sw_data::{Bytes, Handlers, Kind, NoMemory, Phase, Text, WorkerRow, WorkerState};
-use sw_flags::Flags;
-use sw_order::Ordered;
+use sw_list::{Flags, Ordered};
 
 /// The workers in order of making, where a worker's number is its place, and the fetch events that are pending, in order
 /// of beginning.

@@ -5,7 +5,7 @@ use Rattle.sw_rules.specs.State.{State}
 use Rattle.sw_tables.specs.Lent.{lent}
 use Rattle.sw_activate.specs.Counting.{Users, counted, steps_activated, users_in}
 use Rattle.sw_activate.proofs.Activating.{claims_activate}
-use Rattle.sw_activate.proofs.Shown.{all_owned, below, counted_users, counts_begin, counts_len, users_shown}
+use Rattle.sw_activate.proofs.Shown.{all_orderly, below, counted_users, counts_begin, counts_len, users_shown}
 use Rattle.sw_activate.proofs.claiming.activated_by.Goals as goal
 
 pub claim_all-requires-clause-there : goal.claim_all-requires-clause-there
@@ -35,7 +35,7 @@ returns c = λ rest.
     ∙ sym (users_shown c.args.map.now c.args.workers.now c.args.registrations.now c.args.clients.now linked rest q)) i in
     subst (λ (told : List ℕ). IfOk c.claim_all.result (λ numbers. numbers.items ≡ told))
     (ap (λ (now : Users). steps_activated state c.args.worker c.args.registration now (clients_of c.args.clients.now)) users
-    ∙ sym (claims_activate state (all_owned c.args.map.now c.args.workers.now c.args.registrations.now c.args.clients.now linked rest) c.args.worker c.args.registration
+    ∙ sym (claims_activate state (all_orderly c.args.map.now c.args.workers.now c.args.registrations.now c.args.clients.now linked rest) c.args.worker c.args.registration
     (registration_shown c.args.map.now c.args.workers.now c.args.registrations.now c.args.clients.now rest c.args.worker ∙ c.requires.owner)
     c.are_apart.ensures))
     (c.claim_all.ensures rest)

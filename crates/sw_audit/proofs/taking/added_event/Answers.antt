@@ -3,7 +3,7 @@ use Rattle.std.proofs.Common.{◌∙◌, Some, ap}
 use Rattle.sw_audit.proofs.Found.{added_there}
 use Rattle.sw_data.specs.declared.events.Event.{Event}
 use Rattle.sw_rules.specs.Rows.{task_row}
-use Rattle.sw_work.specs.Hosted.{state_of}
+use Rattle.sw_state.specs.Hosted.{state_of}
 use Rattle.sw_audit.proofs.taking.added_event.Goals as goal
 
 pub returns-in_ok-added-in-Some : goal.returns-in_ok-added-in-Some

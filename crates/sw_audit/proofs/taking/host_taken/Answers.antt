@@ -3,7 +3,7 @@ use Rattle.sw_audit.specs.Taking.{IsFound}
 use Rattle.sw_audit.proofs.Found.{host_found}
 use Rattle.sw_audit.specs.declared.marks.Mark.TheVariants as mark
 use Rattle.sw_data.specs.declared.events.Event.{Event}
-use Rattle.sw_work.specs.Hosted.{state_of}
+use Rattle.sw_state.specs.Hosted.{state_of}
 use Rattle.sw_audit.proofs.taking.host_taken.Goals as goal
 
 pub returns-in-Ok : goal.returns-in-Ok

@@ -4,7 +4,7 @@ use Rattle.sw_rules.specs.Batch.{without_matching}
 use Rattle.sw_caches.specs.Entries.{number, pair, pair_digest, pairs}
 use Rattle.sw_caches.specs.Plans.{left_by}
 use Rattle.sw_caches.proofs.BatchLemmas.{left_delete, left_nothing}
-use Rattle.sw_index.proofs.IndexLemmas.{above_more, above_same, drops_more}
+use Rattle.sw_list.proofs.IndexLemmas.{above_more, above_same, drops_more}
 use Rattle.sw_caches.proofs.carry.drop_deleted.Goals as goal
 
 pub loop-query-init : goal.loop-query-init

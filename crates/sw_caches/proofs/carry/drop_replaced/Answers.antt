@@ -5,7 +5,7 @@ use Rattle.sw_rules.specs.Batch.{without_matching}
 use Rattle.sw_caches.specs.Entries.{number, pair, pair_digest, pairs}
 use Rattle.sw_caches.specs.Plans.{left_by}
 use Rattle.sw_caches.proofs.BatchLemmas.{left_put, left_nothing}
-use Rattle.sw_index.proofs.IndexLemmas.{above_more, above_same, drops_more}
+use Rattle.sw_list.proofs.IndexLemmas.{above_more, above_same, drops_more}
 use Rattle.sw_caches.proofs.carry.drop_replaced.Goals as goal
 
 pub loop-entry-init : goal.loop-entry-init

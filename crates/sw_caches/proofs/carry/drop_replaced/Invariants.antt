@@ -1,5 +1,5 @@
 use Rattle.std.proofs.Common.{◌≡◌, ◌≤◌, [], take, vec_len, vec_capacity}
-use Rattle.sw_index.specs.Numbered.{KeepsAbove}
+use Rattle.sw_list.specs.Numbered.{KeepsAbove}
 use Rattle.sw_caches.specs.Bytes.{made_size}
 use Rattle.sw_caches.specs.Entries.{AreIndexed, DropMarks, number, pairs}
 use Rattle.sw_caches.specs.Plans.{left_by}

@@ -5,8 +5,8 @@ use Rattle.sw_caches.specs.Slots.{address_mark}
 use Rattle.sw_caches.specs.Bytes.{made_size}
 use Rattle.sw_caches.specs.Entries.{number, pair, pair_digest, pairs}
 use Rattle.sw_caches.proofs.BytesLemmas.{bytes_removed}
-use Rattle.sw_index.proofs.FindLemmas.{none_reads, found_low}
-use Rattle.sw_index.proofs.IndexLemmas.{thinned_more}
+use Rattle.sw_list.proofs.FindLemmas.{none_reads, found_low}
+use Rattle.sw_list.proofs.IndexLemmas.{thinned_more}
 use Rattle.sw_caches.proofs.entries.drop_matching.Goals.{After-remove-entry}
 use Rattle.sw_caches.proofs.entries.drop_matching.Goals as goal
 

@@ -1,6 +1,6 @@
 use Rattle.std.proofs.Common.{◌≡◌, ◌≤◌, vec_len, vec_capacity}
 use Rattle.sw_rules.specs.Matching.{matches_pair}
-use Rattle.sw_index.specs.Numbered.{IsThinned}
+use Rattle.sw_list.specs.Numbered.{IsThinned}
 use Rattle.sw_caches.specs.Bytes.{made_size}
 use Rattle.sw_caches.specs.Entries.{number, pair, pair_digest, pairs}
 use Rattle.sw_caches.proofs.entries.drop_matching.Given as goal

@@ -1,11 +1,11 @@
 use Rattle.std.proofs.Common.{subst}
 use Rattle.std.specs.Prelude.{◌^◌}
 use Rattle.sw_rules.specs.Matching.{matches_pair}
-use Rattle.sw_index.specs.Slots.{NoneBetween}
+use Rattle.sw_list.specs.Marks.{NoneBetween}
 use Rattle.sw_caches.specs.Slots.{address_digest}
 use Rattle.sw_caches.specs.Entries.{number, pair, pair_digest}
 use Rattle.sw_caches.proofs.PairLemmas.{same_digest}
-use Rattle.sw_index.proofs.IndexLemmas.{step, first_found, first_none}
+use Rattle.sw_list.proofs.IndexLemmas.{step, first_found, first_none}
 use Rattle.sw_caches.proofs.entries.first_matching.Goals as goal
 
 pub returns-in-Some-hit : goal.returns-in-Some-hit

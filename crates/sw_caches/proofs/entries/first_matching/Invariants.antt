@@ -1,6 +1,6 @@
 use Rattle.std.proofs.Common.{◌-◌, ◌^◌}
 use Rattle.sw_rules.specs.Matching.{matches_pair}
-use Rattle.sw_index.specs.Numbered.{MatchOnlyAbove}
+use Rattle.sw_list.specs.Numbered.{MatchOnlyAbove}
 use Rattle.sw_caches.specs.Entries.{number, pair}
 use Rattle.sw_caches.proofs.entries.first_matching.Given as goal
 

@@ -2,7 +2,7 @@ use Rattle.std.proofs.Common.{ap, ◌∙◌, sym}
 use Rattle.std.proofs.lemmas.List.{get_or_default}
 use Rattle.sw_rules.specs.Matching.{matches_pair}
 use Rattle.sw_caches.specs.Entries.{number, pair}
-use Rattle.sw_index.proofs.FindLemmas.{none_of}
+use Rattle.sw_list.proofs.FindLemmas.{none_of}
 use Rattle.sw_caches.proofs.entries.hit.Goals as goal
 
 pub returns-else-matches_pair : goal.returns-else-matches_pair

@@ -1,7 +1,7 @@
 use Rattle.std.proofs.Common.{subst, ◌∙◌}
 use Rattle.std.specs.Prelude.{◌^◌}
 use Rattle.sw_rules.specs.Matching.{matches_pair}
-use Rattle.sw_index.specs.Slots.{NoneBetween}
+use Rattle.sw_list.specs.Marks.{NoneBetween}
 use Rattle.sw_caches.specs.Slots.{address_digest}
 use Rattle.sw_caches.specs.Entries.{number, pair, pair_digest}
 use Rattle.sw_caches.proofs.PairLemmas.{same_digest}

@@ -2,7 +2,7 @@ use Rattle.std.proofs.Common.{arith, rules, ltb, ap, ◌∙◌}
 use Rattle.std.proofs.lemmas.List.{get_or_default}
 use Rattle.std.proofs.lemmas.List.Sorted.{IsPartitionPoint-from_clause}
 use Rattle.sw_caches.specs.Entries.{number, pair}
-use Rattle.sw_index.proofs.FindLemmas.{absent, parted}
+use Rattle.sw_list.proofs.FindLemmas.{absent, parted}
 use Rattle.sw_caches.proofs.entries.place_of.Goals as goal
 use Rattle.sw_caches.proofs.entries.place_of.Goals.{else-place-entries-via-then-place-entries+else-entries-place, else-place-entries-via-else-place-entries}
 

@@ -1,5 +1,5 @@
 use Rattle.std.proofs.Common.{subst, sym}
-use Rattle.sw_index.specs.Slots.{KeepsBelow}
+use Rattle.sw_list.specs.Marks.{KeepsBelow}
 use Rattle.sw_caches.proofs.PlanLemmas.{alone}
 use Rattle.sw_caches.proofs.plan.add_all.Goals as goal
 

@@ -1,7 +1,7 @@
 use Rattle.std.proofs.Common.{◌≡◌, ◌++◌, length}
 use Rattle.std.specs.Vec.Iter.{into_iter_items, into_iter_len}
 use Rattle.sw_caches.specs.Entries.{pairs}
-use Rattle.sw_index.specs.Slots.{KeepsBelow}
+use Rattle.sw_list.specs.Marks.{KeepsBelow}
 use Rattle.sw_caches.specs.Plans.{IsDraft}
 use Rattle.sw_caches.proofs.plan.add_all.Given as goal
 

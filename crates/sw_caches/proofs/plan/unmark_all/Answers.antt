@@ -1,6 +1,6 @@
 use Rattle.std.proofs.Common.{◌≡◌, ◌≤◌, ◌∙◌, ap, arith, subst, sym}
-use Rattle.sw_index.specs.declared.slots.Mark.{Mark}
-use Rattle.sw_index.specs.Numbered.{mark_of}
+use Rattle.sw_list.specs.declared.marks.Mark.{Mark}
+use Rattle.sw_list.specs.Numbered.{mark_of}
 use Rattle.sw_caches.specs.declared.entry.Entry.{Entry}
 use Rattle.sw_caches.specs.Slots.{address_mark}
 use Rattle.sw_caches.specs.Entries.{number, pair, pair_digest}

@@ -1,6 +1,6 @@
 use Rattle.std.proofs.Common.{ℕ, take}
-use Rattle.sw_index.specs.Slots.{HasLost, KeepsBelow, KeepsSlots}
-use Rattle.sw_index.specs.Numbered.{AllFrom}
+use Rattle.sw_list.specs.Marks.{HasLost, KeepsBelow, KeepsSlots}
+use Rattle.sw_list.specs.Numbered.{AllFrom}
 use Rattle.sw_caches.specs.Entries.{marks, number}
 use Rattle.sw_caches.proofs.plan.unmark_all.Given as goal
 

@@ -2,7 +2,7 @@ use Rattle.std.proofs.Common.{◌≡◌, ◌++◌, [], List, length}
 use Rattle.std.specs.Vec.Iter.{into_iter_items, into_iter_len}
 use Rattle.sw_rules.specs.Matching.{Pair}
 use Rattle.sw_rules.specs.Batch.{go}
-use Rattle.sw_index.specs.Slots.{KeepsBelow}
+use Rattle.sw_list.specs.Marks.{KeepsBelow}
 use Rattle.sw_caches.specs.Entries.{pairs}
 use Rattle.sw_caches.specs.Plans.{IsDraft, left_by}
 use Rattle.sw_caches.proofs.plan.work_out.Given as goal

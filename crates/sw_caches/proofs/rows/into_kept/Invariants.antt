@@ -1,6 +1,6 @@
 use Rattle.std.proofs.Common.{◌≡◌, ◌++◌, length, map}
 use Rattle.std.specs.Vec.Iter.{into_iter_items, into_iter_len}
-use Rattle.sw_index.specs.Named.{named_rows}
+use Rattle.sw_list.specs.Named.{named_rows}
 use Rattle.sw_caches.specs.Tables.{kept_row}
 use Rattle.sw_caches.proofs.rows.into_kept.Given as goal
 

@@ -1,5 +1,5 @@
 use Rattle.std.proofs.Common.{◌≡◌, ◌+◌, ap, arith, map}
-use Rattle.sw_index.specs.Named.{named_row}
+use Rattle.sw_list.specs.Named.{named_row}
 use Rattle.sw_rules.specs.Storage.{is_cache}
 use Rattle.sw_caches.specs.Bytes.{bytes_of}
 use Rattle.sw_caches.specs.Tables.{IsNextBy, kept_row}

@@ -1,7 +1,7 @@
 use Rattle.std.proofs.Common.{◌≡◌, Bool, [], subst}
 use Rattle.std.specs.Prelude.{MatchOption}
 use Rattle.sw_data.specs.declared.storage.KeptCache.{KeptCache}
-use Rattle.sw_index.specs.Named.{named_row}
+use Rattle.sw_list.specs.Named.{named_row}
 use Rattle.sw_caches.specs.Tables.{IsNextBy, kept_row, passing_from}
 use Rattle.sw_caches.proofs.WalkLemmas.{asked_key}
 use Rattle.sw_caches.proofs.rows.next_asked.Goals as goal

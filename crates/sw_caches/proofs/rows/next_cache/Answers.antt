@@ -1,5 +1,5 @@
 use Rattle.std.specs.Prelude.{bytes_eq}
-use Rattle.sw_index.specs.Named.{named_row}
+use Rattle.sw_list.specs.Named.{named_row}
 use Rattle.sw_caches.proofs.WalkLemmas.{next_reads, none_reads}
 use Rattle.sw_caches.proofs.rows.next_cache.Goals as goal
 

@@ -1,4 +1,4 @@
-use Rattle.sw_index.specs.Named.{named_row}
+use Rattle.sw_list.specs.Named.{named_row}
 use Rattle.sw_rules.specs.Storage.{is_cache}
 use Rattle.sw_caches.proofs.WalkLemmas.{next_reads, none_reads}
 use Rattle.sw_caches.proofs.rows.next_named.Goals as goal

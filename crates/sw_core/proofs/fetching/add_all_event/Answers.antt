@@ -1,5 +1,5 @@
 use Rattle.sw_core.proofs.FetchLemmas.{add_all_comes_on}
-use Rattle.sw_work.specs.Hosted.{state_of}
+use Rattle.sw_state.specs.Hosted.{state_of}
 use Rattle.sw_core.proofs.fetching.add_all_event.Goals as goal
 
 pub returns : goal.returns

@@ -2,7 +2,7 @@
 use Rattle.std.proofs.Common.{◌∙◌, ap, map}
 use Rattle.sw_core.specs.Machines.{line_for}
 use Rattle.sw_core.proofs.FetchLemmas.{added_is}
-use Rattle.sw_work.specs.Hosted.{state_of}
+use Rattle.sw_state.specs.Hosted.{state_of}
 use Rattle.sw_core.proofs.fetching.added.Goals as goal
 
 pub returns : goal.returns

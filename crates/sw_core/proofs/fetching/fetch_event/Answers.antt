@@ -1,5 +1,5 @@
 use Rattle.sw_core.proofs.FetchLemmas.{fetch_comes_on}
-use Rattle.sw_work.specs.Hosted.{state_of}
+use Rattle.sw_state.specs.Hosted.{state_of}
 use Rattle.sw_core.proofs.fetching.fetch_event.Goals as goal
 
 pub returns : goal.returns

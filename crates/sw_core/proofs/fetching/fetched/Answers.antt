@@ -3,7 +3,7 @@ use Rattle.std.proofs.Common.{◌∙◌, List, ℕ, ap, slice_get}
 use Rattle.std.specs.Prelude.{option_and_then}
 use Rattle.sw_core.specs.Machines.{line_for}
 use Rattle.sw_core.proofs.FetchLemmas.{fetched_is}
-use Rattle.sw_work.specs.Hosted.{state_of}
+use Rattle.sw_state.specs.Hosted.{state_of}
 use Rattle.sw_core.proofs.fetching.fetched.Goals as goal
 
 pub returns : goal.returns

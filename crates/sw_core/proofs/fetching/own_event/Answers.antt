@@ -4,7 +4,7 @@ use Rattle.std.specs.Option.{IfSome}
 use Rattle.sw_data.specs.declared.events.Event.{Event}
 use Rattle.sw_data.specs.declared.recordings.Recording.{Recording}
 use Rattle.sw_rules.specs.Tasks.{event_of}
-use Rattle.sw_work.specs.Hosted.{state_of}
+use Rattle.sw_state.specs.Hosted.{state_of}
 use Rattle.sw_core.proofs.fetching.own_event.Goals as goal
 
 pub returns-in-Some : goal.returns-in-Some

@@ -1,7 +1,7 @@
 use Rattle.std.proofs.Common.{◌≡◌, subst}
-use Rattle.sw_work.specs.contracts.tables.HostTables.{the_view}
+use Rattle.sw_state.specs.contracts.tables.HostTables.{the_view}
 use Rattle.sw_rules.specs.Clients.{add_client}
-use Rattle.sw_work.specs.Hosted.{Hosted, rest_of, state_of}
+use Rattle.sw_state.specs.Hosted.{Hosted, rest_of, state_of}
 use Rattle.sw_finish.proofs.acts.add_client.Goals as goal
 
 pub returns-clause-state : goal.returns-clause-state

@@ -1,8 +1,8 @@
 use Rattle.std.proofs.Common.{◌≡◌, sym, subst, true}
 use Rattle.sw_finish.proofs.Doing.{event_added, event_joined}
-use Rattle.sw_work.specs.contracts.tables.HostTables.{the_view}
+use Rattle.sw_state.specs.contracts.tables.HostTables.{the_view}
 use Rattle.sw_rules.specs.Clients.{add_event}
-use Rattle.sw_work.specs.Hosted.{Hosted, state_of}
+use Rattle.sw_state.specs.Hosted.{Hosted, state_of}
 use Rattle.sw_worker.specs.Table.{has_worker, is_activated}
 use Rattle.sw_finish.proofs.acts.begin_event.Goals as goal
 

@@ -11,8 +11,8 @@ use Rattle.sw_tables.specs.Lent.{lent}
 use Rattle.sw_worker.specs.Table.{worker_at}
 use Rattle.sw_work.proofs.Working.{if_some_map}
 use Rattle.sw_finish.proofs.Doing.{of_claimant, with_same_jobs, with_tables}
-use Rattle.sw_work.specs.contracts.tables.HostTables.{the_view}
-use Rattle.sw_work.specs.Hosted.{Hosted, rest_of, state_of}
+use Rattle.sw_state.specs.contracts.tables.HostTables.{the_view}
+use Rattle.sw_state.specs.Hosted.{Hosted, rest_of, state_of}
 use Rattle.sw_finish.proofs.acts.claim.Goals as goal
 
 -- a claim by a worker of a registration, where it is active

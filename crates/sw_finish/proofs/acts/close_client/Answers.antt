@@ -5,8 +5,8 @@ use Rattle.sw_rules.specs.Registrations.{unload}
 use Rattle.sw_tables.proofs.Chain.{did_then, did_quietly}
 use Rattle.sw_tables.specs.Lent.{lent}
 use Rattle.sw_finish.proofs.Doing.{with_same_jobs, with_tables}
-use Rattle.sw_work.specs.contracts.tables.HostTables.{the_view}
-use Rattle.sw_work.specs.Hosted.{Hosted, rest_of, state_of}
+use Rattle.sw_state.specs.contracts.tables.HostTables.{the_view}
+use Rattle.sw_state.specs.Hosted.{Hosted, rest_of, state_of}
 use Rattle.sw_finish.proofs.acts.close_client.Goals as goal
 
 pub returns-clause-did : goal.returns-clause-did

@@ -2,7 +2,7 @@ use Rattle.std.proofs.Common.{refl, sym, subst}
 use Rattle.sw_rules.specs.Noticing.{Did}
 use Rattle.sw_rules.specs.Preloading.{set_preload}
 use Rattle.sw_tables.proofs.Chain.{did_quietly}
-use Rattle.sw_work.specs.Hosted.{state_of}
+use Rattle.sw_state.specs.Hosted.{state_of}
 use Rattle.sw_work.specs.Plans.{told_by_act, told_by_caches}
 use Rattle.sw_work.specs.declared.plan.Act.{Act}
 use Rattle.sw_finish.proofs.acts.do_act.Goals as goal

@@ -1,8 +1,8 @@
 use Rattle.std.proofs.Common.{refl, sym, subst}
 use Rattle.sw_cachestorage.specs.Added.{IsAdded}
 use Rattle.sw_finish.proofs.Settling.{added_goes, unsettled_counted}
-use Rattle.sw_work.specs.contracts.tables.HostTables.{the_view}
-use Rattle.sw_work.specs.Hosted.{Hosted, rest_of, state_of}
+use Rattle.sw_state.specs.contracts.tables.HostTables.{the_view}
+use Rattle.sw_state.specs.Hosted.{Hosted, rest_of, state_of}
 use Rattle.sw_work.specs.Plans.{FitsAdded}
 use Rattle.sw_finish.proofs.acts.do_added.Goals as goal
 

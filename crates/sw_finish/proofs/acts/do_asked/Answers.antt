@@ -1,6 +1,6 @@
 use Rattle.std.proofs.Common.{refl}
 use Rattle.sw_finish.proofs.Doing.{then_later}
-use Rattle.sw_work.specs.Hosted.{state_of}
+use Rattle.sw_state.specs.Hosted.{state_of}
 use Rattle.sw_work.specs.Plans.{told_by_act}
 use Rattle.sw_finish.proofs.acts.do_asked.Goals as goal
 

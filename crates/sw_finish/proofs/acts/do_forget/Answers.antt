@@ -2,8 +2,8 @@ use Rattle.std.proofs.Common.{sym, subst}
 use Rattle.sw_cachestorage.specs.Forgetting.{AreQuiet}
 use Rattle.sw_rules.specs.Forgetting.{forget_key}
 use Rattle.sw_rules.specs.Noticing.{Did}
-use Rattle.sw_work.specs.contracts.tables.HostTables.{the_view}
-use Rattle.sw_work.specs.Hosted.{Hosted, rest_of, state_of}
+use Rattle.sw_state.specs.contracts.tables.HostTables.{the_view}
+use Rattle.sw_state.specs.Hosted.{Hosted, rest_of, state_of}
 use Rattle.sw_finish.proofs.acts.do_forget.Goals as goal
 
 pub forget-requires-clause-quiet : goal.forget-requires-clause-quiet

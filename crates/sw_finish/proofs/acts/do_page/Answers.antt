@@ -5,7 +5,7 @@ use Rattle.sw_rules.specs.Clients.{add_client, add_event}
 use Rattle.sw_rules.specs.Jobs.{schedule}
 use Rattle.sw_rules.specs.Noticing.{Did}
 use Rattle.sw_tables.proofs.Chain.{did_quietly}
-use Rattle.sw_work.specs.Hosted.{state_of}
+use Rattle.sw_state.specs.Hosted.{state_of}
 use Rattle.sw_finish.proofs.acts.do_page.Goals as goal
 
 pub returns-in-Open-clause-did : goal.returns-in-Open-clause-did

@@ -1,7 +1,7 @@
 use Rattle.std.proofs.Common.{sym, subst}
 use Rattle.sw_finish.proofs.Doing.{call_follows, promise_follows}
 use Rattle.sw_rules.specs.Noticing.{Did}
-use Rattle.sw_work.specs.Hosted.{state_of}
+use Rattle.sw_state.specs.Hosted.{state_of}
 use Rattle.sw_work.specs.Plans.{told_then}
 use Rattle.sw_work.specs.declared.plan.Then.{Then}
 use Rattle.sw_finish.proofs.acts.follow.Goals as goal

@@ -1,8 +1,8 @@
 use Rattle.std.proofs.Common.{◌≡◌, subst}
 use Rattle.sw_finish.proofs.Preload.{preload_set}
-use Rattle.sw_work.specs.contracts.tables.HostTables.{the_view}
+use Rattle.sw_state.specs.contracts.tables.HostTables.{the_view}
 use Rattle.sw_rules.specs.Preloading.{set_preload}
-use Rattle.sw_work.specs.Hosted.{Hosted, state_of}
+use Rattle.sw_state.specs.Hosted.{Hosted, state_of}
 use Rattle.sw_finish.proofs.acts.set_preload.Goals as goal
 
 pub returns-clause-state : goal.returns-clause-state

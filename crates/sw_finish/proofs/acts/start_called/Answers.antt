@@ -1,10 +1,10 @@
 use Rattle.std.proofs.Common.{◌≡◌, ◌∙◌, true, refl, sym, subst, ap}
 use Rattle.sw_finish.proofs.Doing.{left_in}
 use Rattle.sw_finish.proofs.Starting.{counts_of_call, started, started_tasks}
-use Rattle.sw_work.specs.contracts.tables.HostTables.{the_view}
+use Rattle.sw_state.specs.contracts.tables.HostTables.{the_view}
 use Rattle.sw_rules.specs.Calls as calls
 use Rattle.sw_rules.specs.State.{State}
-use Rattle.sw_work.specs.Hosted.{Hosted, rest_of, state_of}
+use Rattle.sw_state.specs.Hosted.{Hosted, rest_of, state_of}
 use Rattle.sw_work.specs.Plans.{has_calls_left, told_by_start}
 use Rattle.sw_finish.proofs.acts.start_called.Goals as goal
 

@@ -3,7 +3,7 @@ use Rattle.sw_finish.proofs.Doing.{call_follows, promise_follows}
 use Rattle.sw_rules.specs.Caching.{add_task}
 use Rattle.sw_rules.specs.Noticing.{Did}
 use Rattle.sw_tables.proofs.Chain.{did_quietly}
-use Rattle.sw_work.specs.Hosted.{state_of}
+use Rattle.sw_state.specs.Hosted.{state_of}
 use Rattle.sw_work.specs.Plans.{told_by_start, told_then}
 use Rattle.sw_work.specs.declared.plan.Then.{Then}
 use Rattle.sw_finish.proofs.acts.start_then.Goals as goal

@@ -2,7 +2,7 @@ use Rattle.std.proofs.Common.{Option, subst}
 use Rattle.sw_finish.proofs.Going.{agree_goes}
 use Rattle.sw_rules.specs.Told.{Outcome}
 use Rattle.sw_tables.specs.Happened.{Happened}
-use Rattle.sw_work.specs.Hosted.{state_of}
+use Rattle.sw_state.specs.Hosted.{state_of}
 use Rattle.sw_work.specs.Plans.{Means, started_outcome}
 use Rattle.sw_work.specs.declared.plan.Work.{Work}
 use Rattle.sw_finish.proofs.finishing.carry_out.Goals as goal

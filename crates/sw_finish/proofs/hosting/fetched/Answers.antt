@@ -1,13 +1,13 @@
 use Rattle.std.proofs.Common.{Option, sym, subst}
 use Rattle.sw_finish.proofs.Doing.{with_tables}
-use Rattle.sw_work.specs.contracts.tables.HostTables.{the_view}
+use Rattle.sw_state.specs.contracts.tables.HostTables.{the_view}
 use Rattle.sw_data.specs.declared.answers.Answer.{Answer}
 use Rattle.sw_install.specs.Fetches.{ComesTo}
 use Rattle.sw_laws.specs.Coherent.{Coherent}
 use Rattle.sw_rules.specs.Installing as rules
 use Rattle.sw_tables.specs.Happened.{Happened}
 use Rattle.sw_work.proofs.Coherence.{under_way}
-use Rattle.sw_work.specs.Hosted.{Hosted, rest_of, state_of}
+use Rattle.sw_state.specs.Hosted.{Hosted, rest_of, state_of}
 use Rattle.sw_finish.proofs.hosting.fetched.Goals as goal
 
 pub fetched-done-requires-clause-goes : goal.fetched-done-requires-clause-goes

@@ -1,7 +1,7 @@
 use Rattle.std.proofs.Common.{◌≡◌, ◌∙◌, length, sym, subst, ap}
 use Rattle.sw_finish.proofs.FirstPreload.{at_others, same_but}
-use Rattle.sw_work.specs.contracts.tables.HostTables.{the_view}
-use Rattle.sw_work.specs.Hosted.{Hosted, state_of}
+use Rattle.sw_state.specs.contracts.tables.HostTables.{the_view}
+use Rattle.sw_state.specs.Hosted.{Hosted, state_of}
 use Rattle.sw_finish.proofs.hosting.first_preload.Goals as goal
 
 pub returns-clause-state : goal.returns-clause-state

@@ -1,12 +1,12 @@
 use Rattle.std.proofs.Common.{Option, sym, subst}
 use Rattle.sw_finish.proofs.Doing.{with_tables}
-use Rattle.sw_work.specs.contracts.tables.HostTables.{the_view}
+use Rattle.sw_state.specs.contracts.tables.HostTables.{the_view}
 use Rattle.sw_data.specs.declared.answers.Answer.{Answer}
 use Rattle.sw_laws.specs.Coherent.{Coherent}
 use Rattle.sw_rules.specs.Installing as rules
 use Rattle.sw_tables.specs.Happened.{Happened}
 use Rattle.sw_work.proofs.Coherence.{under_way}
-use Rattle.sw_work.specs.Hosted.{Hosted, rest_of, state_of}
+use Rattle.sw_state.specs.Hosted.{Hosted, rest_of, state_of}
 use Rattle.sw_finish.proofs.hosting.installed.Goals as goal
 
 pub installed-done-requires-clause-goes : goal.installed-done-requires-clause-goes

@@ -1,10 +1,10 @@
 use Rattle.std.proofs.Common.{Option, sym, subst}
 use Rattle.sw_finish.proofs.Doing.{with_tables}
-use Rattle.sw_work.specs.contracts.tables.HostTables.{the_view}
+use Rattle.sw_state.specs.contracts.tables.HostTables.{the_view}
 use Rattle.sw_data.specs.declared.answers.Answer.{Answer}
 use Rattle.sw_rules.specs.Registering as rules
 use Rattle.sw_tables.specs.Happened.{Happened}
-use Rattle.sw_work.specs.Hosted.{Hosted, rest_of, state_of}
+use Rattle.sw_state.specs.Hosted.{Hosted, rest_of, state_of}
 use Rattle.sw_finish.proofs.hosting.run_unregister.Goals as goal
 
 pub returns : goal.returns

@@ -1,11 +1,11 @@
 use Rattle.std.proofs.Common.{◌≡◌, Option, refl, sym, subst}
-use Rattle.sw_work.specs.contracts.tables.HostTables.{the_view}
+use Rattle.sw_state.specs.contracts.tables.HostTables.{the_view}
 use Rattle.sw_data.specs.declared.answers.Answer.{Answer}
 use Rattle.sw_install.specs.Runs.{drawn_by, ran_answer, script_of}
 use Rattle.sw_rules.specs.Registering as rules
 use Rattle.sw_tables.specs.Happened.{Happened, with_jobs}
 use Rattle.sw_tables.specs.Lent.{Rest, lent}
-use Rattle.sw_work.specs.Hosted.{Hosted, rest_of, state_of}
+use Rattle.sw_state.specs.Hosted.{Hosted, rest_of, state_of}
 use Rattle.sw_work.specs.Plans.{FitsUpdate}
 use Rattle.sw_finish.proofs.hosting.run_update.Goals as goal
 

@@ -1,11 +1,15 @@
 use Rattle.std.proofs.Common.{◌∙◌, ℕ, List, Option, is_none, refl, ap}
 use Rattle.sw_data.specs.declared.rows.JobPhase.TheVariants as job_phase
 use Rattle.sw_data.specs.declared.rows.JobRow.{JobRow}
+use Rattle.sw_data.specs.declared.workers.Phase.TheVariants as phase
+use Rattle.sw_data.specs.declared.workers.WorkerState.TheVariants as worker_state
 use Rattle.sw_install.proofs.Standing.{queued_stays}
 use Rattle.sw_queue.specs.Tables.{has_job}
 use Rattle.sw_rules.specs.Installing as rules
-use Rattle.sw_rules.specs.Rows.{changed, is_job, is_worker}
+use Rattle.sw_rules.specs.Registrations.{become, start_handler}
+use Rattle.sw_rules.specs.Rows.{changed, is_job}
 use Rattle.sw_rules.specs.State.{State}
+use Rattle.sw_rules.specs.Told.{followed}
 use Rattle.sw_tables.specs.Happened.{with_jobs}
 use Rattle.sw_tables.specs.Lent.{lent}
 use Rattle.sw_install.proofs.evaluation.begin_install.Goals as goal
@@ -15,7 +19,7 @@ begun : Option ℕ → JobRow → JobRow
 begun remembered row = record row { phase = job_phase.Installing; remembered = remembered }
 
 pub returns-clause-did : goal.returns-clause-did
-unfolding rules.begin_install begun
+unfolding rules.begin_install rules.remember become start_handler followed begun
 returns-clause-did c = λ scopes of_clients rest.
     let state : List JobRow → State = λ jobs.
     lent scopes c.args.workers.now c.args.registrations.now of_clients (with_jobs jobs rest) in
@@ -26,7 +30,7 @@ returns-clause-did c = λ scopes of_clients rest.
     record {
       state =
           c.to_installing.ensures.state scopes of_clients (with_jobs c.note_install.new.queues.rows rest)
-          ∙ ap (λ (rows : List JobRow). record (state rows) { workers = changed (is_worker c.args.worker) rules.installing (state rows).workers }) jobs;
+          ∙ ap (λ (rows : List JobRow). (start_handler (become (state rows) c.args.worker worker_state.Installing).state c.args.worker phase.Install).state) jobs;
       notices = c.push.ensures.rows;
     }
 

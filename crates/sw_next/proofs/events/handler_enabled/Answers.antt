@@ -1,7 +1,7 @@
 use Rattle.std.proofs.Common.{◌∙◌, ap}
 use Rattle.std.specs.Prelude.{is_some}
 use Rattle.sw_next.proofs.Enabling.{call_comes}
-use Rattle.sw_work.specs.Hosted.{state_of}
+use Rattle.sw_state.specs.Hosted.{state_of}
 use Rattle.sw_data.specs.declared.events.Who.TheVariants as maker
 use Rattle.sw_next.proofs.events.handler_enabled.Goals as goal
 

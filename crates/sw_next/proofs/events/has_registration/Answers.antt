@@ -2,8 +2,8 @@ use Rattle.std.proofs.Common.{◌≡◌, is_some, arith, subst}
 use Rattle.std.specs.Option.{option_copied}
 use Rattle.std.proofs.lemmas.Grind.{common_steps}
 use Rattle.sw_next.proofs.Enabling.{registration_there}
-use Rattle.sw_work.specs.contracts.tables.HostTables.{the_view}
-use Rattle.sw_work.specs.Hosted.{Hosted, state_of}
+use Rattle.sw_state.specs.contracts.tables.HostTables.{the_view}
+use Rattle.sw_state.specs.Hosted.{Hosted, state_of}
 use Rattle.sw_rules.specs.Rows.{registration_row}
 use Rattle.sw_next.proofs.events.has_registration.Goals as goal
 

@@ -2,7 +2,7 @@ use Rattle.std.proofs.Common.{◌∙◌, sym, ap}
 use Rattle.std.specs.Prelude.{is_some}
 use Rattle.sw_next.proofs.Enabling.{activated_where, added_where, tried_where}
 use Rattle.sw_work.proofs.Others.{activated_comes, added_comes, evaluated_comes, fetched_comes, forgets_comes, installed_comes, run_comes, tries_comes}
-use Rattle.sw_work.specs.Hosted.{state_of}
+use Rattle.sw_state.specs.Hosted.{state_of}
 use Rattle.sw_next.proofs.events.host_enabled.Goals as goal
 
 pub returns-in-Run : goal.returns-in-Run

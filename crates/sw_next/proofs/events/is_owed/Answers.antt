@@ -1,8 +1,8 @@
 use Rattle.std.proofs.Common.{◌≡◌, ◌∙◌, false, Some, None, sym, ap, subst}
 use Rattle.std.specs.Option.{option_copied}
 use Rattle.sw_next.proofs.Enabling.{owed_shown}
-use Rattle.sw_work.specs.contracts.tables.HostTables.{the_view}
-use Rattle.sw_work.specs.Hosted.{Hosted, state_of}
+use Rattle.sw_state.specs.contracts.tables.HostTables.{the_view}
+use Rattle.sw_state.specs.Hosted.{Hosted, state_of}
 use Rattle.sw_rules.specs.Activating as activating
 use Rattle.sw_next.proofs.events.is_owed.Goals as goal
 

@@ -1,5 +1,5 @@
 use Rattle.sw_next.proofs.Enabling.{awaited_where, begun_where}
-use Rattle.sw_work.specs.Hosted.{state_of}
+use Rattle.sw_state.specs.Hosted.{state_of}
 use Rattle.sw_next.proofs.events.lane_enabled.Goals as goal
 
 pub returns-in-Await : goal.returns-in-Await

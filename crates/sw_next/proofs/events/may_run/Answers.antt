@@ -1,7 +1,7 @@
 use Rattle.std.proofs.Common.{◌≡◌, ◌∙◌, is_some, subst}
 use Rattle.sw_next.proofs.Enabling.{runs_where}
-use Rattle.sw_work.specs.contracts.tables.HostTables.{the_view}
-use Rattle.sw_work.specs.Hosted.{Hosted, state_of}
+use Rattle.sw_state.specs.contracts.tables.HostTables.{the_view}
+use Rattle.sw_state.specs.Hosted.{Hosted, state_of}
 use Rattle.sw_rules.specs.Registering as registering
 use Rattle.sw_next.proofs.events.may_run.Goals as goal
 

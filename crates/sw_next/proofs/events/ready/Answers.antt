@@ -1,6 +1,6 @@
 use Rattle.std.proofs.Common.{◌∙◌, subst}
 use Rattle.sw_next.proofs.Readied.{activate_ready, evaluate_ready, fetch_all_ready, fetch_ready, install_ready, run_ready, try_ready}
-use Rattle.sw_work.specs.Hosted.{Hosted, IsJoined, state_of}
+use Rattle.sw_state.specs.Hosted.{Hosted, IsJoined, state_of}
 use Rattle.sw_data.specs.declared.rows.JobRow.{JobRow}
 use Rattle.sw_rules.specs.State.{AddAll}
 use Rattle.sw_tables.specs.Linked.{ArePlaces}

@@ -1,6 +1,6 @@
 use Rattle.std.proofs.Common.{◌≡◌, refl, subst}
-use Rattle.sw_work.specs.contracts.tables.HostTables.{the_view}
-use Rattle.sw_work.specs.Hosted.{Hosted, rest_of, state_of}
+use Rattle.sw_state.specs.contracts.tables.HostTables.{the_view}
+use Rattle.sw_state.specs.Hosted.{Hosted, rest_of, state_of}
 use Rattle.sw_rules.specs.Forgetting.{is_busy}
 use Rattle.sw_next.proofs.keys.busy.Goals as goal
 

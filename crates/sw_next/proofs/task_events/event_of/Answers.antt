@@ -2,7 +2,7 @@ use Rattle.std.proofs.Common.{subst}
 use Rattle.sw_next.proofs.TaskEvents.{happens, happens_some}
 use Rattle.sw_data.specs.declared.rows.JobRow.{JobRow}
 use Rattle.sw_tables.specs.Linked.{ArePlaces}
-use Rattle.sw_work.specs.Hosted.{Hosted}
+use Rattle.sw_state.specs.Hosted.{Hosted}
 use Rattle.sw_next.proofs.task_events.event_of.Goals as goal
 
 pub returns-clause-none : goal.returns-clause-none

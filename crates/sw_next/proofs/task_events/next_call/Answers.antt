@@ -4,8 +4,8 @@ use Rattle.sw_next.proofs.TaskEvents.{next_shown}
 use Rattle.sw_rules.specs.Installing.{calls_of}
 use Rattle.sw_rules.specs.Tasks.{next_call}
 use Rattle.sw_tables.specs.Lent.{shown_handler, shown_worker}
-use Rattle.sw_work.specs.contracts.tables.HostTables.{the_view}
-use Rattle.sw_work.specs.Hosted.{Hosted, state_of}
+use Rattle.sw_state.specs.contracts.tables.HostTables.{the_view}
+use Rattle.sw_state.specs.Hosted.{Hosted, state_of}
 use Rattle.sw_worker.specs.Table.{worker_at}
 use Rattle.sw_next.proofs.task_events.next_call.Goals as goal
 

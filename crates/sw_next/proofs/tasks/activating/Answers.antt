@@ -6,7 +6,7 @@ use Rattle.sw_data.specs.declared.histories.Task.TheVariants as task
 use Rattle.sw_data.specs.declared.rows.WorkerRow.{WorkerRow}
 use Rattle.sw_rules.specs.Tasks.{may_activate}
 use Rattle.sw_tables.specs.Lent.{shown_worker}
-use Rattle.sw_work.specs.Hosted.{state_of}
+use Rattle.sw_state.specs.Hosted.{state_of}
 use Rattle.sw_next.proofs.tasks.activating.Goals as goal
 
 pub returns-then-may_activate : goal.returns-then-may_activate

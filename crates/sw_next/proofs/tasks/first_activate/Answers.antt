@@ -4,7 +4,7 @@ use Rattle.sw_next.proofs.FirstReady.{first_activate}
 use Rattle.sw_next.specs.Free.{activates}
 use Rattle.sw_data.specs.declared.histories.Task.TheVariants as task
 use Rattle.sw_data.specs.declared.rows.WorkerRow.{WorkerRow}
-use Rattle.sw_work.specs.Hosted.{Hosted, IsJoined, state_of}
+use Rattle.sw_state.specs.Hosted.{Hosted, IsJoined, state_of}
 use Rattle.sw_next.proofs.tasks.first_activate.Goals as goal
 
 pub returns : goal.returns

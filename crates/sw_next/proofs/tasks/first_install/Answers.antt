@@ -3,7 +3,7 @@ use Rattle.sw_next.proofs.FirstReady.{first_install}
 use Rattle.sw_data.specs.declared.histories.Task.TheVariants as task
 use Rattle.sw_data.specs.declared.rows.JobRow.{JobRow}
 use Rattle.sw_rules.specs.Tasks.{may_install}
-use Rattle.sw_work.specs.Hosted.{Hosted, state_of}
+use Rattle.sw_state.specs.Hosted.{Hosted, state_of}
 use Rattle.sw_next.proofs.tasks.first_install.Goals as goal
 
 pub returns : goal.returns

@@ -1,11 +1,11 @@
 use Rattle.std.proofs.Common.{◌∙◌, option_map, slice_get, sym, ap}
 use Rattle.std.specs.Option.{option_copied}
 use Rattle.sw_next.proofs.FirstReady.{first_run}
-use Rattle.sw_work.specs.contracts.tables.HostTables.{the_view}
+use Rattle.sw_state.specs.contracts.tables.HostTables.{the_view}
 use Rattle.sw_data.specs.declared.histories.Task.TheVariants as task
 use Rattle.sw_data.specs.declared.rows.JobRow.{JobRow}
 use Rattle.sw_rules.specs.Tasks.{runs}
-use Rattle.sw_work.specs.Hosted.{Hosted, state_of}
+use Rattle.sw_state.specs.Hosted.{Hosted, state_of}
 use Rattle.sw_next.proofs.tasks.first_run.Goals as goal
 
 pub returns-in_err-first_waiting : goal.returns-in_err-first_waiting

@@ -2,7 +2,7 @@ use Rattle.std.proofs.Common.{arith, subst}
 use Rattle.std.proofs.lemmas.Grind.{common_steps}
 use Rattle.std.specs.Option.{option_copied}
 use Rattle.sw_next.proofs.Handling.{free_found}
-use Rattle.sw_work.specs.Hosted.{IsJoined}
+use Rattle.sw_state.specs.Hosted.{IsJoined}
 use Rattle.sw_next.proofs.tasks.free_handler.Goals as goal
 
 pub returns-in_err-row : goal.returns-in_err-row

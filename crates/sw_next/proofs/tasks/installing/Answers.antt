@@ -5,7 +5,7 @@ use Rattle.sw_data.specs.declared.histories.Task.TheVariants as task
 use Rattle.sw_data.specs.declared.rows.JobRow.{JobRow}
 use Rattle.sw_rules.specs.Rows.{free_handler, is_in_phase, is_install, is_installing}
 use Rattle.sw_rules.specs.State.{Handler}
-use Rattle.sw_work.specs.Hosted.{state_of}
+use Rattle.sw_state.specs.Hosted.{state_of}
 use Rattle.sw_next.proofs.tasks.installing.Goals as goal
 
 pub returns-then-goes_on : goal.returns-then-goes_on

@@ -1,6 +1,6 @@
 use Rattle.std.proofs.Common.{◌≡◌, ◌-◌, drop, find, length}
 use Rattle.sw_rules.specs.Tasks.{may_install}
-use Rattle.sw_work.specs.Hosted.{state_of}
+use Rattle.sw_state.specs.Hosted.{state_of}
 use Rattle.sw_next.proofs.tasks.installing.Given as goal
 
 abbrev pub invariant-loop-row : goal.invariant-loop-row

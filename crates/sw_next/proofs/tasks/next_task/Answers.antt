@@ -2,7 +2,7 @@ use Rattle.std.proofs.Common.{arith}
 use Rattle.std.proofs.lemmas.Grind.{common_steps}
 use Rattle.sw_next.proofs.Left.{task_ready}
 use Rattle.sw_lane.specs.Picked.{in_flight}
-use Rattle.sw_work.specs.Hosted.{state_of}
+use Rattle.sw_state.specs.Hosted.{state_of}
 use Rattle.sw_next.proofs.tasks.next_task.Goals as goal
 
 pub returns-in-Some : goal.returns-in-Some

@@ -3,8 +3,8 @@ use Rattle.std.specs.Prelude.{is_some}
 use Rattle.sw_next.proofs.Boards.{begins_on}
 use Rattle.sw_rules.specs.Clients as rules
 use Rattle.sw_rules.specs.Rows.{worker_row}
-use Rattle.sw_work.specs.contracts.tables.HostTables.{the_view}
-use Rattle.sw_work.specs.Hosted.{Hosted, state_of}
+use Rattle.sw_state.specs.contracts.tables.HostTables.{the_view}
+use Rattle.sw_state.specs.Hosted.{Hosted, state_of}
 use Rattle.sw_worker.specs.Table.{worker_at}
 use Rattle.sw_next.proofs.waits.may_begin_on.Goals as goal
 

@@ -1,28 +1,19 @@
-use Rattle.std.proofs.Common.{◌∙◌, Some, None, option_map, option_copied, ap, sym}
-use Rattle.std.proofs.lemmas.Result.{IfOk-weaker}
-use Rattle.sw_tables.specs.Happened.{with_jobs}
-use Rattle.sw_tables.specs.Lent.{lent, shown_registration, shown_worker}
+use Rattle.std.proofs.Common.{◌∙◌, ℕ, None, option_map, option_copied, ap, sym}
+use Rattle.sw_data.specs.declared.rows.Job.{Job}
+use Rattle.sw_pages.proofs.Asking.{newest_soft_updated}
 use Rattle.sw_pages.specs.Acts.{outcome_of}
+use Rattle.sw_pages.specs.Jobs.{schedules, update_job}
 use Rattle.sw_rules.specs.Registering as rules
-use Rattle.sw_pages.proofs.Asking.{newest_soft_updated, none_soft_updated}
+use Rattle.sw_state.specs.Hosted.{shown_of, state_of}
+use Rattle.sw_tables.specs.Lent.{shown_worker}
 use Rattle.sw_pages.proofs.jobs.soft_update_named.Goals as goal
 
-pub returns-in-Some-newest_row-clause-outcome : goal.returns-in-Some-newest_row-clause-outcome
-returns-in-Some-newest_row-clause-outcome c =
-    IfOk-weaker c.soft_update_worker.result _ _
-    (λ worked is scopes of_clients rest who.
-    let state = lent scopes c.args.workers.now c.args.registrations.now of_clients (with_jobs c.args.queues.now.rows rest) in
-    let row = shown_registration scopes rest c.in-Some.row.now in
-    let found = sym (c.newest_row.ensures scopes of_clients (with_jobs c.args.queues.now.rows rest)) ∙ ap (λ r. option_map shown_worker (option_copied r)) c.in-Some-newest_row.is in
-    ap (λ r. rules.soft_update_named state (option_map (shown_registration scopes rest) (option_copied r))) c.in-Some.is
-    ∙ newest_soft_updated state who row (shown_worker c.in-Some-newest_row.newest.now) found
-    ∙ ap (λ w. outcome_of who w state) (sym is))
-    c.soft_update_worker.ensures.worked
-
-pub returns-in-None-clause-outcome : goal.returns-in-None-clause-outcome
-returns-in-None-clause-outcome c scopes of_clients rest who =
-    let state = lent scopes c.args.workers.now c.args.registrations.now of_clients (with_jobs c.args.queues.now.rows rest) in
-    let found = sym (c.in-None.ensures scopes of_clients (with_jobs c.args.queues.now.rows rest)) in
-    ap (λ r. rules.soft_update_named state (option_map (shown_registration scopes rest) (option_copied r))) c.in-Some.is
-    ∙ none_soft_updated state who (shown_registration scopes rest c.in-Some.row.now) found
-    ∙ ap (λ w. outcome_of who w state) (sym c.answered-in-None.ensures)
+pub returns-clause-gives : goal.returns-clause-gives
+returns-clause-gives c who =
+    let host = c.args.host.now in
+    let row = c.in-Some.row.now in
+    let newest = c.in-Some-newest_row.newest.now in
+    ap (λ r. rules.soft_update_named (state_of host) (option_map (shown_of host) (option_copied r))) c.in-Some.is
+    ∙ newest_soft_updated (state_of host) who (shown_of host row) (shown_worker newest) (sym c.in-Some-newest_row.ensures)
+    ∙ ap (λ (job : Job). outcome_of who (schedules host.queues.rows job) (state_of host))
+    (sym (c.in_ok-update_job.ensures ∙ ap (λ (n : ℕ). update_job n row newest None) c.in_ok-number.ensures))

@@ -1,20 +1,26 @@
-use Rattle.std.proofs.Common.{◌∙◌, List, option_map, ap, sym}
-use Rattle.std.specs.Prelude.{find}
-use Rattle.sw_ledgers.specs.Promised.{meaning}
+use Rattle.std.proofs.Common.{◌∙◌, Some, option_map, ap, sym}
+use Rattle.sw_data.specs.declared.answers.Settlement.{Settlement}
+use Rattle.sw_pages.proofs.Given.{found_given, found_there}
+use Rattle.sw_pages.specs.Acts.{outcome_of}
+use Rattle.sw_pages.specs.declared.worked.Worked.{Worked}
+use Rattle.sw_data.specs.declared.events.Who.TheVariants as maker
 use Rattle.sw_rules.specs.Clients.{settlement_answer}
-use Rattle.sw_rules.specs.Rows.{is_promise}
-use Rattle.sw_rules.specs.State.{Promise}
-use Rattle.sw_rules.specs.Told.{answered}
-use Rattle.sw_tables.specs.Lent.{lent}
-use Rattle.sw_pages.proofs.Awaiting.{value_here}
+use Rattle.sw_rules.specs.State.{State}
+use Rattle.sw_rules.specs.Told.{Outcome, answered}
+use Rattle.sw_state.specs.Hosted.{state_of}
 use Rattle.sw_pages.proofs.look.await_promise.Goals as goal
 
-pub returns-in-None-clause-outcome : goal.returns-in-None-clause-outcome
-returns-in-None-clause-outcome c = λ at scopes of_workers of_registrations of_clients rest jobs promises tasks.
-    let state = lent scopes of_workers of_registrations of_clients rest in
-    let found =
-    c.in_ok-awaited.ensures
-    ∙ ap (λ (rows : List Promise). option_map (λ row. row.awaited) (find (is_promise c.args.lane c.args.of) rows)) (sym promises) in
-    ap (option_map (λ result. answered state (settlement_answer result)))
-    (c.in-None.ensures scopes of_workers of_registrations of_clients rest jobs tasks
-    ∙ value_here state c.args.lane c.args.of (meaning c.in_ok-awaited.field-0) found)
+-- the outcome of a promise by its value
+abbrev settled : State → Settlement → Outcome
+settled state value = answered state (settlement_answer value)
+
+pub unwrap-requires : goal.unwrap-requires
+unwrap-requires c =
+    found_there (settled (state_of c.args.host.now)) _ _ (ap (option_map (settled (state_of c.args.host.now))) c.promised_value.ensures) (c.requires 0)
+
+pub returns-clause-gives : goal.returns-clause-gives
+returns-clause-gives c at =
+    let state = state_of c.args.host.now in
+    found_given (settled state) _ _ (ap (option_map (settled state)) c.promised_value.ensures) c.unwrap.result c.unwrap.ensures
+    ∙ ap (λ reply. Some (answered state reply)) (sym c.settlement_answer.ensures)
+    ∙ ap (λ (worked : Worked). Some (outcome_of (maker.Lane c.args.lane at) worked state)) (sym c.answered.ensures)

@@ -1,19 +1,15 @@
-use Rattle.std.proofs.Common.{◌∙◌, Some, ap}
-use Rattle.sw_pages.proofs.Active.{not_ready, ready_here}
+use Rattle.std.proofs.Common.{◌∙◌, Some, ap, sym}
+use Rattle.sw_pages.proofs.Given.{found_given, found_there}
 use Rattle.sw_pages.specs.Acts.{outcome_of}
 use Rattle.sw_pages.specs.declared.worked.Worked.{Worked}
-use Rattle.sw_tables.specs.Lent.{lent}
+use Rattle.sw_rules.specs.Told.{answered}
+use Rattle.sw_state.specs.Hosted.{state_of}
 use Rattle.sw_pages.proofs.look.ready.Goals as goal
 
-pub returns-in-Some-active_at-clause-outcome : goal.returns-in-Some-active_at-clause-outcome
-returns-in-Some-active_at-clause-outcome c = λ who rest.
-    let state = lent c.args.map.now c.args.workers.now c.args.registrations.now c.args.clients.now rest in
-    ap (λ (worked : Worked). Some (outcome_of who worked state)) c.answered-in-Some-active_at.ensures
-    ∙ ready_here state c.args.client c.in-Some.row.now c.in-Some.ensures _ c.in-Some-active_at.found c.as_bytes.ensures
-    (c.in-Some-active_at.ensures.found c.args.clients.now rest)
+pub unwrap-requires : goal.unwrap-requires
+unwrap-requires c = found_there (answered (state_of c.args.host.now)) _ _ c.ready_answer.ensures c.requires
 
-pub returns-in-None-clause-outcome : goal.returns-in-None-clause-outcome
-returns-in-None-clause-outcome c = λ who rest.
-    let state = lent c.args.map.now c.args.workers.now c.args.registrations.now c.args.clients.now rest in
-    not_ready state c.args.client c.in-Some.row.now c.in-Some.ensures _ c.as_bytes.ensures
-    (c.in-None.ensures.found c.args.clients.now rest)
+pub returns-clause-gives : goal.returns-clause-gives
+returns-clause-gives c who =
+    found_given (answered (state_of c.args.host.now)) _ _ c.ready_answer.ensures c.unwrap.result c.unwrap.ensures
+    ∙ ap (λ (worked : Worked). Some (outcome_of who worked (state_of c.args.host.now))) (sym c.answered.ensures)

@@ -2,13 +2,13 @@ use Rattle.std.proofs.Common.{◌≡◌, ℕ, Bool, true, false, List, Option, S
 use Rattle.std.specs.Option.{IfSome, option_map_or}
 use Rattle.sw_cachestorage.specs.Added.{IsAdded}
 use Rattle.sw_data.specs.declared.recordings.FetchLine.{FetchLine}
-use Rattle.sw_work.specs.contracts.tables.HostTables.{the_view}
+use Rattle.sw_state.specs.contracts.tables.HostTables.{the_view}
 use Rattle.sw_ledgers.specs.Tasks.{has_task}
 use Rattle.sw_rules.specs.Caching.{added, task_ended}
 use Rattle.sw_rules.specs.Rows.{task_row}
 use Rattle.sw_rules.specs.State.{State, AddAll}
 use Rattle.sw_rules.specs.Told.{Outcome}
-use Rattle.sw_work.specs.Hosted.{Hosted, state_of}
+use Rattle.sw_state.specs.Hosted.{Hosted, state_of}
 use Rattle.sw_prepare.proofs.hosts.work_of_added.Goals as goal
 
 -- an addAll whose fetches may end has not settled

@@ -1,13 +1,13 @@
 use Rattle.std.proofs.Common.{Option, None, option_copied, subst, sym}
 use Rattle.std.specs.Option.{IfSome}
-use Rattle.sw_prepare.proofs.Same.{same_joined}
+use Rattle.sw_state.proofs.Same.{same_joined}
 use Rattle.sw_data.specs.declared.recordings.Fetched.{Fetched}
 use Rattle.sw_install.specs.Fetches.{IsOutcome}
 use Rattle.sw_install.specs.declared.calls.Rows.{Rows}
 use Rattle.sw_laws.specs.Coherent.{Coherent}
 use Rattle.sw_rules.specs.Installing.{fetched}
-use Rattle.sw_work.specs.contracts.tables.HostTables.{the_view}
-use Rattle.sw_work.specs.Hosted.{Hosted, rest_of, state_of}
+use Rattle.sw_state.specs.contracts.tables.HostTables.{the_view}
+use Rattle.sw_state.specs.Hosted.{Hosted, rest_of, state_of}
 use Rattle.sw_work.specs.Plans.{Means}
 use Rattle.sw_work.specs.declared.plan.Work.{Work}
 use Rattle.sw_work.specs.declared.plan.Work.TheVariants as work

@@ -6,7 +6,7 @@ use Rattle.sw_rules.specs.Caching.{added}
 use Rattle.sw_rules.specs.Installing.{fetched}
 use Rattle.sw_rules.specs.Step.{step}
 use Rattle.sw_rules.specs.Told.{Outcome}
-use Rattle.sw_work.specs.Hosted.{state_of}
+use Rattle.sw_state.specs.Hosted.{state_of}
 use Rattle.sw_work.specs.Plans.{Means, Works}
 use Rattle.sw_work.proofs.Calling.{both_ok}
 use Rattle.sw_work.proofs.Working.{comes_so}

@@ -1,5 +1,5 @@
 use Rattle.std.proofs.Common.{refl}
-use Rattle.sw_prepare.proofs.Same.{same_joined}
+use Rattle.sw_state.proofs.Same.{same_joined}
 use Rattle.sw_prepare.proofs.hosts.work_of_run.Goals as goal
 
 pub invariant_of-host : goal.invariant_of-host

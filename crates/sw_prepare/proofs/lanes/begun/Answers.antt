@@ -1,6 +1,6 @@
 use Rattle.sw_prepare.proofs.Asking.{begun_starts}
 use Rattle.sw_prepare.proofs.Begun.{starts}
-use Rattle.sw_work.specs.Hosted.{state_of}
+use Rattle.sw_state.specs.Hosted.{state_of}
 use Rattle.sw_prepare.proofs.lanes.begun.Goals as goal
 
 pub returns-in-Some-clause-fits : goal.returns-in-Some-clause-fits

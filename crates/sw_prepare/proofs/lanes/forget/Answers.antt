@@ -3,8 +3,8 @@ use Rattle.sw_prepare.proofs.Busy.{busy_agrees, quiet_agrees}
 use Rattle.sw_data.specs.declared.answers.Answer.TheVariants as answer
 use Rattle.sw_rules.specs.Caching.{with_key}
 use Rattle.sw_rules.specs.Forgetting.{forget}
-use Rattle.sw_work.specs.contracts.tables.HostTables.{the_view}
-use Rattle.sw_work.specs.Hosted.{Hosted, rest_of, state_of}
+use Rattle.sw_state.specs.contracts.tables.HostTables.{the_view}
+use Rattle.sw_state.specs.Hosted.{Hosted, rest_of, state_of}
 use Rattle.sw_work.specs.Plans.{IsAsked}
 use Rattle.sw_work.specs.declared.plan.Act.TheVariants as act
 use Rattle.sw_work.specs.declared.plan.Asked.{Asked}

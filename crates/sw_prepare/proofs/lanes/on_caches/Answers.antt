@@ -2,8 +2,8 @@ use Rattle.std.proofs.Common.{IfSome, subst}
 use Rattle.sw_cachestorage.specs.Actions.{cache_action}
 use Rattle.sw_prepare.proofs.OnCaches.{agrees, asked_of}
 use Rattle.sw_rules.specs.Caching.{with_key}
-use Rattle.sw_work.specs.contracts.tables.HostTables.{the_view}
-use Rattle.sw_work.specs.Hosted.{Hosted, state_of}
+use Rattle.sw_state.specs.contracts.tables.HostTables.{the_view}
+use Rattle.sw_state.specs.Hosted.{Hosted, state_of}
 use Rattle.sw_work.specs.Plans.{IsAsked}
 use Rattle.sw_prepare.proofs.lanes.on_caches.Goals as goal
 

@@ -5,8 +5,8 @@ use Rattle.sw_prepare.proofs.Begun.{maker_kept}
 use Rattle.sw_data.specs.declared.events.Who.TheVariants as maker
 use Rattle.sw_rules.specs.Caching.{add_all_at}
 use Rattle.sw_rules.specs.Told.{Outcome}
-use Rattle.sw_work.specs.contracts.tables.HostTables.{the_view}
-use Rattle.sw_work.specs.Hosted.{Hosted, state_of}
+use Rattle.sw_state.specs.contracts.tables.HostTables.{the_view}
+use Rattle.sw_state.specs.Hosted.{Hosted, state_of}
 use Rattle.sw_work.specs.Plans.{Means}
 use Rattle.sw_prepare.proofs.lanes.work_of_add_all.Goals as goal
 

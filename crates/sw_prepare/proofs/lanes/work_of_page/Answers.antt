@@ -2,7 +2,7 @@ use Rattle.sw_prepare.proofs.Given.{agrees_too}
 use Rattle.sw_data.specs.declared.events.Who.TheVariants as maker
 use Rattle.sw_pages.specs.Acts as pages
 use Rattle.sw_rules.specs.Step.{step}
-use Rattle.sw_work.specs.Hosted.{state_of}
+use Rattle.sw_state.specs.Hosted.{state_of}
 use Rattle.sw_prepare.proofs.lanes.work_of_page.Goals as goal
 
 pub returns-clause-works : goal.returns-clause-works

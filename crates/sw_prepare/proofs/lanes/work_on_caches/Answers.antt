@@ -1,5 +1,5 @@
 use Rattle.sw_prepare.proofs.OnCaches.{steps}
-use Rattle.sw_work.specs.Hosted.{state_of}
+use Rattle.sw_state.specs.Hosted.{state_of}
 use Rattle.sw_prepare.proofs.lanes.work_on_caches.Goals as goal
 
 pub returns-clause-works : goal.returns-clause-works

@@ -1,7 +1,7 @@
 use Rattle.sw_prepare.proofs.Meanings.{planned_means}
-use Rattle.sw_prepare.proofs.Same.{same_state}
+use Rattle.sw_state.proofs.Same.{same_state}
 use Rattle.sw_rules.specs.Step.{step}
-use Rattle.sw_work.specs.Hosted.{state_of}
+use Rattle.sw_state.specs.Hosted.{state_of}
 use Rattle.sw_prepare.proofs.preparing.prepare.Goals as goal
 
 pub returns-in_err-work-clause-same : goal.returns-in_err-work-clause-same

@@ -6,7 +6,7 @@ use Rattle.sw_data.specs.declared.storage.Change.TheVariants as change
 use Rattle.sw_pages.specs.Acts.{told_by}
 use Rattle.sw_rules.specs.Forgetting.{forget_key}
 use Rattle.sw_rules.specs.Preloading.{set_preload}
-use Rattle.sw_work.specs.Hosted.{state_of}
+use Rattle.sw_state.specs.Hosted.{state_of}
 use Rattle.sw_work.specs.Plans.{told_by_act}
 use Rattle.sw_work.specs.declared.plan.Act.{Act}
 use Rattle.sw_prepare.proofs.telling.asked_changes.Goals as goal

@@ -3,7 +3,7 @@ use Rattle.std.specs.Option.{option_copied}
 use Rattle.std.specs.Prelude.{IfOk}
 use Rattle.sw_prepare.proofs.Changing.{held_tells, told}
 use Rattle.sw_rules.specs.Step.{step}
-use Rattle.sw_work.specs.Hosted.{state_of}
+use Rattle.sw_state.specs.Hosted.{state_of}
 use Rattle.sw_work.specs.Plans.{Means}
 use Rattle.sw_prepare.proofs.telling.changes.Goals as goal
 

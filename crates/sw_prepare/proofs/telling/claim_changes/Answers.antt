@@ -3,8 +3,8 @@ use Rattle.std.specs.Prelude.{IfOk}
 use Rattle.sw_pages.specs.Acts.{told_by}
 use Rattle.sw_pages.specs.declared.worked.PageAct.TheVariants as page
 use Rattle.sw_rules.specs.Rows.{is_active}
-use Rattle.sw_work.specs.contracts.tables.HostTables.{the_view}
-use Rattle.sw_work.specs.Hosted.{Hosted, rest_of, state_of}
+use Rattle.sw_state.specs.contracts.tables.HostTables.{the_view}
+use Rattle.sw_state.specs.Hosted.{Hosted, rest_of, state_of}
 use Rattle.sw_worker.specs.Table.{worker_at}
 use Rattle.sw_prepare.proofs.telling.claim_changes.Goals as goal
 

@@ -3,8 +3,8 @@ use Rattle.std.specs.Prelude.{IfOk}
 use Rattle.sw_prepare.specs.Telling.{Tells}
 use Rattle.sw_install.specs.Fetches.{ComesTo}
 use Rattle.sw_rules.specs.Installing.{fetched}
-use Rattle.sw_work.specs.contracts.tables.HostTables.{the_view}
-use Rattle.sw_work.specs.Hosted.{Hosted, rest_of, state_of}
+use Rattle.sw_state.specs.contracts.tables.HostTables.{the_view}
+use Rattle.sw_state.specs.Hosted.{Hosted, rest_of, state_of}
 use Rattle.sw_prepare.proofs.telling.fetched_changes.Goals as goal
 
 pub returns : goal.returns

@@ -4,8 +4,8 @@ use Rattle.sw_prepare.specs.Telling.{Tells}
 use Rattle.sw_laws.specs.Coherent.{Coherent}
 use Rattle.sw_rules.specs.Installing.{installed}
 use Rattle.sw_work.proofs.Coherence.{under_way}
-use Rattle.sw_work.specs.contracts.tables.HostTables.{the_view}
-use Rattle.sw_work.specs.Hosted.{Hosted, rest_of, state_of}
+use Rattle.sw_state.specs.contracts.tables.HostTables.{the_view}
+use Rattle.sw_state.specs.Hosted.{Hosted, rest_of, state_of}
 use Rattle.sw_prepare.proofs.telling.installed_changes.Goals as goal
 
 pub installed_changes-requires-clause-goes : goal.installed_changes-requires-clause-goes

@@ -1,6 +1,6 @@
 use Rattle.sw_prepare.proofs.Changing.{tells_none}
 use Rattle.sw_rules.specs.Registering.{run}
-use Rattle.sw_work.specs.Hosted.{state_of}
+use Rattle.sw_state.specs.Hosted.{state_of}
 use Rattle.sw_prepare.proofs.telling.no_changes.Goals as goal
 
 pub returns : goal.returns

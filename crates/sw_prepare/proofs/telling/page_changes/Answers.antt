@@ -2,7 +2,7 @@ use Rattle.std.proofs.Common.{◌≡◌, subst, sym}
 use Rattle.std.specs.Prelude.{IfOk}
 use Rattle.sw_pages.specs.Acts.{told_by}
 use Rattle.sw_pages.specs.declared.worked.PageAct.{PageAct}
-use Rattle.sw_work.specs.Hosted.{state_of}
+use Rattle.sw_state.specs.Hosted.{state_of}
 use Rattle.sw_work.specs.Plans.{FitsPageAct}
 use Rattle.sw_prepare.proofs.telling.page_changes.Goals as goal
 

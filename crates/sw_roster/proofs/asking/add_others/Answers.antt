@@ -7,7 +7,7 @@ use Rattle.sw_client.specs.Table.{Table, clients_of}
 use Rattle.sw_roster.proofs.Askers.{others_all, others_more}
 use Rattle.sw_roster.specs.Members.{is_listed, is_other, is_same}
 use Rattle.sw_roster.proofs.asking.add_others.Goals as goal
-use Rattle.sw_work.specs.Hosted.{state_of}
+use Rattle.sw_state.specs.Hosted.{state_of}
 
 pub loop-place-preserved : goal.loop-place-preserved
 loop-place-preserved c =

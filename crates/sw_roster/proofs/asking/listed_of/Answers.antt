@@ -4,7 +4,7 @@ use Rattle.std.proofs.lemmas.List.{take_more}
 use Rattle.sw_roster.proofs.Askers.{listed_more}
 use Rattle.sw_roster.proofs.asking.listed_of.Goals as goal
 use Rattle.sw_roster.specs.Members.{members}
-use Rattle.sw_work.specs.Hosted.{state_of}
+use Rattle.sw_state.specs.Hosted.{state_of}
 
 pub loop-client-preserved : goal.loop-client-preserved
 loop-client-preserved c =

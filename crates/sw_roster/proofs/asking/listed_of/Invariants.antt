@@ -3,7 +3,7 @@ use Rattle.std.specs.List.{filter_map, find}
 use Rattle.sw_roster.specs.Members.{members, numbers_of}
 use Rattle.sw_roster.proofs.asking.listed_of.Given as goal
 use Rattle.sw_rules.specs.Rows.{is_client}
-use Rattle.sw_work.specs.Hosted.{state_of}
+use Rattle.sw_state.specs.Hosted.{state_of}
 
 abbrev pub invariant-loop-client : goal.invariant-loop-client
 invariant-loop-client l =

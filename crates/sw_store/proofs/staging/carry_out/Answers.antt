@@ -1,7 +1,7 @@
 use Rattle.std.proofs.Common.{refl}
 use Rattle.sw_core.proofs.Applying.{stepped}
 use Rattle.sw_rules.specs.Step.{step}
-use Rattle.sw_work.specs.Hosted.{state_of}
+use Rattle.sw_state.specs.Hosted.{state_of}
 use Rattle.sw_store.proofs.staging.carry_out.Goals as goal
 
 pub returns : goal.returns

@@ -4,7 +4,7 @@ use Rattle.sw_store.proofs.Happened.{full_is, no_room_is, too_long}
 use Rattle.sw_store.proofs.staging.place.Goals as goal
 use Rattle.sw_store.specs.declared.errors.StageError.TheVariants as error
 use Rattle.sw_store.specs.Groups.{IsTooLong}
-use Rattle.sw_work.specs.Hosted.{state_of}
+use Rattle.sw_state.specs.Hosted.{state_of}
 
 pub returns-then-passes-clause-full : goal.returns-then-passes-clause-full
 returns-then-passes-clause-full c refused from needed is =

@@ -3,7 +3,7 @@ use Rattle.sw_rules.specs.Step.{changes_of}
 use Rattle.sw_store.proofs.Happened.{too_long_before}
 use Rattle.sw_store.proofs.staging.stage_plan.Goals as goal
 use Rattle.sw_twin.specs.Twin.{TwinState}
-use Rattle.sw_work.specs.Hosted.{state_of}
+use Rattle.sw_state.specs.Hosted.{state_of}
 
 pub returns-in-Ok-clause-full : goal.returns-in-Ok-clause-full
 returns-in-Ok-clause-full c refused from needed is =

@@ -1,6 +1,8 @@
 use Rattle.std.proofs.Common.{refl}
 use Rattle.sw_data.specs.declared.workers.WorkerState.TheVariants as worker_state
 use Rattle.sw_rules.specs.Activating.{become_activated}
+use Rattle.sw_rules.specs.Registrations.{become}
+use Rattle.sw_rules.specs.Told.{followed, keep}
 use Rattle.sw_tables.proofs.Lives.{activated_move, rests}
 use Rattle.sw_tables.proofs.OneMoves.{one_linked, one_moved}
 use Rattle.sw_tables.proofs.Shown.{one_shown}
@@ -11,7 +13,7 @@ use Rattle.sw_worker.specs.Table.{is_worker}
 use Rattle.sw_tables.proofs.slots.become_activated.Goals as goal
 
 pub returns-clause-did : goal.returns-clause-did
-unfolding become_activated
+unfolding become_activated followed keep become
 returns-clause-did c scopes of_clients rest = record {
   state = one_shown c.args.worker (advanced worker_state.Activated) (λ row. record row { state = worker_state.Activated }) (λ row. refl)
       c.args.workers.now c.tell_state.new.workers c.args.registrations.now c.args.registrations.now scopes of_clients rest refl

@@ -1,6 +1,6 @@
 use Rattle.std.proofs.Common.{refl}
 use Rattle.sw_data.specs.declared.workers.WorkerState.TheVariants as worker_state
-use Rattle.sw_rules.specs.Installing.{discard}
+use Rattle.sw_rules.specs.Registrations.{become}
 use Rattle.sw_tables.proofs.Lives.{discard_move, discarded_shown, rests}
 use Rattle.sw_tables.proofs.OneMoves.{one_linked, one_moved}
 use Rattle.sw_tables.proofs.Shown.{one_shown}
@@ -11,7 +11,7 @@ use Rattle.sw_worker.specs.Table.{is_worker}
 use Rattle.sw_tables.proofs.slots.discard.Goals as goal
 
 pub returns-clause-did : goal.returns-clause-did
-unfolding discard
+unfolding become
 returns-clause-did c scopes of_clients rest = record {
   state = one_shown c.args.worker (advanced worker_state.Redundant) (λ row. record row { state = worker_state.Redundant }) (λ row. refl)
       c.args.workers.now c.tell_state.new.workers c.args.registrations.now c.leave_installing.new.registrations scopes of_clients rest

@@ -2,10 +2,7 @@ use Rattle.sw_tables.proofs.Waiting.{still_there, waits_then}
 use Rattle.sw_tables.proofs.slots.wait.Goals as goal
 
 pub owe-requires : goal.owe-requires
-owe-requires c =
-    still_there c.args.registration _ c.args.registrations.now c.to_waiting-replaced.new.self c.requires c.to_waiting-replaced.ensures.rows
+owe-requires c = still_there c.args.registration _ c.args.registrations.now c.to_waiting.new.self c.requires c.to_waiting.ensures
 
-pub returns-clause-rows : goal.returns-clause-rows
-returns-clause-rows c =
-    waits_then c.args.registration _ c.args.registrations.now c.to_waiting-replaced.new.self c.owe.new.self
-    c.to_waiting-replaced.ensures.rows c.owe.ensures
+pub returns : goal.returns
+returns c = waits_then c.args.registration _ c.args.registrations.now c.to_waiting.new.self c.owe.new.self c.to_waiting.ensures c.owe.ensures

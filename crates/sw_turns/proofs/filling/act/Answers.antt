@@ -16,7 +16,7 @@ use Rattle.sw_turns.specs.Coming.{NextHasNoRoom}
 use Rattle.sw_turns.specs.Groups.{IsUnderWay, StaysOut}
 use Rattle.sw_turns.specs.declared.ends.Refusal.{Refusal}
 use Rattle.sw_turns.specs.Ways.{recorded_way}
-use Rattle.sw_work.specs.Hosted.{Hosted, state_of}
+use Rattle.sw_state.specs.Hosted.{Hosted, state_of}
 
 pub action_event-event-requires-clause-alone : goal.action_event-event-requires-clause-alone
 action_event-event-requires-clause-alone c = λ one. none_flies c.args.flights.now c.args.pass c.requires.free one

@@ -20,7 +20,7 @@ use Rattle.sw_turns.proofs.ComingLemmas.{of_turn_free, of_turn_landed, of_turn_n
 use Rattle.sw_turns.proofs.FlightLemmas.{free_due, set_else, set_same, set_there}
 use Rattle.sw_turns.proofs.GroupLemmas.{barren_lacks, first_waits, further_own, next_of, stop_barren, stop_keeps, stop_leaves, stop_some, stop_stays}
 use Rattle.sw_turns.specs.Ways.{recorded_way}
-use Rattle.sw_work.specs.Hosted.{Hosted, state_of}
+use Rattle.sw_state.specs.Hosted.{Hosted, state_of}
 use Rattle.sw_turns.proofs.filling.begin.Goals as goal
 use Rattle.sw_turns.proofs.filling.begin.Goals.{After-stop_by}
 

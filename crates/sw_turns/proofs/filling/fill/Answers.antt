@@ -9,7 +9,7 @@ use Rattle.sw_turns.proofs.ComingLemmas.{grows_none, grows_still, grows_then}
 use Rattle.sw_turns.proofs.FlightLemmas.{free_due}
 use Rattle.sw_turns.proofs.GroupLemmas.{further_own, none_own, picked_by, same_twins}
 use Rattle.sw_turns.specs.Ways.{recorded_way}
-use Rattle.sw_work.specs.Hosted.{state_of}
+use Rattle.sw_state.specs.Hosted.{state_of}
 use Rattle.sw_turns.proofs.filling.fill.Goals as goal
 
 pub take_up-requires-clause-free : goal.take_up-requires-clause-free

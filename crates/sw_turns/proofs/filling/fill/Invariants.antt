@@ -11,7 +11,7 @@ use Rattle.sw_turns.specs.Flights.{AreInFlight}
 use Rattle.sw_turns.specs.Groups.{IsUnderWay}
 use Rattle.sw_turns.specs.Ways.{recorded_way}
 use Rattle.sw_store.specs.Stores.{IsSameTwin}
-use Rattle.sw_work.specs.Hosted.{state_of}
+use Rattle.sw_state.specs.Hosted.{state_of}
 use Rattle.sw_turns.proofs.filling.fill.Given as goal
 
 abbrev pub invariant-events : goal.invariant-events

@@ -10,7 +10,7 @@ use Rattle.sw_turns.proofs.FlightLemmas.{none_flies}
 use Rattle.sw_turns.proofs.GroupLemmas.{next_of, next_pick, no_room, stop_keeps, stop_lacks, stop_leaves, stop_picks, stop_some, stop_stays, stop_takes}
 use Rattle.sw_turns.specs.declared.ends.Refusal.{Refusal}
 use Rattle.sw_turns.specs.Ways.{recorded_way}
-use Rattle.sw_work.specs.Hosted.{Hosted, state_of}
+use Rattle.sw_state.specs.Hosted.{Hosted, state_of}
 use Rattle.sw_turns.proofs.filling.perform.Goals as goal
 
 pub ready_event-requires-clause-coherent : goal.ready_event-requires-clause-coherent

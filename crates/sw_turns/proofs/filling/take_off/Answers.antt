@@ -7,7 +7,7 @@ use Rattle.sw_lane.specs.declared.picks.Pick.TheVariants as pick
 use Rattle.sw_lane.specs.declared.picks.Work.TheVariants as work
 use Rattle.sw_next.specs.Fetching.{fetches_of}
 use Rattle.sw_turns.proofs.FlightLemmas.{free_due, set_back, set_there, taken_due, taken_fly}
-use Rattle.sw_work.specs.Hosted.{Hosted, state_of}
+use Rattle.sw_state.specs.Hosted.{Hosted, state_of}
 use Rattle.sw_turns.proofs.filling.take_off.Goals as goal
 
 pub returns-in-Ok-clause-flights : goal.returns-in-Ok-clause-flights

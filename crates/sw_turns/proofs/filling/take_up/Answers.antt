@@ -2,7 +2,7 @@
 use Rattle.std.proofs.Common.{length}
 use Rattle.sw_turns.proofs.FlightLemmas.{free_due}
 use Rattle.sw_turns.specs.Ways.{recorded_way}
-use Rattle.sw_work.specs.Hosted.{state_of}
+use Rattle.sw_state.specs.Hosted.{state_of}
 use Rattle.sw_turns.proofs.filling.take_up.Goals as goal
 
 pub returns-in-Action-clause-due : goal.returns-in-Action-clause-due

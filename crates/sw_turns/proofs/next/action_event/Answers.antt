@@ -4,7 +4,7 @@ use Rattle.sw_data.specs.declared.events.Who.TheVariants as who
 use Rattle.sw_lane.specs.Picked.{in_flight}
 use Rattle.sw_turns.proofs.FlightLemmas.{action_spares}
 use Rattle.sw_turns.proofs.NextLemmas.{acted, acted_next, picked_left}
-use Rattle.sw_work.specs.Hosted.{state_of}
+use Rattle.sw_state.specs.Hosted.{state_of}
 use Rattle.sw_turns.proofs.next.action_event.Goals as goal
 
 pub take-action-requires : goal.take-action-requires

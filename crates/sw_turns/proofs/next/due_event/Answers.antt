@@ -2,7 +2,7 @@
 use Rattle.std.proofs.Common.{[], refl}
 use Rattle.sw_turns.proofs.NextLemmas.{performed_on, picked_task}
 use Rattle.sw_turns.proofs.next.due_event.Goals as goal
-use Rattle.sw_work.specs.Hosted.{state_of}
+use Rattle.sw_state.specs.Hosted.{state_of}
 
 pub task_event-requires-clause-ready : goal.task_event-requires-clause-ready
 task_event-requires-clause-ready c = picked_task (state_of c.args.core.now) [] c.args.lanes.now c.args.task c.requires.picked

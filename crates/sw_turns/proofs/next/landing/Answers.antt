@@ -6,7 +6,7 @@ use Rattle.sw_turns.specs.Flights.{Flies}
 use Rattle.sw_core.specs.Machines.{IsEventOf}
 use Rattle.sw_turns.proofs.FlightLemmas.{due_alone, flies_alike, flies_not_free, landed_stay, landing_spares}
 use Rattle.sw_turns.proofs.NextLemmas.{performed}
-use Rattle.sw_work.specs.Hosted.{state_of}
+use Rattle.sw_state.specs.Hosted.{state_of}
 use Rattle.sw_turns.proofs.next.landing.Goals as goal
 
 pub returns-in_ok-event-in-Some-clause-next : goal.returns-in_ok-event-in-Some-clause-next

@@ -3,7 +3,7 @@ use Rattle.std.proofs.Common.{length}
 use Rattle.sw_lane.specs.Picked.{in_flight}
 use Rattle.sw_turns.proofs.FlightLemmas.{plain_spares_on}
 use Rattle.sw_turns.proofs.NextLemmas.{performed_next, performed_on, picked_task}
-use Rattle.sw_work.specs.Hosted.{state_of}
+use Rattle.sw_state.specs.Hosted.{state_of}
 use Rattle.sw_turns.proofs.next.ready_event.Goals as goal
 
 pub task_event-requires-clause-ready : goal.task_event-requires-clause-ready

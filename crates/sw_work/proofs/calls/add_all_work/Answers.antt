@@ -2,7 +2,7 @@
 use Rattle.std.proofs.Common.{sym, subst}
 use Rattle.sw_rules.specs.Calls.{noted}
 use Rattle.sw_rules.specs.Told.{Outcome}
-use Rattle.sw_work.specs.Hosted.{Hosted, state_of}
+use Rattle.sw_state.specs.Hosted.{Hosted, state_of}
 use Rattle.sw_work.specs.Plans.{Means}
 use Rattle.sw_work.proofs.Calling.{host_left, made_by_handler}
 use Rattle.sw_work.proofs.calls.add_all_work.Goals as goal

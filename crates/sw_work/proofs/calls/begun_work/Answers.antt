@@ -1,5 +1,5 @@
 -- An addAll, noted.
-use Rattle.sw_work.specs.Hosted.{state_of}
+use Rattle.sw_state.specs.Hosted.{state_of}
 use Rattle.sw_work.proofs.Calling.{start_noted, unstarted_noted}
 use Rattle.sw_work.proofs.calls.begun_work.Goals as goal
 

@@ -1,5 +1,5 @@
 -- A call on caches, noted.
-use Rattle.sw_work.specs.Hosted.{state_of}
+use Rattle.sw_state.specs.Hosted.{state_of}
 use Rattle.sw_work.proofs.Calling.{cache_noted}
 use Rattle.sw_work.proofs.calls.cache_work.Goals as goal
 

@@ -1,7 +1,7 @@
 -- The work of a call on caches.
 use Rattle.sw_rules.specs.Calls.{called}
 use Rattle.sw_tables.specs.Lent.{shown_worker}
-use Rattle.sw_work.specs.Hosted.{state_of}
+use Rattle.sw_state.specs.Hosted.{state_of}
 use Rattle.sw_work.proofs.Calling.{host_left}
 use Rattle.sw_work.proofs.calls.caches_work.Goals as goal
 

@@ -1,5 +1,5 @@
 -- A call of a page's kind, noted.
-use Rattle.sw_work.specs.Hosted.{state_of}
+use Rattle.sw_state.specs.Hosted.{state_of}
 use Rattle.sw_work.proofs.Calling.{page_noted}
 use Rattle.sw_work.proofs.calls.page_work.Goals as goal
 

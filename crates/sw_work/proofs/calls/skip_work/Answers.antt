@@ -2,7 +2,7 @@
 use Rattle.std.proofs.Common.{sym, subst}
 use Rattle.sw_rules.specs.Calls.{noted}
 use Rattle.sw_rules.specs.Told.{Outcome}
-use Rattle.sw_work.specs.Hosted.{state_of}
+use Rattle.sw_state.specs.Hosted.{state_of}
 use Rattle.sw_work.specs.Plans.{Means}
 use Rattle.sw_work.proofs.Calling.{skip_fits}
 use Rattle.sw_work.proofs.calls.skip_work.Goals as goal

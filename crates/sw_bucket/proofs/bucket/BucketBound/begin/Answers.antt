@@ -7,7 +7,7 @@ use Rattle.sw_bucket.specs.Filling.{Filled}
 use Rattle.sw_rules.specs.Storage.{IsMade}
 use Rattle.sw_sizes.specs.Rows.{ArePartsOf, Row}
 use Rattle.sw_sizes.specs.Usage.{keys_of_kept}
-use Rattle.sw_work.specs.Hosted.{state_of}
+use Rattle.sw_state.specs.Hosted.{state_of}
 
 pub returns-clause-notes : goal.returns-clause-notes
 returns-clause-notes c = λ base legal is.

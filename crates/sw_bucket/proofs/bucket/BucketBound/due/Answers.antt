@@ -5,7 +5,7 @@ use Rattle.sw_bucket.proofs.Due.{due_past}
 use Rattle.sw_bucket.proofs.bucket.BucketBound.due.Goals as goal
 use Rattle.sw_bucket.specs.Eviction.{forget_page, next_forget}
 use Rattle.sw_bucket.specs.Filling.{Filled, IsFilled}
-use Rattle.sw_work.specs.Hosted.{state_of}
+use Rattle.sw_state.specs.Hosted.{state_of}
 
 pub returns-in_ok-forget_event-in-Some : goal.returns-in_ok-forget_event-in-Some
 returns-in_ok-forget_event-in-Some c = record {

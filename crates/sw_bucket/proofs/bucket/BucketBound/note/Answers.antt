@@ -12,7 +12,7 @@ use Rattle.sw_rules.specs.History.{after}
 use Rattle.sw_rules.specs.Step.{changes_of}
 use Rattle.sw_rules.specs.Storage.{kept_after}
 use Rattle.sw_sizes.specs.Rows.{ArePartsOf}
-use Rattle.sw_work.specs.Hosted.{state_of}
+use Rattle.sw_state.specs.Hosted.{state_of}
 
 pub returns-clause-notes : goal.returns-clause-notes
 returns-clause-notes c = λ base history given legal is spelled.

@@ -1,7 +1,7 @@
 use Rattle.std.proofs.Common.{◌≡◌, find}
 use Rattle.sw_bucket.specs.Eviction.{may_go}
 use Rattle.sw_bucket.proofs.order.Order.first.Given as goal
-use Rattle.sw_work.specs.Hosted.{state_of}
+use Rattle.sw_state.specs.Hosted.{state_of}
 
 abbrev pub invariant-loop-turn : goal.invariant-loop-turn
 invariant-loop-turn l =

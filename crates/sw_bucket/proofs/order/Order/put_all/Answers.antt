@@ -2,7 +2,7 @@ use Rattle.sw_bucket.proofs.Turned.{get_more}
 use Rattle.sw_bucket.proofs.order.Order.put_all.Goals as goal
 use Rattle.sw_bucket.specs.Noted.{last_noted}
 use Rattle.sw_rules.specs.Durable.{durable}
-use Rattle.sw_work.specs.Hosted.{state_of}
+use Rattle.sw_state.specs.Hosted.{state_of}
 
 pub loop-key-preserved : goal.loop-key-preserved
 loop-key-preserved c = λ parts.

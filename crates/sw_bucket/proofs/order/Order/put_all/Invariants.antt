@@ -4,7 +4,7 @@ use Rattle.sw_bucket.specs.Noted.{last_noted}
 use Rattle.sw_bucket.specs.Turns.{GetTurns}
 use Rattle.sw_rules.specs.Durable.{durable}
 use Rattle.sw_sizes.specs.Rows.{ArePartsOf}
-use Rattle.sw_work.specs.Hosted.{state_of}
+use Rattle.sw_state.specs.Hosted.{state_of}
 
 abbrev pub invariant-loop-key : goal.invariant-loop-key
 invariant-loop-key l =

@@ -4,7 +4,7 @@ use Rattle.sw_bucket.proofs.uses.Uses.first_of.Goals as goal
 use Rattle.sw_bucket.specs.Choosing.{first_to_go}
 use Rattle.sw_bucket.specs.Eviction.{goes_before, may_go}
 use Rattle.sw_bucket.specs.Noted.{last_noted}
-use Rattle.sw_work.specs.Hosted.{state_of}
+use Rattle.sw_state.specs.Hosted.{state_of}
 
 pub loop-key-preserved : goal.loop-key-preserved
 loop-key-preserved c =

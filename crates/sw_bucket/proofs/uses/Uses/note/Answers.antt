@@ -1,5 +1,5 @@
 use Rattle.indexmap.proofs.MapLemmas.{OnOk-map}
-use Rattle.sw_work.specs.Hosted.{state_of}
+use Rattle.sw_state.specs.Hosted.{state_of}
 use Rattle.sw_bucket.proofs.Noting.{noted_more, others_stay}
 use Rattle.sw_bucket.proofs.uses.Uses.note.Goals as goal
 

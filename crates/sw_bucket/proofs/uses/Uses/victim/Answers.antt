@@ -4,7 +4,7 @@ use Rattle.sw_bucket.proofs.Chosen.{victim_is}
 use Rattle.sw_bucket.proofs.uses.Uses.victim.Goals as goal
 use Rattle.sw_bucket.specs.Eviction.{first_of, goes_before, may_go}
 use Rattle.sw_bucket.specs.Noted.{last_noted}
-use Rattle.sw_work.specs.Hosted.{state_of}
+use Rattle.sw_state.specs.Hosted.{state_of}
 
 pub returns : goal.returns
 returns c = λ base history is.

@@ -2,14 +2,14 @@ use Rattle.std.proofs.Common.{arith, rules, ◌≡◌, ◌≤◌, ◌+◌, ◌-�
 use Rattle.std.specs.Prelude.{vec_len, vec_capacity}
 use Rattle.std.specs.Result.{is_ok}
 use Rattle.std.proofs.lemmas.List.{length-append, map-append, length-map}
-use Rattle.sw_index.specs.Slots.{has}
-use Rattle.sw_index.specs.Numbered.{AllBelow, KeepsAbove}
+use Rattle.sw_list.specs.Marks.{has}
+use Rattle.sw_list.specs.Numbered.{AllBelow, KeepsAbove}
 use Rattle.sw_caches.specs.Bytes.{made_size, puts_size}
 use Rattle.sw_caches.specs.Entries.{AreIndexed, DropMarks, number, pair, pair_digest, pairs}
 use Rattle.sw_caches.specs.Plans.{left_by}
 use Rattle.sw_caches.proofs.BatchLemmas.{left_both}
 use Rattle.sw_caches.proofs.BytesLemmas.{bytes_joined, bytes_left}
-use Rattle.sw_index.proofs.IndexLemmas.{above_more, arrived, below_all, beside, drops_more, joined}
+use Rattle.sw_list.proofs.IndexLemmas.{above_more, arrived, below_all, beside, drops_more, joined}
 use Rattle.sw_caches.proofs.pairs.Pairs.carry_out.Goals as goal
 
 pub overflow_add-self : goal.overflow_add-self

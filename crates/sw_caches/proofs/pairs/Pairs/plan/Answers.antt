@@ -1,6 +1,6 @@
 use Rattle.std.proofs.Common.{◌∙◌, [], subst, sym}
-use Rattle.sw_index.specs.Slots.{AreFrom, HasLost, KeepsBelow}
-use Rattle.sw_index.proofs.IndexLemmas.{forgotten}
+use Rattle.sw_list.specs.Marks.{AreFrom, HasLost, KeepsBelow}
+use Rattle.sw_list.proofs.IndexLemmas.{forgotten}
 use Rattle.sw_caches.specs.Entries.{AreIndexed, AreTight, number, pair, pair_digest}
 use Rattle.sw_caches.proofs.PlanLemmas.{indexed_still, planned}
 use Rattle.sw_caches.proofs.pairs.Pairs.plan.Goals as goal

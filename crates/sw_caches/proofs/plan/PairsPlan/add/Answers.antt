@@ -1,7 +1,7 @@
 use Rattle.std.proofs.Common.{◌≡◌, ◌≤◌, ◌<◌, ◌+◌, ◌++◌, ◌∷◌, ◌∙◌, List, [], ap, refl, rules, subst, sym}
 use Rattle.std.specs.Prelude.{◌^◌}
-use Rattle.sw_index.specs.declared.slots.Mark.{Mark}
-use Rattle.sw_index.specs.Slots.{IsFree}
+use Rattle.sw_list.specs.declared.marks.Mark.{Mark}
+use Rattle.sw_list.specs.Marks.{IsFree}
 use Rattle.sw_caches.specs.declared.plan.PairsPlan.{PairsPlan}
 use Rattle.sw_caches.specs.Slots.{address_mark}
 use Rattle.sw_caches.proofs.PlanLemmas.{added_above, alike, draft_free, draft_more, draft_same}

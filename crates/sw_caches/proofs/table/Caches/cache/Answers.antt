@@ -1,5 +1,5 @@
 use Rattle.std.proofs.Common.{◌∙◌, ap}
-use Rattle.sw_index.specs.Named.{named_row}
+use Rattle.sw_list.specs.Named.{named_row}
 use Rattle.sw_rules.specs.Caching.{pairs_of}
 use Rattle.sw_caches.proofs.TableLemmas.{none_at, pairs_at}
 use Rattle.sw_caches.proofs.table.Caches.cache.Goals as goal

@@ -1,5 +1,5 @@
 use Rattle.std.proofs.Common.{◌≡◌, ◌∙◌, ◌+◌, ◌≤◌, ap, arith, subst, sym}
-use Rattle.sw_index.specs.Named.{named_row}
+use Rattle.sw_list.specs.Named.{named_row}
 use Rattle.sw_caches.specs.Sums.{at_key, held}
 use Rattle.sw_caches.specs.Tables.{FitsTable, carried_rows}
 use Rattle.sw_caches.proofs.CarryLemmas.{before_had, carried_on, counted_carried, has_room, has_some, held_within, key_after, low_after}

@@ -1,7 +1,7 @@
 use Rattle.std.proofs.Common.{◌≡◌, ◌∙◌, Bool, true, false, ap, refl, sym}
 use Rattle.std.specs.Prelude.{bytes_eq, not}
 use Rattle.std.specs.List.{list_any}
-use Rattle.sw_index.specs.Named.{named_row}
+use Rattle.sw_list.specs.Named.{named_row}
 use Rattle.sw_caches.specs.Tables.{kept_row}
 use Rattle.sw_caches.proofs.WalkLemmas.{any_next}
 use Rattle.sw_caches.proofs.table.Caches.is_empty_key.Goals as goal

@@ -2,7 +2,7 @@ use Rattle.std.proofs.Common.{◌≡◌, ◌∙◌, ap, map, subst, sym}
 use Rattle.std.specs.Prelude.{slice_get, IfOk, IfErr, Ok, Some}
 use Rattle.sw_data.specs.declared.storage.KeptCache.{KeptCache}
 use Rattle.sw_rules.specs.Batch.{batch}
-use Rattle.sw_index.specs.Named.{with_value}
+use Rattle.sw_list.specs.Named.{with_value}
 use Rattle.sw_caches.specs.Bytes.{bytes_of}
 use Rattle.sw_caches.specs.Plans.{IsThrown, carried}
 use Rattle.sw_caches.specs.Tables.{kept_row}

@@ -1,6 +1,6 @@
 use Rattle.std.proofs.Common.{◌≡◌, ◌++◌}
 use Rattle.std.specs.Vec.Iter.{into_iter_items}
-use Rattle.sw_index.specs.Named.{named_rows}
+use Rattle.sw_list.specs.Named.{named_rows}
 use Rattle.sw_change.specs.Table.{kept_rows}
 use Rattle.sw_change.proofs.registrations.Registrations.into_rows.Given as goal
 

@@ -4,7 +4,7 @@ use Rattle.std.specs.Map.{keys_of}
 use Rattle.std.proofs.lemmas.Map.Made.{IsDistinct-keys_filter}
 use Rattle.sw_data.specs.declared.storage.KeptRegistration.{KeptRegistration}
 use Rattle.sw_rules.specs.Storage.{is_registration}
-use Rattle.sw_index.specs.Named.{is_at}
+use Rattle.sw_list.specs.Named.{is_at}
 use Rattle.sw_change.specs.Table.{is_same, kept_rows}
 use Rattle.sw_change.proofs.Entries.{Entries, filtered}
 use Rattle.sw_change.proofs.registrations.Registrations.remove.Goals as goal

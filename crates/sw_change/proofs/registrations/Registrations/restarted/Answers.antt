@@ -3,7 +3,7 @@ use Rattle.std.specs.Prelude.{slice_get}
 use Rattle.std.specs.List.{IsDistinct}
 use Rattle.std.specs.Map.{keys_of}
 use Rattle.sw_rules.specs.Storage.{promoted}
-use Rattle.sw_index.specs.Named.{values, with_value}
+use Rattle.sw_list.specs.Named.{values, with_value}
 use Rattle.sw_change.specs.Table.{is_same, kept_rows}
 use Rattle.sw_change.proofs.Entries.{Entries, all_promoted, one_promoted, promoted_keys, promoted_to}
 use Rattle.sw_change.proofs.registrations.Registrations.restarted.Goals as goal

@@ -1,7 +1,7 @@
 use Rattle.std.proofs.Common.{◌∙◌, ◌++◌, ◌∷◌, [], ap, sym, take}
 use Rattle.std.proofs.lemmas.List.{map_more}
 use Rattle.std.proofs.lemmas.Option.{get_or_from_slice_get, slice_get_within}
-use Rattle.sw_index.specs.Named.{named_row}
+use Rattle.sw_list.specs.Named.{named_row}
 use Rattle.sw_change.specs.declared.registration.Registration.{Registration}
 use Rattle.sw_change.specs.Table.{Place, kept_row, kept_rows}
 use Rattle.sw_change.proofs.registrations.Registrations.to_rows.Goals as goal

@@ -4,7 +4,7 @@ use Rattle.sw_data.specs.declared.events.Who.TheVariants as maker
 use Rattle.sw_data.specs.declared.recordings.Action.{Action}
 use Rattle.sw_data.specs.Events.{event_of_action, who_of}
 use Rattle.sw_rules.specs.Step.{step}
-use Rattle.sw_work.specs.Hosted.{state_of}
+use Rattle.sw_state.specs.Hosted.{state_of}
 use Rattle.sw_core.proofs.board.CoreBoardBoard.lane_ready.Goals as goal
 
 pub returns-in-Await : goal.returns-in-Await

@@ -4,7 +4,7 @@ use Rattle.std.specs.List.{list_any}
 use Rattle.sw_data.specs.declared.recordings.Recording.{Recording}
 use Rattle.sw_lane.specs.Picked.{is_task}
 use Rattle.sw_rules.specs.Tasks.{event_of, ready_tasks}
-use Rattle.sw_work.specs.Hosted.{Hosted, state_of}
+use Rattle.sw_state.specs.Hosted.{Hosted, state_of}
 use Rattle.sw_core.proofs.core_tables.Core.event_of.Goals as goal
 
 pub event_of-requires : goal.event_of-requires

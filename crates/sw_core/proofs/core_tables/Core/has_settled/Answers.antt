@@ -2,7 +2,7 @@ use Rattle.std.proofs.Common.{◌≡◌, subst}
 use Rattle.std.specs.Prelude.{is_some}
 use Rattle.sw_data.specs.declared.events.Who.TheVariants as maker
 use Rattle.sw_rules.specs.Clients.{await}
-use Rattle.sw_work.specs.Hosted.{Hosted, state_of}
+use Rattle.sw_state.specs.Hosted.{Hosted, state_of}
 use Rattle.sw_core.proofs.core_tables.Core.has_settled.Goals as goal
 
 pub returns : goal.returns

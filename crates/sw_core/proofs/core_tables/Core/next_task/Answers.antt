@@ -1,6 +1,6 @@
 use Rattle.std.proofs.Common.{◌≡◌, subst}
 use Rattle.sw_lane.specs.Picked.{in_flight, task_left}
-use Rattle.sw_work.specs.Hosted.{Hosted, state_of}
+use Rattle.sw_state.specs.Hosted.{Hosted, state_of}
 use Rattle.sw_core.proofs.core_tables.Core.next_task.Goals as goal
 
 pub returns : goal.returns

@@ -2,7 +2,7 @@ use Rattle.std.proofs.Common.{◌≡◌, ◌∙◌, Some, ap, arith, is_none, le
 use Rattle.std.specs.Vec.{vec_len, vec_capacity}
 use Rattle.std.specs.List.{range_with_len}
 use Rattle.sw_rules.specs.Rows.{changed, is_task}
-use Rattle.sw_flags.specs.Marked.{Marked}
+use Rattle.sw_list.specs.Marked.{Marked}
 use Rattle.sw_ledgers.specs.Tasks.{Table, has_task}
 use Rattle.sw_ledgers.proofs.Tasking.{kept_settled, many_flags, numbers_are_places, settled_rows, with_value, within}
 use Rattle.sw_ledgers.proofs.tasks.Tasks.settle.Goals as goal

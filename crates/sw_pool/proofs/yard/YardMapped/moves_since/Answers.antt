@@ -7,7 +7,7 @@ use Rattle.sw_pool.specs.Yards.{YardState, origin_of}
 use Rattle.sw_rules.specs.History.{Legal, after}
 use Rattle.sw_view.specs.Mapped.{mapped_after}
 use Rattle.sw_view.specs.Moves.{AreMoves}
-use Rattle.sw_work.specs.Hosted.{Hosted, rest_of}
+use Rattle.sw_state.specs.Hosted.{Hosted, rest_of}
 
 pub returns : goal.returns
 returns g c =

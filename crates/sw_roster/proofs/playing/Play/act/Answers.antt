@@ -8,7 +8,7 @@ use Rattle.sw_roster.proofs.Played.{line_played, spent_by_line, stalled_now, tes
 use Rattle.sw_roster.proofs.playing.Play.act.Goals as goal
 use Rattle.sw_roster.specs.Beats.{HasRoster}
 use Rattle.sw_roster.specs.Playing.{HasHappened, IsPlayed}
-use Rattle.sw_work.specs.Hosted.{state_of}
+use Rattle.sw_state.specs.Hosted.{state_of}
 use Rattle.std.proofs.Common.{List}
 
 pub returns-then-not-enabled-clause-goes_on : goal.returns-then-not-enabled-clause-goes_on

@@ -2,7 +2,7 @@
 use Rattle.std.proofs.Common.{◌∙◌, refl}
 use Rattle.sw_roster.proofs.Played.{begins, coherent_at_first}
 use Rattle.sw_roster.proofs.playing.Play.new.Goals as goal
-use Rattle.sw_work.specs.Hosted.{state_of}
+use Rattle.sw_state.specs.Hosted.{state_of}
 
 pub new-requires-3 : goal.new-requires-3
 new-requires-3 c = coherent_at_first (state_of c.new-2.result) c.new-2.ensures

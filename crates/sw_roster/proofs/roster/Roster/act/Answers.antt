@@ -3,7 +3,7 @@ use Rattle.sw_laws.specs.Coherent.{Coherent}
 use Rattle.sw_roster.proofs.Stepping.{stays_coherent}
 use Rattle.sw_roster.proofs.roster.Roster.act.Goals as goal
 use Rattle.sw_roster.proofs.roster.Roster.act.Goals.{After-turned}
-use Rattle.sw_work.specs.Hosted.{state_of}
+use Rattle.sw_state.specs.Hosted.{state_of}
 
 sound : (c : After-turned) → Coherent (state_of c.apply.new.self)
 sound c =

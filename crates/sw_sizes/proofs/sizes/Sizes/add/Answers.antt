@@ -1,7 +1,7 @@
 use Rattle.std.proofs.Common.{◌≡◌, ◌∙◌, ◌++◌, ◌∷◌, [], ap, sym, subst}
 use Rattle.std.specs.List.{IsDistinct, list_any}
 use Rattle.std.specs.Map.{keys_of}
-use Rattle.sw_index.specs.Named.{is_at}
+use Rattle.sw_list.specs.Named.{is_at}
 use Rattle.sw_sizes.specs.Counted.{is_same}
 use Rattle.sw_sizes.specs.Rows.{Row}
 use Rattle.sw_sizes.proofs.CountedLemmas.{counted_put, counted_same, held_within}

@@ -1,6 +1,6 @@
 use Rattle.std.proofs.Common.{◌≡◌, ◌∙◌, sym, ap}
 use Rattle.sw_change.proofs.Entries.{on_ok}
-use Rattle.sw_index.specs.Named.{with_value}
+use Rattle.sw_list.specs.Named.{with_value}
 use Rattle.sw_sizes.specs.Counted.{StandsAt, StandsNowhere}
 use Rattle.sw_sizes.specs.declared.row.Parts.{Parts}
 use Rattle.sw_sizes.specs.Rows.{edited, with_parts}

@@ -1,7 +1,7 @@
 use Rattle.std.proofs.Common.{◌∙◌, ap}
 use Rattle.std.specs.Prelude.{is_some}
 use Rattle.std.specs.List.{list_any}
-use Rattle.sw_index.specs.Named.{is_at}
+use Rattle.sw_list.specs.Named.{is_at}
 use Rattle.sw_sizes.proofs.RowLemmas.{there}
 use Rattle.sw_sizes.proofs.sizes.Sizes.has.Goals as goal
 

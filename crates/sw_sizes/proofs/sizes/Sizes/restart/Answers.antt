@@ -1,6 +1,6 @@
 use Rattle.std.proofs.Common.{◌≡◌, ◌∙◌, ◌<◌, List, Some, length, sym, ap, arith}
 use Rattle.std.specs.Prelude.{slice_get}
-use Rattle.sw_index.specs.Named.{values, with_value}
+use Rattle.sw_list.specs.Named.{values, with_value}
 use Rattle.sw_sizes.specs.Rows.{Row}
 use Rattle.sw_sizes.proofs.RowLemmas.{one_promoted, promoted_to}
 use Rattle.sw_sizes.proofs.sizes.Sizes.restart.Goals as goal

@@ -1,6 +1,6 @@
 use Rattle.std.proofs.Common.{refl, sym, subst, arith}
 use Rattle.std.specs.List.{IsDistinct}
-use Rattle.sw_index.specs.Named.{named_row, with_value}
+use Rattle.sw_list.specs.Named.{named_row, with_value}
 use Rattle.sw_sizes.specs.Counted.{is_same}
 use Rattle.sw_sizes.specs.Rows.{Row}
 use Rattle.sw_sizes.proofs.CountedLemmas.{counted_set, held_within, row_within}

@@ -3,7 +3,7 @@ use Rattle.std.specs.Prelude.{filter, not}
 use Rattle.std.specs.List.{IsDistinct}
 use Rattle.std.specs.Map.{keys_of}
 use Rattle.std.proofs.lemmas.Map.Made.{IsDistinct-keys_filter}
-use Rattle.sw_index.specs.Named.{is_at}
+use Rattle.sw_list.specs.Named.{is_at}
 use Rattle.sw_sizes.specs.Counted.{is_same}
 use Rattle.sw_sizes.specs.Rows.{Row, rows_bytes}
 use Rattle.sw_sizes.proofs.CountedLemmas.{counted_taken, held_within, of_key, taken_within}

@@ -10,7 +10,7 @@ use Rattle.sw_store.proofs.store.Store.apply.Goals.{After-commit}
 use Rattle.sw_store.specs.Groups.{IsTooLong}
 use Rattle.sw_store.specs.Stores.{StoreState}
 use Rattle.sw_twin.specs.Twin.{TwinState}
-use Rattle.sw_work.specs.Hosted.{state_of}
+use Rattle.sw_state.specs.Hosted.{state_of}
 
 -- the payload is the event's changes
 payload_is : (g : Over) (c : After-commit g) → c.stage.new.self.payload ≡ c.in-Ok.ensures.staged.more

@@ -7,7 +7,7 @@ use Rattle.sw_store.proofs.Happened.{goes_on, staged_store}
 use Rattle.sw_store.proofs.store.Store.stage.Goals as goal
 use Rattle.sw_store.specs.Groups.{IsGroup, IsPlaced, IsTooLong}
 use Rattle.sw_store.specs.Stores.{FitsBehind, StoreState, store_of}
-use Rattle.sw_work.specs.Hosted.{state_of}
+use Rattle.sw_state.specs.Hosted.{state_of}
 
 pub returns-in-Ok-clause-goes_on : goal.returns-in-Ok-clause-goes_on
 returns-in-Ok-clause-goes_on c begun group =

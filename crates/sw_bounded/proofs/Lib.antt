@@ -1,3 +1,0 @@
-pub mod EvictLemmas
-pub mod PlayLemmas
-pub mod RunLemmas

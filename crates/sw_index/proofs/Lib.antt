@@ -1,4 +1,0 @@
-pub mod FindLemmas
-pub mod IndexLemmas
-mod RowLemmas
-pub mod SlotLemmas

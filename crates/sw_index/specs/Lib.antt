@@ -1,4 +1,0 @@
-pub mod Lends
-pub mod Named
-pub mod Numbered
-pub mod Slots
