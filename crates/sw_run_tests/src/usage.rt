@@ -1,14 +1,10 @@
 //! The usage and the key that goes first, which a run within a limit keeps from event to event, beside the scans whose place
 //! they take.
-ghost use Rattle.std.specs.Prelude.{◌≤◌, ◌^◌};
-
-use crate::disks::{FORMATTED, with_left};
+use crate::hosts::{AMPLE, after, let_go};
 use std::alloc::Global;
 use std::process::Abort;
-use std::snapshot::Snapshot;
-use sw_bucket::{Uses, run_bounded, usage};
+use sw_bucket::{Uses, usage};
 use sw_data::{Entry, Event, NoMemory, Text};
-use sw_record::read_recording;
 use sw_store::Store;
 
 // Each is one event, and each that isn't of a client adds usage.
@@ -27,9 +23,6 @@ const LINES: [&str; 12] = [
     "{\"lane\":0,\"do\":\"put\",\"at\":\"https://b.test/\",\"name\":\"v\",\"request\":\"https://b.test/x\",\"response\":{\"status\":200,\"text\":\"a\"}}\n",
 ];
 
-// More than any of these takes.
-const AMPLE: u64 = 65_536;
-
 // The first lines.
 fn lines(alloc: Global, many: usize) -> Result<String, NoMemory> {
     let mut text = String::new(alloc);
@@ -46,17 +39,44 @@ fn within(
     many: usize,
     limit: u64,
 ) -> Option<(Vec<Entry>, u64, Store)> {
-    let text = lines(alloc, many).ok()?;
-    let recording = read_recording(alloc, text.as_bytes()).ok()?;
-    let mut disk = with_left(rt, alloc, FORMATTED, Vec::new(alloc));
-    let start = Snapshot::of(&disk);
-    let Ok(mut store) = Store::reopen(alloc, &mut disk, 4_294_967_296) else {
-        return None;
-    };
-    match run_bounded(alloc, &mut store, &mut disk, recording, limit, start) {
-        Ok((history, _, used)) => Some((history, used, store)),
-        Err(_) => None,
+    match lines(alloc, many) {
+        Ok(text) => after(rt, alloc, text.as_str(), limit),
+        Err(NoMemory) => None,
     }
+}
+
+// What is at a place of what happens by the first lines within a limit is the host's forget of the key that goes first.
+fn goes_first(
+    rt: &impl Abort,
+    alloc: Global,
+    many: usize,
+    limit: u64,
+    place: usize,
+    first: Option<&Text>,
+) -> bool {
+    match within(rt, alloc, many, limit) {
+        Some((history, _, store)) => {
+            let_go(store);
+            forgets(history.get(place), first)
+        }
+        None => false,
+    }
+}
+
+// The entries from a place on are noted, on the host after the last one.
+fn note_from(
+    alloc: Global,
+    uses: &mut Uses,
+    store: &Store,
+    history: &[Entry],
+    from: usize,
+) -> bool {
+    for entry in history.iter().skip(from) {
+        if uses.note(alloc, store.core(), entry).is_err() {
+            return false;
+        }
+    }
+    true
 }
 
 // An entry is the host's forget of a key; without an entry there is no key.
@@ -82,14 +102,15 @@ fn what_a_bound_keeps_is_what_the_scans_find(rt: HostRuntime) {
     for many in 0..=LINES.len() {
         let (history, used, store) = within(&rt, alloc, many, AMPLE).expect(&rt, "a run");
         assert!(rt; usage(alloc, store.core()) == Ok(used));
-        for entry in history.iter().skip(noted) {
-            assert!(rt; uses.note(alloc, store.core(), entry).is_ok());
-        }
+        assert!(rt; note_from(alloc, &mut uses, &store, &history, noted));
         noted = history.len();
+        let first = uses.victim(alloc, store.core()).expect(&rt, "memory");
+        let_go(store);
         if used > before {
-            let first = uses.victim(alloc, store.core()).expect(&rt, "memory");
-            let (longer, _, _) = within(&rt, alloc, many, used - 1).expect(&rt, "a run");
-            assert!(rt; forgets(longer.get(noted), first.as_ref()), "{many}");
+            assert!(rt;
+                goes_first(&rt, alloc, many, used - 1, noted, first.as_ref()),
+                "{many}"
+            );
         }
         before = used;
     }
