@@ -9,6 +9,9 @@ use sw_disk::{CallKind, Failing, MemoryDisk};
 
 pub(crate) const LIMIT: u64 = 4_294_967_296;
 
+// What `init` makes of the current part.
+pub(crate) const FORMATTED: &[u8] = b"SWHOST-JOURNAL-2\x00";
+
 pub(crate) fn bytes(rt: &impl Abort, alloc: Global, from: &[u8]) -> Bytes
     ensures { result ≡ from.now }
 {
@@ -29,10 +32,21 @@ pub(crate) fn with_left(
     MemoryDisk::new(root, bytes(rt, alloc, left), right, failing)
 }
 
-// A disk in memory with this root, all of whose calls fail from one on.
-pub(crate) fn stopping(rt: &impl Abort, alloc: Global, root: &[u8], after: u64) -> MemoryDisk {
-    let (left, right) = (bytes(rt, alloc, &[]), bytes(rt, alloc, &[]));
-    MemoryDisk::stopping(bytes(rt, alloc, root), left, right, after)
+// A formatted disk in memory, some of whose calls fail.
+pub(crate) fn formatted(rt: &impl Abort, alloc: Global, failing: Vec<Failing>) -> MemoryDisk {
+    with_left(rt, alloc, FORMATTED, failing)
+}
+
+// A disk in memory with this root and this part left, all of whose calls fail from one on.
+pub(crate) fn stopping(
+    rt: &impl Abort,
+    alloc: Global,
+    root: &[u8],
+    left: &[u8],
+    after: u64,
+) -> MemoryDisk {
+    let (root, right) = (bytes(rt, alloc, root), bytes(rt, alloc, &[]));
+    MemoryDisk::stopping(root, bytes(rt, alloc, left), right, after)
 }
 
 // The calls of a kind that fail.

@@ -91,7 +91,7 @@ fn a_plain_disk_works(rt: HostRuntime) {
 
 #[test]
 fn a_disk_stops(rt: HostRuntime) {
-    let mut disk = stopping(&rt, rt.alloc(), &[], 2);
+    let mut disk = stopping(&rt, rt.alloc(), &[], &[], 2);
     assert_eq!(rt; disk.len(Part::Root), Ok(0));
     assert_eq!(rt; write_synced(&mut disk, Part::Right, 0, &[7]), Err(Failed));
     assert_eq!(rt; disk.len(Part::Root), Err(Failed));

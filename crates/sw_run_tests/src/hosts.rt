@@ -1,7 +1,7 @@
 //! Hosts after a recording that one worker ran on the thread of the call.
 ghost use Rattle.std.specs.Prelude.{◌≤◌, ◌^◌};
 
-use crate::disks::{FORMATTED, with_left};
+use crate::devices::formatted;
 use std::alloc::Global;
 use std::process::Abort;
 use std::snapshot::Snapshot;
@@ -21,7 +21,7 @@ pub(crate) fn after(
     limit: u64,
 ) -> Option<(Vec<Entry>, u64, Store)> {
     let recording = read_recording(alloc, text.as_bytes()).ok()?;
-    let mut disk = with_left(rt, alloc, FORMATTED, Vec::new(alloc));
+    let mut disk = formatted(rt, alloc, Vec::new(alloc));
     let start = Snapshot::of(&disk);
     let Ok(mut store) = Store::reopen(alloc, &mut disk, 4_294_967_296) else {
         return None;

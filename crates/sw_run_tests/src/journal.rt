@@ -176,7 +176,7 @@ fn a_crash_keeps_what_was_acknowledged(rt: HostRuntime) {
     let alloc = rt.alloc();
     for pick in &PICKS {
         for after in 0..40u64 {
-            let disk = stopping(&rt, alloc, &[], after);
+            let disk = stopping(&rt, alloc, &[], &[], after);
             assert!(rt; keeps(&rt, alloc, disk, pick), "{after}");
         }
     }

@@ -13,8 +13,6 @@ mod devices;
 #[cfg(test)]
 mod disk;
 #[cfg(test)]
-mod disks;
-#[cfg(test)]
 mod hosts;
 #[cfg(test)]
 mod journal;

@@ -1,5 +1,5 @@
 //! Whole runs: disks that fail, crashes at every call of a disk, and two workers at the network at the same time.
-use crate::disks::{FORMATTED, failing, stopping, with_left};
+use crate::devices::{FORMATTED, failing, formatted, stopping};
 use std::alloc::Global;
 use std::process::Abort;
 use std::sync::Wait;
@@ -90,7 +90,7 @@ fn a_fault_at_the_opening_is_told(rt: HostRuntime) {
         CallKind::Write,
         CallKind::Sync,
     ] {
-        let disk = failing(&rt, alloc, call, 0, 0);
+        let disk = formatted(&rt, alloc, failing(&rt, alloc, call, 0, 0));
         assert!(rt; fails(&rt, alloc, OPEN, disk, "error: disk\n"), "{call:?}");
     }
 }
@@ -103,9 +103,9 @@ fn a_fault_in_a_run_is_told(rt: HostRuntime) {
     let three =
         "- restarted -> 0 registrations 0 caches\nend disk L0.0 cacheOpen, L0.1 cacheOpen, L0.2 cacheOpen\n";
     for (call, number) in [(CallKind::Write, 2), (CallKind::Sync, 3)] {
-        let disk = failing(&rt, alloc, call, number, u64::MAX);
+        let disk = formatted(&rt, alloc, failing(&rt, alloc, call, number, u64::MAX));
         assert!(rt; fails(&rt, alloc, OPEN, disk, one), "{call:?}");
-        let disk = failing(&rt, alloc, call, number, number);
+        let disk = formatted(&rt, alloc, failing(&rt, alloc, call, number, number));
         assert!(rt; fails(&rt, alloc, OPEN_THREE, disk, three), "{call:?}");
     }
 }
@@ -120,7 +120,7 @@ fn streamed<R: Threads + Wait + Sync + Abort>(
     let words = words(rt, alloc, "replay");
     let mut source = source(rt, alloc, OPEN, read);
     let mut sink = MemorySink::new(alloc, calls(rt, alloc, write));
-    let disk = stopping(rt, alloc, CALLS);
+    let disk = stopping(rt, alloc, &[], FORMATTED, CALLS);
     let Outcome { status, .. } = run(rt, alloc, &words, &mut source, &mut sink, disk, &NoGate);
     (status, sink)
 }
@@ -151,7 +151,7 @@ const CUT_FAILED: &str =
 #[test]
 fn a_fault_at_a_checkpoint_is_told(rt: HostRuntime) {
     let alloc = rt.alloc();
-    let disk = failing(&rt, alloc, CallKind::Cut, 0, 0);
+    let disk = formatted(&rt, alloc, failing(&rt, alloc, CallKind::Cut, 0, 0));
     assert!(rt; fails(&rt, alloc, large(&rt, alloc).as_str(), disk, CUT_FAILED));
 }
 
@@ -159,7 +159,7 @@ fn a_fault_at_a_checkpoint_is_told(rt: HostRuntime) {
 #[test]
 fn a_fault_at_a_checkpoint_is_told_of_a_watched_run(rt: HostRuntime) {
     let alloc = rt.alloc();
-    let disk = failing(&rt, alloc, CallKind::Cut, 0, 0);
+    let disk = formatted(&rt, alloc, failing(&rt, alloc, CallKind::Cut, 0, 0));
     let lines = large(&rt, alloc);
     let (status, sink, _) = ran(&rt, alloc, "watch 1", lines.as_str(), disk, &NoGate);
     assert!(rt; status.code() == 6 && sink.bytes() == CUT_FAILED.as_bytes());
@@ -233,7 +233,7 @@ fn keeps<R: Threads + Wait + Sync + Abort>(
     after: u64,
     pick: &[u8],
 ) -> bool {
-    let disk = stopping(rt, alloc, after);
+    let disk = stopping(rt, alloc, &[], FORMATTED, after);
     let (status, sink, disk) = ran(rt, alloc, line, of.lines, disk, &NoGate);
     let least = acknowledged(of, sink.bytes());
     let left = disk.crash(pick).expect(rt, "a crash");
@@ -353,7 +353,7 @@ fn workers_fetch_at_the_same_time(rt: HostRuntime) {
         second: AtomicU32::new(0),
         met: AtomicBool::new(false),
     };
-    let disk = with_left(&rt, rt.alloc(), FORMATTED, Vec::new(rt.alloc()));
+    let disk = formatted(&rt, rt.alloc(), Vec::new(rt.alloc()));
     let (ended, _, _) = ran(&rt, rt.alloc(), "replay 2", TWO_PAGES, disk, &gate);
     assert_eq!(rt; ended.code(), 0);
     assert!(rt; gate.met.load(Ordering::SeqCst), "both at the gate");

@@ -1,7 +1,7 @@
 //! Disks that are opened within a limit, one time after the other.
 ghost use Rattle.std.specs.Prelude.{◌≤◌, ◌^◌};
 
-use crate::disks::with_left;
+use crate::devices::with_left;
 use std::alloc::Global;
 use sw_disk::{Disk, Part};
 use sw_store::{OpenError, Store};

@@ -188,7 +188,7 @@ fn a_crash_keeps_what_was_acknowledged(rt: HostRuntime) {
     for root in roots {
         for after in 0..45u64 {
             for pick in &PICKS {
-                let disk = stopping(&rt, alloc, root, after);
+                let disk = stopping(&rt, alloc, root, &[], after);
                 assert!(rt; keeps(&rt, alloc, disk, pick), "{root:?} {after}");
             }
         }

@@ -1,5 +1,5 @@
 //! Look-ups are answered while a fetch is held.
-use crate::disks::{FORMATTED, with_left};
+use crate::devices::formatted;
 use crate::runs::ran;
 use std::sync::atomic::{AtomicBool, Ordering};
 use std::thread::yield_now;
@@ -65,7 +65,7 @@ fn looks_are_answered_while_a_fetch_is_held(rt: HostRuntime) {
         fetched: AtomicBool::new(false),
         missed: AtomicBool::new(false),
     };
-    let disk = with_left(&rt, rt.alloc(), FORMATTED, Vec::new(rt.alloc()));
+    let disk = formatted(&rt, rt.alloc(), Vec::new(rt.alloc()));
     let (ended, sink, _) = ran(&rt, rt.alloc(), "watch 2", JOINED, disk, &doors);
     assert_eq!(rt; ended.code(), 0);
     assert!(rt; !doors.missed.load(Ordering::SeqCst), "each came");
