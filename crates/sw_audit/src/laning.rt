@@ -9,8 +9,8 @@ ghost use Rattle.sw_data.specs.declared.recordings.Recording.{Recording};
 ghost use Rattle.sw_lane.specs.Picked.{is_ready};
 ghost use Rattle.sw_lane.specs.Recorded.{AreLanesOf};
 
-use sw_data::{Event, Who};
-use sw_lane::{Board, Lanes, event_of_action};
+use sw_data::{Event, Who, event_of_action};
+use sw_lane::{Board, Lanes};
 
 // Whether the next action of a lane may happen.
 fn is_ready<B: Board>(lanes: &Lanes, board: &B, lane: u32) -> bool

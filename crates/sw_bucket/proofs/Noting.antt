@@ -10,7 +10,7 @@ use Rattle.sw_data.specs.declared.events.Who.TheVariants as who
 use Rattle.sw_data.specs.declared.histories.Entry.{Entry}
 use Rattle.sw_data.specs.declared.rows.ClientRow.{ClientRow}
 use Rattle.sw_data.specs.declared.storage.Kept.{Kept}
-use Rattle.sw_data.specs.Events.{who_of}
+use Rattle.sw_data.specs.Events.{named_client, named_page, who_of}
 use Rattle.sw_rules.proofs.HistoryLemmas.{after-snoc}
 use Rattle.sw_rules.specs.Clients.{leave}
 use Rattle.sw_rules.specs.History.{EachFrom, IsStep, Legal, after, after_entries, moved}
@@ -23,7 +23,7 @@ use Rattle.sw_laws.proofs.Lists.{by_truth, length_pushed}
 use Rattle.sw_bucket.proofs.Remaining.{events_remain, is_opening}
 use Rattle.sw_bucket.proofs.Same.{SameKeys, forgotten_from_same, same_named}
 use Rattle.sw_bucket.specs.Noted.{IsForgottenFrom, IsNotedOf, Noted, NotesOne, client_noted, is_ok, key_used_by, last_noted, moved_client}
-use Rattle.sw_bucket.specs.Uses.{client_key, last_from, last_use, named_client, named_page, used_from, used_in, used_key, work_key}
+use Rattle.sw_bucket.specs.Uses.{client_key, last_from, last_use, used_from, used_in, used_key, work_key}
 
 -- ---- the last use
 

@@ -9,6 +9,7 @@ use Rattle.sw_data.specs.declared.workers.Slot.{Slot}
 use Rattle.sw_data.specs.declared.workers.Slot.TheVariants as slot
 use Rattle.sw_data.specs.declared.workers.WorkerState.{WorkerState}
 use Rattle.sw_data.specs.declared.workers.WorkerState.TheVariants as worker_state
+use Rattle.sw_data.specs.Events.{named_client, named_page}
 use Rattle.sw_rules.specs.Caching.{place_key}
 use Rattle.sw_rules.specs.Forgetting.{forget, forget_key, forget_registrations, is_busy, is_mapped_of}
 use Rattle.sw_rules.specs.Registrations.{become, clear, retire, unmap}
@@ -19,7 +20,7 @@ use Rattle.sw_rules.specs.Told.{Told, Outcome, followed}
 use Rattle.sw_laws.proofs.Lists.{by_option, by_result, by_test}
 use Rattle.sw_bucket.specs.Eviction.{forget_event, forget_page}
 use Rattle.sw_bucket.specs.Noted.{IsForgottenFrom, all_forgotten}
-use Rattle.sw_bucket.specs.Uses.{client_key, job_key, named_client, named_key, named_page, page_key, registration_key, task_key, work_key}
+use Rattle.sw_bucket.specs.Uses.{client_key, job_key, named_key, page_key, registration_key, task_key, work_key}
 
 -- the keys of all that an event names are the same
 pub record SameKeys (old new : State) : Type 0 where

@@ -9,7 +9,7 @@ use Rattle.sw_data.specs.declared.histories.Entry.{Entry}
 use Rattle.sw_data.specs.declared.recordings.Action.{Action}
 use Rattle.sw_data.specs.declared.recordings.Action.TheVariants as action
 use Rattle.sw_data.specs.declared.recordings.Recording.{Recording}
-use Rattle.sw_data.specs.Events.{who_of}
+use Rattle.sw_data.specs.Events.{named_client, named_page, who_of}
 use Rattle.sw_codec.proofs.OnLiterals.{codec_on_literals}
 use Rattle.sw_rules.proofs.OnLiterals.{steps_on_literals}
 use Rattle.sw_rules.specs.Durable.{durable}
@@ -20,7 +20,7 @@ use Rattle.sw_rules.specs.Step.{step}
 use Rattle.sw_rules.specs.Storage.{nothing}
 use Rattle.sw_bucket.specs.Eviction.{forget_event, next_bounded}
 use Rattle.sw_sizes.specs.Usage.{usage}
-use Rattle.sw_bucket.specs.Uses.{last_use, named_client, named_page, work_key}
+use Rattle.sw_bucket.specs.Uses.{last_use, work_key}
 
 -- ---- histories
 

@@ -8,50 +8,13 @@ use Rattle.sw_data.specs.declared.events.Who.TheVariants as who
 use Rattle.sw_data.specs.declared.histories.Entry.{Entry}
 use Rattle.sw_data.specs.declared.recordings.Place.{Place}
 use Rattle.sw_data.specs.declared.storage.Kept.{Kept}
+use Rattle.sw_data.specs.Events.{named_client, named_page}
 use Rattle.sw_rules.specs.Caching.{place_key}
 use Rattle.sw_rules.specs.History.{moved}
 use Rattle.sw_rules.specs.Restart.{restart}
 use Rattle.sw_rules.specs.Rows.{client_row, job_row, key_of_worker, registration_row, task_row}
 use Rattle.sw_rules.specs.State.{State}
 use Rattle.sw_rules.specs.Step.{state_after}
-
--- ---- what an event names
-
--- the client that an action names; `await` and `end` name none
-unfoldable pub named_client : Event → Option ℕ
-named_client (event.Open maker client url partition) = Some client
-named_client (event.Close maker client) = Some client
-named_client (event.Register maker asked) = Some asked.client
-named_client (event.Update maker of) = Some of.client
-named_client (event.SoftUpdate maker of) = Some of.client
-named_client (event.Unregister maker of) = Some of.client
-named_client (event.Ready maker client) = Some client
-named_client (event.Registration maker client url) = Some client
-named_client (event.Registrations maker client) = Some client
-named_client (event.SkipWaiting maker of place) = Some of.client
-named_client (event.Claim maker of place) = Some of.client
-named_client (event.Begin maker client number) = Some client
-named_client (event.PreloadEnable maker of) = Some of.client
-named_client (event.PreloadDisable maker of) = Some of.client
-named_client (event.PreloadValue maker of text) = Some of.client
-named_client (event.PreloadState maker of) = Some of.client
-named_client _ = None
-
--- the page that an action on caches names, or a lane that forgets a key; that the host forgets one is no use
-unfoldable pub named_page : Event → Option Place
-named_page (event.CacheOpen maker place name) = Some place
-named_page (event.CacheHas maker place name) = Some place
-named_page (event.CacheDelete maker place name) = Some place
-named_page (event.CacheKeys maker place) = Some place
-named_page (event.Forget (who.Lane lane at) place) = Some place
-named_page (event.Match maker place asked) = Some place
-named_page (event.MatchAll maker place asked) = Some place
-named_page (event.Keys maker place asked) = Some place
-named_page (event.Put maker place put) = Some place
-named_page (event.Delete maker place asked) = Some place
-named_page (event.Batch maker place asked) = Some place
-named_page (event.AddAll maker place asked) = Some place
-named_page _ = None
 
 -- ---- keys
 

@@ -2,11 +2,11 @@
 
 ghost use Rattle.std.specs.Prelude.{◌≡◌, option_and_then, IfOk};
 ghost use Rattle.std.specs.Option.{option_copied};
-ghost use Rattle.sw_bucket.specs.Uses.{caller_key, client_key, job_key, named_client, named_key, named_page, page_key, registration_key, work_key};
+ghost use Rattle.sw_bucket.specs.Uses.{caller_key, client_key, job_key, named_key, page_key, registration_key, work_key};
+ghost use Rattle.sw_data.specs.Events.{named_client, named_page};
 ghost use Rattle.sw_rules.specs.Rows.{key_of_worker};
 ghost use Rattle.sw_state.specs.Hosted.{state_of};
 
-use crate::naming::{named_client, named_page};
 use crate::places::page_key;
 use std::alloc::Global;
 use sw_core::Core;
@@ -85,14 +85,14 @@ fn key_of_client<'a>(core: &'a Core, event: &Event) -> Option<&'a Text>
     ensures { option_copied result
         ≡ option_and_then (client_key (state_of core.now)) (named_client event.now) }
 {
-    client_key(core, named_client(event)?)
+    client_key(core, event.named_client()?)
 }
 
 // The key of the page that an action names.
 fn key_of_page(alloc: Global, event: &Event) -> Result<Option<Text>, NoMemory>
     ensures { IfOk result (λ key. key ≡ option_and_then page_key (named_page event.now)) }
 {
-    match named_page(event) {
+    match event.named_page() {
         Some(place) => page_key(alloc, place),
         None => Ok(None),
     }

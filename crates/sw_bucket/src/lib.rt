@@ -11,7 +11,6 @@ mod ends;
 mod evicting;
 mod keys;
 pub mod laws;
-mod naming;
 mod order;
 mod places;
 mod playing;

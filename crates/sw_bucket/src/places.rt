@@ -8,7 +8,7 @@ ghost use Rattle.sw_data.specs.Keys.{key_origin};
 
 use std::alloc::Global;
 use sw_cachestorage::place_key;
-use sw_data::{Event, NoMemory, Place, Text, Who};
+use sw_data::{Boxed, Event, NoMemory, Place, Text, Who};
 
 /// The key of a page, where it has one.
 pub(crate) fn page_key(alloc: Global, place: &Place) -> Result<Option<Text>, NoMemory>
@@ -52,11 +52,11 @@ fn page_at(alloc: Global, origin: &str) -> Result<Text, NoMemory>
 }
 
 // A text that equals this one, where there is one.
-fn text_of(alloc: Global, text: Option<&str>) -> Result<Option<Text>, NoMemory>
+fn text_of(alloc: Global, text: Option<&str>) -> Result<Option<Boxed<Text>>, NoMemory>
     ensures { IfOk result (λ own. own ≡ option_copied text.entry) }
 {
     match text {
-        Some(text) => Ok(Some(Text::of(alloc, text)?)),
+        Some(text) => Ok(Some(Boxed::new(alloc, Text::of(alloc, text)?)?)),
         None => Ok(None),
     }
 }

@@ -4,7 +4,7 @@ ghost use Rattle.std.specs.Prelude.{◌≡◌, ◌+◌, ◌<◌, ◌++◌, ◌�
 ghost use Rattle.std.specs.Map.{lookup};
 ghost use Rattle.std.specs.Option.{option_copied, option_map_or};
 ghost use Rattle.indexmap.specs.IndexMap.{spare};
-ghost use Rattle.sw_bucket.specs.Noted.{IsForgottenFrom, IsNotedOf, NotesOne, client_noted, is_ok, key_used_by, last_noted};
+ghost use Rattle.sw_bucket.specs.Noted.{IsForgottenFrom, IsNotedOf, NotesOne, client_noted, is_ok, key_used_by, last_noted, moved_client};
 ghost use Rattle.sw_bucket.specs.Uses.{client_key};
 ghost use Rattle.sw_data.specs.declared.histories.Entry as past;
 ghost use Rattle.sw_data.specs.declared.storage.Kept.{Kept};
@@ -13,12 +13,21 @@ ghost use Rattle.sw_rules.specs.Rows.{is_number};
 ghost use Rattle.sw_state.specs.Hosted.{state_of};
 
 use crate::keys::{client_key, copied, named_key};
-use crate::naming::moved_client;
 use indexmap::IndexMap;
 use std::alloc::Global;
 use std::marker::Model;
 use sw_core::Core;
 use sw_data::{Answer, Entry, Event, NoMemory, Text};
+
+// The client that an event opens or closes.
+fn moved_client(event: &Event) -> Option<u32>
+    ensures { result ≡ moved_client event.now }
+{
+    match event {
+        Event::Open { client, .. } | Event::Close { client, .. } => Some(*client),
+        _ => None,
+    }
+}
 
 /// When each key was used last, and the key of each client that is open, so that its closing finds it. The hash of a key
 /// is fixed, so keys can be chosen that collide.

@@ -9,12 +9,12 @@ use Rattle.sw_data.specs.declared.base.no_memory.NoMemory.{NoMemory}
 use Rattle.sw_data.specs.declared.events.Who.{Who}
 use Rattle.sw_data.specs.declared.exchange.Request.{Request}
 use Rattle.sw_data.specs.declared.recordings.CacheAddAll.{CacheAddAll}
-use Rattle.sw_data.specs.declared.storage.KeptCache.{KeptCache}
 use Rattle.sw_rules.specs.Caching.{add_all, fetchable_all, pairs_of, start_task}
 use Rattle.sw_rules.specs.Matching.{Pair}
 use Rattle.sw_rules.specs.Registering.{rejected}
-use Rattle.sw_rules.specs.State.{State, AddAll}
+use Rattle.sw_rules.specs.State.{State}
 use Rattle.sw_rules.specs.Told.{Outcome, type_error}
+use Rattle.sw_state.specs.Hosted.{Hosted, state_of}
 
 -- these requests stand before the rest, where that is good
 abbrev pub behind : List Request → Result (List Request) Cause → Result (List Request) Cause
@@ -39,9 +39,9 @@ module _ (who : Who) (base key : List ℕ) (asked : CacheAddAll) (requests : Lis
       by None is = absurd cc
       by (Some pairs) is = refl
 
-  pub starts : (caches : List KeptCache) (tasks : List AddAll) (result : Result AddAllStep NoMemory)
-      → is_some (pairs_of key asked.name caches) ≡ true → fetchable_all base asked.requests ≡ Ok requests
-      → IfOk result (λ step. (caches : List KeptCache) → IsBegun caches tasks who (λ state. start_task state who key asked.name requests) step)
-      → IfOk result (IsBegun caches tasks who (λ state. add_all state who base asked key))
-  starts caches tasks (Ok step) there good begun = λ others. goes_on (record others { caches = caches; tasks = tasks }) there good ∙ begun caches others
-  starts caches tasks (Err why) there good begun = begun
+  pub starts : (host : Hosted) (result : Result AddAllStep NoMemory)
+      → is_some (pairs_of key asked.name host.caches.rows) ≡ true → fetchable_all base asked.requests ≡ Ok requests
+      → IfOk result (IsBegun who (λ state. start_task state who key asked.name requests) host)
+      → IfOk result (IsBegun who (λ state. add_all state who base asked key) host)
+  starts host (Ok step) there good begun = goes_on (state_of host) there good ∙ begun
+  starts host (Err why) there good begun = begun

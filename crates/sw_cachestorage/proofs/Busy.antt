@@ -1,25 +1,22 @@
 -- Handlers and fetch events of a key are those of the workers of its registrations.
 use Rattle.std.proofs.Common.{◌≡◌, ◌∙◌, ◌&&◌, ◌||◌, ◌==◌, ℕ, Bool, true, false, List, [], ◌∷◌, map, bytes_eq, is_some, Option, Some, None, option_map, option_and_then, refl, sym, ap, arith}
-use Rattle.std.specs.Prelude.{find, is_none}
+use Rattle.std.specs.Prelude.{find}
 use Rattle.std.specs.List.{list_any, range_with_len}
 use Rattle.std.specs.Option.{option_map_or}
 use Rattle.std.specs.Cmp.Lexicographic.{bytes_decides}
 use Rattle.std.proofs.lemmas.Bool.{and_parts}
 use Rattle.std.proofs.lemmas.Bool.Decides.{nat_tests}
 use Rattle.std.proofs.lemmas.List.{length-map}
-use Rattle.sw_client.specs.Table as clients
-use Rattle.sw_client.specs.Table.{clients_of}
-use Rattle.sw_reg.specs.Table as registrations
-use Rattle.sw_data.specs.declared.rows.JobRow.{JobRow}
-use Rattle.sw_rules.specs.Forgetting.{is_busy, is_worker_of_key}
-use Rattle.sw_rules.specs.Rows.{has_pending_worker, is_registration, is_unfinished, is_worker}
-use Rattle.sw_rules.specs.State.{State, AddAll, FetchEvent, Registration, Worker}
-use Rattle.sw_scope.specs.Scopes.{Scopes}
-use Rattle.sw_tables.proofs.Pending.{any_here}
-use Rattle.sw_tables.proofs.Rows.{any_map, find_passes, found_at, found_number}
-use Rattle.sw_tables.specs.Lent.{Rest, lent, shown_registration, shown_worker}
-use Rattle.sw_tables.specs.Linked.{ArePlaces, HasSlots}
-use Rattle.sw_worker.specs.Table as workers
+use Rattle.sw_cachestorage.specs.Forgetting.{has_pending_of}
+use Rattle.sw_rules.specs.Forgetting.{is_worker_of_key}
+use Rattle.sw_rules.specs.Rows.{has_pending_worker, is_registration, is_worker}
+use Rattle.sw_rules.specs.State.{State, FetchEvent, Registration, Worker}
+use Rattle.sw_state.specs.Hosted.{Hosted, IsJoined, rest_of, shown_of, state_of}
+use Rattle.sw_tables.proofs.Pending.{any_here, none_pending, pending_worker}
+use Rattle.sw_tables.proofs.Rows.{find_passes, found_at, found_number}
+use Rattle.sw_tables.specs.Lent.{shown_worker}
+use Rattle.sw_tables.specs.Linked.{ArePlaces}
+use Rattle.sw_tables.specs.Shifts.{IsQuiet}
 
 any_find : {X : Type 0} (test : X → Bool) (xs : List X) → list_any test xs ≡ true → (x : X) × (find test xs ≡ Some x)
 any_find test [] is = absurd cc
@@ -179,36 +176,29 @@ module _ (state : State) (key : List ℕ) (of_workers : ArePlaces (λ (w : Worke
       forth true b first second is = first refl
       forth false b first second is = second is
 
--- the same in the state of linked tables
-pub pending_lent : (scopes : Scopes) (of_workers : workers.Table) (of_registrations : registrations.Table) (of_clients : clients.Table) (rest : Rest) (key : List ℕ) → HasSlots of_workers of_registrations
-    → (let state = lent scopes of_workers of_registrations of_clients rest in
-    (list_any (λ row. is_some row.handler && is_worker_of_key state key row.number) state.workers || list_any (λ row. is_worker_of_key state key row.worker) state.fetch_events))
-    ≡ list_any (λ row. bytes_eq row.key key && has_pending_worker (lent scopes of_workers of_registrations of_clients rest) row.number) of_registrations.rows
-pending_lent scopes of_workers of_registrations of_clients rest key has =
-    let state = lent scopes of_workers of_registrations of_clients rest in
-    pending_of_key state key
-    (places_shown (λ row. row.number) (λ (w : Worker). w.number) shown_worker (λ row. refl) of_workers.rows has.worker_places)
-    (places_shown (λ row. row.number) (λ (r : Registration). r.number) (shown_registration scopes rest) (λ row. refl) of_registrations.rows has.registration_places)
-    ∙ any_map (λ row. bytes_eq row.key key && has_pending_worker state row.number) (shown_registration scopes rest) of_registrations.rows
+-- what is pending on the registrations of a key is pending on the workers of the key
+abbrev pub Either : Hosted → List ℕ → Type 0
+Either host key =
+    has_pending_of key (state_of host)
+    ≡ (list_any (λ row. is_some row.handler && is_worker_of_key (state_of host) key row.number) (state_of host).workers
+    || list_any (λ row. is_worker_of_key (state_of host) key row.worker) (state_of host).fetch_events)
 
-five : (a b c d e p : Bool) → (c || d) ≡ p → (a || b || c || d || e) ≡ (a || (b || (p || e)))
-five true b c d e p is = refl
-five false true c d e p is = refl
-five false false true d e p is = ap (λ q. q || e) is
-five false false false true e p is = ap (λ q. q || e) is
-five false false false false e p is = ap (λ q. q || e) is
+-- workers and registrations of a host are numbered by their places
+module _ (host : Hosted) (joined : IsJoined host) where
+  pub workers_places : ArePlaces (λ (w : Worker). w.number) (state_of host).workers
+  workers_places =
+      places_shown (λ row. row.number) (λ (w : Worker). w.number) shown_worker (λ row. refl) host.workers.rows joined.linked.slots.worker_places
 
--- a key is busy, part by part
-pub busy_as : (scopes : Scopes) (of_workers : workers.Table) (of_registrations : registrations.Table) (of_clients : clients.Table) (rest : Rest) (jobs : List JobRow) (tasks : List AddAll) (key : List ℕ)
-    → HasSlots of_workers of_registrations → rest.jobs ≡ jobs → rest.tasks ≡ tasks
-    → is_busy (lent scopes of_workers of_registrations of_clients rest) key
-    ≡ (list_any (λ row. bytes_eq row.key key) (clients_of of_clients)
-    || (list_any (λ row. is_unfinished row && bytes_eq row.job.key key) jobs
-    || (list_any (λ row. bytes_eq row.key key && has_pending_worker (lent scopes of_workers of_registrations of_clients rest) row.number) of_registrations.rows
-    || list_any (λ row. is_none row.settled && bytes_eq row.key key) tasks)))
-busy_as scopes of_workers of_registrations of_clients rest jobs tasks key has of_jobs of_tasks =
-    five _ _ _ _ _ _ (pending_lent scopes of_workers of_registrations of_clients rest key has)
-    ∙ (λ i. list_any (λ row. bytes_eq row.key key) (clients_of of_clients)
-    || (list_any (λ row. is_unfinished row && bytes_eq row.job.key key) (of_jobs i)
-    || (list_any (λ row. bytes_eq row.key key && has_pending_worker (lent scopes of_workers of_registrations of_clients rest) row.number) of_registrations.rows
-    || list_any (λ row. is_none row.settled && bytes_eq row.key key) (of_tasks i))))
+  pub registrations_places : ArePlaces (λ (r : Registration). r.number) (state_of host).registrations
+  registrations_places =
+      places_shown (λ row. row.number) (λ (r : Registration). r.number) (shown_of host) (λ row. refl) host.registrations.rows joined.linked.slots.registration_places
+
+  -- so handlers and fetch events of a key are those of the workers of its registrations
+  pub pending_on : (key : List ℕ) → Either host key
+  pending_on key = sym (pending_of_key (state_of host) key workers_places registrations_places)
+
+  -- a registration that has no pending worker is quiet
+  pub quiet_one : (number : ℕ) → has_pending_worker (state_of host) number ≡ false → IsQuiet number host.workers host.registrations
+  quiet_one number none =
+      none_pending host.workers host.registrations joined.linked.slots number
+      (pending_worker host.workers host.registrations joined.linked.slots number host.scopes host.clients (rest_of host) ∙ none)

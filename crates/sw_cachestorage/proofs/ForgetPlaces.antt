@@ -1,59 +1,30 @@
 -- Registrations that are forgotten place by place.
-use Rattle.std.proofs.Common.{◌≡◌, ◌∙◌, ◌+◌, ◌*◌, ◌<◌, ◌≤◌, ◌&&◌, ◌==◌, ℕ, zero, suc, Bool, true, false, List, [], ◌∷◌, ◌++◌, bytes_eq, filter, map, drop, length, inl, inr, Option, Some, None, option_map, option_and_then, refl, sym, ap, arith, if◌then◌else◌}
+use Rattle.std.proofs.Common.{◌≡◌, ◌∙◌, ◌+◌, ◌*◌, ◌<◌, ◌≤◌, ◌&&◌, ◌==◌, ℕ, zero, suc, Bool, true, false, List, [], ◌∷◌, ◌++◌, bytes_eq, filter, map, drop, get_or, length, inl, inr, Option, Some, None, option_map, option_and_then, is_some, refl, sym, ap, subst, arith, if◌then◌else◌}
 use Rattle.std.specs.Prelude.{not, slice_get}
-use Rattle.std.specs.List.{range_with_len}
+use Rattle.std.specs.List.{list_any, range_with_len}
 use Rattle.std.specs.Option.{option_map_or}
+use Rattle.std.proofs.lemmas.Bool.{and_parts}
+use Rattle.std.proofs.lemmas.Bool.Decides.{nat_tests}
 use Rattle.std.proofs.lemmas.List.{append-nil, append_assoc, drop_all, drop_more, length-map}
-use Rattle.std.proofs.lemmas.Option.{get_or_from_slice_get, slice_get-map, slice_get_cases, slice_get_within}
-use Rattle.sw_client.specs.Table as clients
-use Rattle.sw_cachestorage.proofs.Busy.{places_shown}
-use Rattle.sw_cachestorage.proofs.Scans.{past_stay}
-use Rattle.sw_cachestorage.specs.Forgetting.{forget_place, forget_row, is_mapped_row, mapped_at, mapped_of, room_of}
+use Rattle.std.proofs.lemmas.Option.{get_or_from_slice_get, slice_get-get_or, slice_get-map, slice_get_cases, slice_get_within}
+use Rattle.sw_cachestorage.proofs.Scans.{none_at, past_stay}
+use Rattle.sw_cachestorage.specs.Forgetting.{forget_at, forget_one, has_pending_of, mapped_at, mapped_of, room_of}
 use Rattle.sw_data.specs.declared.answers.Notice.{Notice}
 use Rattle.sw_data.specs.declared.rows.RegistrationRow.{RegistrationRow}
 use Rattle.sw_data.specs.declared.storage.KeptCache.{KeptCache}
 use Rattle.sw_data.specs.declared.workers.Slot.{Slot}
 use Rattle.sw_data.specs.declared.workers.Slot.TheVariants as slot
 use Rattle.sw_data.specs.declared.workers.WorkerState.TheVariants as worker_state
-use Rattle.sw_reg.specs.Table as registrations
+use Rattle.sw_reg.specs.Table.{is_there, registration_at}
 use Rattle.sw_rules.specs.Forgetting.{forget_key, forget_registrations, is_mapped_of}
 use Rattle.sw_rules.specs.Noticing.{Did, NoticeList}
 use Rattle.sw_rules.specs.Registrations.{become, clear, retire, unmap}
 use Rattle.sw_rules.specs.Rows.{changed, has_pending, has_pending_worker, is_registration, is_worker, slot_worker}
 use Rattle.sw_rules.specs.State.{State, Registration, Worker}
 use Rattle.sw_rules.specs.Told.{Told, followed, quiet}
-use Rattle.sw_scope.specs.Scopes.{Scopes}
+use Rattle.sw_state.specs.Hosted.{Hosted, shown_of, state_of}
 use Rattle.sw_tables.proofs.Rows.{any_same}
-use Rattle.sw_tables.specs.Lent.{Rest, lent, shown_registration}
 use Rattle.sw_tables.specs.Linked.{ArePlaces}
-use Rattle.sw_worker.specs.Table as workers
-
--- ---- the registration at a place
-
--- a registration of this number leaves the map and is cleared
-abbrev pub one_told : State → ℕ → Told
-one_told state number = followed (unmap state number) (λ left. clear left number)
-
-module _ (key : List ℕ) (scopes : Scopes) (of_workers : workers.Table) (of_registrations : registrations.Table) (of_clients : clients.Table) (rest : Rest) where
-  abbrev state : State
-  state = lent scopes of_workers of_registrations of_clients rest
-
-  told_as : (o : Option RegistrationRow)
-      → option_map_or (forget_row key state) (option_map (shown_registration scopes rest) o) (quiet state)
-      ≡ option_map_or (one_told state) (option_and_then (λ row. if is_mapped_row key scopes row then Some row.number else None) o) (quiet state)
-  unfolding forget_row
-  told_as None = refl
-  told_as (Some row) = by (is_mapped_row key scopes row)
-    where
-      by : (b : Bool) → (if b then one_told state row.number else quiet state) ≡ option_map_or (one_told state) (if b then Some row.number else None) (quiet state)
-      by true = refl
-      by false = refl
-
-  -- what is told at a place is what is told of its number
-  pub place_told : (place : ℕ) → forget_place key state place ≡ option_map_or (one_told state) (mapped_at key scopes of_registrations.rows place) (quiet state)
-  place_told place =
-      ap (λ row. option_map_or (forget_row key state) row (quiet state)) (slice_get-map (shown_registration scopes rest) of_registrations.rows place)
-      ∙ told_as (slice_get of_registrations.rows place)
 
 -- ---- what stays
 
@@ -87,16 +58,79 @@ clear_calm from registration =
     }
 
 -- the registrations when this one has left the map
-abbrev pub left_map : ℕ → List Registration → List Registration
+abbrev left_map : ℕ → List Registration → List Registration
 left_map number rows = changed (is_registration number) (λ row. record row { mapped = false }) rows
 
-pub one_registrations : (from : State) (number : ℕ) → (one_told from number).state.registrations ≡ left_map number from.registrations
+one_registrations : (from : State) (number : ℕ) → (forget_one from number).state.registrations ≡ left_map number from.registrations
 unfolding unmap followed
 one_registrations from number = (clear_calm (unmap from number).state number).registrations
 
-pub one_pending : (from : State) (number m : ℕ) → has_pending_worker (one_told from number).state m ≡ has_pending_worker from m
+one_pending : (from : State) (number m : ℕ) → has_pending_worker (forget_one from number).state m ≡ has_pending_worker from m
 unfolding unmap followed
 one_pending from number = (clear_calm (unmap from number).state number).pending
+
+-- what is pending on the workers of a key stays
+pending_stays : (key : List ℕ) (from : State) (number : ℕ) → has_pending_of key (forget_one from number).state ≡ has_pending_of key from
+pending_stays key from number =
+    ap (list_any (λ row. bytes_eq row.key key && has_pending_worker (forget_one from number).state row.number)) (one_registrations from number)
+    ∙ (any_same (λ row. bytes_eq row.key key && has_pending_worker (forget_one from number).state row.number)
+    (λ row. if is_registration number row then record row { mapped = false } else row) (λ row. unmapped row (is_registration number row)) from.registrations
+    ∙ (λ i. list_any (λ row. bytes_eq row.key key && one_pending from number row.number i) from.registrations))
+  where
+    unmapped : (row : Registration) (b : Bool)
+        → (let same = if b then record row { mapped = false } else row in bytes_eq same.key key && has_pending_worker (forget_one from number).state same.number)
+        ≡ (bytes_eq row.key key && has_pending_worker (forget_one from number).state row.number)
+    unmapped row true = refl
+    unmapped row false = refl
+
+-- and the numbers of the registrations do
+numbers_stay : (number : ℕ) (rows : List Registration) → map (λ row. row.number) (left_map number rows) ≡ map (λ row. row.number) rows
+numbers_stay number [] = refl
+numbers_stay number (row ∷ rows) = by (is_registration number row) (numbers_stay number rows)
+  where
+    by : (b : Bool) → map (λ r. r.number) (left_map number rows) ≡ map (λ r. r.number) rows
+        → (if b then record row { mapped = false } else row).number ∷ map (λ r. r.number) (left_map number rows) ≡ row.number ∷ map (λ r. r.number) rows
+    by true later = ap (λ rest. row.number ∷ rest) later
+    by false later = ap (λ rest. row.number ∷ rest) later
+
+-- ---- the registration at a place
+
+front : {X : Type 0} (xs : List X) (place : ℕ) (x : X) → slice_get xs place ≡ Some x → drop place xs ≡ x ∷ drop (place + 1) xs
+front xs place x is = drop_more xs place x (slice_get_within xs place x is) ∙ ap (λ y. y ∷ drop (place + 1) xs) (get_or_from_slice_get xs place x x is)
+
+-- a registration leaves the map and is cleared, where it is a mapped one of the key
+unfoldable forget_row : List ℕ → State → Registration → Told
+forget_row key state row = if is_mapped_of key row then forget_one state row.number else quiet state
+
+at_row : (key : List ℕ) (state : State) (place : ℕ) (row : Registration) → slice_get state.registrations place ≡ Some row → forget_at key state place ≡ forget_row key state row
+unfolding forget_row
+at_row key state place row here =
+    ap (λ o. option_map_or (forget_one state) (option_and_then (λ r. if is_mapped_of key r then Some r.number else None) o) (quiet state)) here
+    ∙ by (is_mapped_of key row)
+  where
+    by : (b : Bool) → option_map_or (forget_one state) (if b then Some row.number else None) (quiet state) ≡ (if b then forget_one state row.number else quiet state)
+    by true = refl
+    by false = refl
+
+asked_of : (key : List ℕ) (state : State) (place : ℕ) (row : Registration) → slice_get state.registrations place ≡ Some row
+    → mapped_at key state place ≡ (if is_mapped_of key row then Some row.number else None)
+asked_of key state place row here = ap (option_and_then (λ r. if is_mapped_of key r then Some r.number else None)) here
+
+-- where nothing is pending on the workers of a key, nothing is on those of its registration at a place
+pub quiet_here : (key : List ℕ) (state : State) (place number : ℕ) → has_pending_of key state ≡ false → mapped_at key state place ≡ Some number → has_pending_worker state number ≡ false
+quiet_here key state place number quiet is = by (slice_get state.registrations place) refl is
+  where
+    one : (row : Registration) (b : Bool) → slice_get state.registrations place ≡ Some row → is_mapped_of key row ≡ b → (if b then Some row.number else None) ≡ Some number → has_pending_worker state number ≡ false
+    one row true here passes same =
+        let own : row.number ≡ number = cc in
+        let of_key = (and_parts row.mapped (bytes_eq row.key key) passes).1 in
+        let none = none_at (λ r. bytes_eq r.key key && has_pending_worker state r.number) state.registrations quiet place row here in
+        ap (has_pending_worker state) (sym own) ∙ grind (arith, of_key, none)
+    one row false here fails same = absurd cc
+
+    by : (o : Option Registration) → slice_get state.registrations place ≡ o → option_and_then (λ r. if is_mapped_of key r then Some r.number else None) o ≡ Some number → has_pending_worker state number ≡ false
+    by None here same = absurd cc
+    by (Some row) here same = one row (is_mapped_of key row) here refl same
 
 -- ---- the rows behind a place stay
 
@@ -114,19 +148,31 @@ behind place rows row are is =
     let next : place + 1 ≡ suc place = omega arith in
     ap (λ n. drop n (left_map row.number rows)) next ∙ behind_from 0 place rows row are is ∙ ap (λ n. drop n rows) (sym next)
 
-front : {X : Type 0} (xs : List X) (place : ℕ) (x : X) → slice_get xs place ≡ Some x → drop place xs ≡ x ∷ drop (place + 1) xs
-front xs place x is = drop_more xs place x (slice_get_within xs place x is) ∙ ap (λ y. y ∷ drop (place + 1) xs) (get_or_from_slice_get xs place x x is)
-
 -- ---- one place after another
 
 -- the mapped registrations of a key among these are forgotten
-abbrev pub forget_of : List ℕ → State → List Registration → Told
+abbrev forget_of : List ℕ → State → List Registration → Told
 forget_of key state rows = forget_registrations state (filter (is_mapped_of key) rows)
 
--- own: the registrations are forgotten up to this place
+-- own: the registrations are forgotten up to this place, nothing is pending on the workers of the key, and there is room for those that are left
 pub record IsLeft (key : List ℕ) (old : State) (before : NoticeList) (new : State) (after : NoticeList) (place : ℕ) : Type 0 where
   pub state : (forget_of key old old.registrations).state ≡ (forget_of key new (drop place new.registrations)).state
   pub notices : before.rows ++ (forget_of key old old.registrations).notices ≡ after.rows ++ (forget_of key new (drop place new.registrations)).notices
+  pub quiet : has_pending_of key new ≡ false
+  pub room : 4 * length (filter (is_mapped_of key) (drop place new.registrations)) ≤ after.spare
+  pub places : ArePlaces (λ (row : Registration). row.number) new.registrations
+  pub many : length new.registrations ≡ length old.registrations
+
+pub none_left : (key : List ℕ) (old : State) (before : NoticeList) → has_pending_of key old ≡ false → 4 * length (mapped_of key old) ≤ before.spare
+    → ArePlaces (λ (row : Registration). row.number) old.registrations → IsLeft key old before old before 0
+none_left key old before quiet room places = record {
+  state = refl;
+  notices = refl;
+  quiet = quiet;
+  room = room;
+  places = places;
+  many = refl;
+}
 
 module _ (key : List ℕ) (from : State) (row : Registration) (rows : List Registration) where
   first_state : (forget_of key from (row ∷ rows)).state ≡ (forget_of key (forget_row key from row).state rows).state
@@ -146,19 +192,40 @@ module _ (key : List ℕ) (from : State) (row : Registration) (rows : List Regis
       by false is = rw is refl
 
 module _ (key : List ℕ) (place : ℕ) (from to : State) (before after : NoticeList) (row : Registration) (are : ArePlaces (λ (r : Registration). r.number) from.registrations)
-    (here : slice_get from.registrations place ≡ Some row) (did : Did (forget_place key from place) before after to) where
-  told : forget_place key from place ≡ forget_row key from row
-  told = ap (λ o. option_map_or (forget_row key from) o (quiet from)) here
+    (here : slice_get from.registrations place ≡ Some row) (did : Did (forget_at key from place) before after to) where
+  told : forget_at key from place ≡ forget_row key from row
+  told = at_row key from place row here
 
   becomes : (forget_row key from row).state ≡ to
   becomes = sym (did.state ∙ ap (λ (t : Told). t.state) told)
 
-  pub others_stay : drop (place + 1) to.registrations ≡ drop (place + 1) from.registrations
+  others_stay : drop (place + 1) to.registrations ≡ drop (place + 1) from.registrations
   unfolding forget_row
   others_stay = ap (λ (s : State). drop (place + 1) s.registrations) (sym becomes) ∙ by (is_mapped_of key row) refl
     where
       by : (b : Bool) → is_mapped_of key row ≡ b → drop (place + 1) (forget_row key from row).state.registrations ≡ drop (place + 1) from.registrations
       by true is = rw is (ap (drop (place + 1)) (one_registrations from row.number) ∙ behind place from.registrations row are here)
+      by false is = rw is refl
+
+  same_numbers : map (λ (r : Registration). r.number) to.registrations ≡ map (λ (r : Registration). r.number) from.registrations
+  unfolding forget_row
+  same_numbers = ap (λ (s : State). map (λ (r : Registration). r.number) s.registrations) (sym becomes) ∙ by (is_mapped_of key row) refl
+    where
+      by : (b : Bool) → is_mapped_of key row ≡ b → map (λ (r : Registration). r.number) (forget_row key from row).state.registrations ≡ map (λ (r : Registration). r.number) from.registrations
+      by true is = rw is (ap (map (λ (r : Registration). r.number)) (one_registrations from row.number) ∙ numbers_stay row.number from.registrations)
+      by false is = rw is refl
+
+  same_many : length to.registrations ≡ length from.registrations
+  same_many =
+      sym (length-map to.registrations (λ (r : Registration). r.number))
+      ∙ (ap length same_numbers ∙ length-map from.registrations (λ (r : Registration). r.number))
+
+  still_quiet : has_pending_of key to ≡ has_pending_of key from
+  unfolding forget_row
+  still_quiet = ap (has_pending_of key) (sym becomes) ∙ by (is_mapped_of key row) refl
+    where
+      by : (b : Bool) → is_mapped_of key row ≡ b → has_pending_of key (forget_row key from row).state ≡ has_pending_of key from
+      by true is = rw is (pending_stays key from row.number)
       by false is = rw is refl
 
   abbrev left : List Registration
@@ -179,108 +246,121 @@ module _ (key : List ℕ) (place : ℕ) (from to : State) (before after : Notice
       ∙ (sym (append_assoc before.rows (forget_row key from row).notices (forget_of key to (drop (place + 1) to.registrations)).notices)
       ∙ ap (λ (rows : List Notice). rows ++ (forget_of key to (drop (place + 1) to.registrations)).notices) (sym (did.notices ∙ ap (λ (t : Told). before.rows ++ t.notices) told))))
 
-  pub next_left : (old : State) (first : NoticeList) → IsLeft key old first from before place → IsLeft key old first to after (place + 1)
-  next_left old first left = record { state = left.state ∙ state_step; notices = left.notices ∙ notices_step }
+  -- those that are left, with this one where it is mapped
+  count_here : length (filter (is_mapped_of key) (drop place from.registrations)) ≡ length (if is_mapped_of key row then row ∷ filter (is_mapped_of key) left else filter (is_mapped_of key) left)
+  count_here = ap (λ rows. length (filter (is_mapped_of key) rows)) (front from.registrations place row here)
 
--- ---- on the tables
-
--- the mapped registrations of the state are those of the rows
-pub mapped_shown : (key : List ℕ) (scopes : Scopes) (rest : Rest) (rows : List RegistrationRow) → length (filter (is_mapped_of key) (map (shown_registration scopes rest) rows)) ≡ length (mapped_of key scopes rows)
-mapped_shown key scopes rest [] = refl
-mapped_shown key scopes rest (row ∷ rows) = by (is_mapped_row key scopes row) (mapped_shown key scopes rest rows)
-  where
-    by : (b : Bool) → length (filter (is_mapped_of key) (map (shown_registration scopes rest) rows)) ≡ length (mapped_of key scopes rows)
-        → length (if b then shown_registration scopes rest row ∷ filter (is_mapped_of key) (map (shown_registration scopes rest) rows) else filter (is_mapped_of key) (map (shown_registration scopes rest) rows))
-        ≡ length (if b then row ∷ mapped_of key scopes rows else mapped_of key scopes rows)
-    by true later = ap suc later
-    by false later = later
-
-abbrev pub left_of : List ℕ → Scopes → Rest → List RegistrationRow → ℕ → ℕ
-left_of key scopes rest rows place = length (filter (is_mapped_of key) (drop place (map (shown_registration scopes rest) rows)))
-
--- the room that a place asks, where there is room for those that are left
-module _ (key : List ℕ) (place : ℕ) (scopes : Scopes) (from : List RegistrationRow) (within : place < length from) where
-  here : (row : RegistrationRow) × (slice_get from place ≡ Some row)
-  here = elim (slice_get_cases from place).1 [
-    | inl it ↦ (it.0, it.2)
-    | inr past ↦ absurd (let far = past.0 in omega (arith, far, within))
-  ]
-
-  shown_here : (rest : Rest) → slice_get (map (shown_registration scopes rest) from) place ≡ Some (shown_registration scopes rest here.0)
-  shown_here rest = slice_get-map (shown_registration scopes rest) from place ∙ ap (option_map (shown_registration scopes rest)) here.1
-
-  abbrev behind_place : Rest → List Registration
-  behind_place rest = filter (is_mapped_of key) (drop (place + 1) (map (shown_registration scopes rest) from))
-
-  count_here : (rest : Rest) → left_of key scopes rest from place ≡ length (if is_mapped_row key scopes here.0 then shown_registration scopes rest here.0 ∷ behind_place rest else behind_place rest)
-  count_here rest = ap (λ rows. length (filter (is_mapped_of key) rows)) (front (map (shown_registration scopes rest) from) place (shown_registration scopes rest here.0) (shown_here rest))
-
-  asked : room_of (mapped_at key scopes from place) ≡ room_of (if is_mapped_row key scopes here.0 then Some here.0.number else None)
-  asked = ap (λ o. room_of (option_and_then (λ row. if is_mapped_row key scopes row then Some row.number else None) o)) here.1
-
-  pub room_here : (rest : Rest) (spare : ℕ) → 4 * left_of key scopes rest from place ≤ spare → room_of (mapped_at key scopes from place) ≤ spare
-  room_here rest spare room = by (is_mapped_row key scopes here.0) (count_here rest) asked
+  room_step : 4 * length (filter (is_mapped_of key) (drop place from.registrations)) ≤ before.spare → before.spare ≤ after.spare + room_of (mapped_at key from place)
+      → 4 * length (filter (is_mapped_of key) (drop (place + 1) to.registrations)) ≤ after.spare
+  room_step room used =
+      by (is_mapped_of key row) count_here (ap room_of (asked_of key from place row here)) (ap (λ rows. length (filter (is_mapped_of key) rows)) others_stay)
     where
-      by : (b : Bool) → left_of key scopes rest from place ≡ length (if b then shown_registration scopes rest here.0 ∷ behind_place rest else behind_place rest)
-          → room_of (mapped_at key scopes from place) ≡ room_of (if b then Some here.0.number else None) → room_of (mapped_at key scopes from place) ≤ spare
-      by true count ask = omega (arith, count, ask, room)
-      by false count ask = omega (arith, ask)
+      by : (b : Bool) → length (filter (is_mapped_of key) (drop place from.registrations)) ≡ length (if b then row ∷ filter (is_mapped_of key) left else filter (is_mapped_of key) left)
+          → room_of (mapped_at key from place) ≡ room_of (if b then Some row.number else None)
+          → length (filter (is_mapped_of key) (drop (place + 1) to.registrations)) ≡ length (filter (is_mapped_of key) left)
+          → 4 * length (filter (is_mapped_of key) (drop (place + 1) to.registrations)) ≤ after.spare
+      by true count ask same = omega (arith, count, ask, same, room, used)
+      by false count ask same = omega (arith, count, ask, same, room, used)
 
-  room_behind : (rest : Rest) (spare left : ℕ) → 4 * left_of key scopes rest from place ≤ spare → spare ≤ left + room_of (mapped_at key scopes from place) → 4 * length (behind_place rest) ≤ left
-  room_behind rest spare left room used = by (is_mapped_row key scopes here.0) (count_here rest) asked
+  next_left : before.spare ≤ after.spare + room_of (mapped_at key from place) → (old : State) (first : NoticeList) → IsLeft key old first from before place → IsLeft key old first to after (place + 1)
+  next_left used old first so_far = record {
+    state = so_far.state ∙ state_step;
+    notices = so_far.notices ∙ notices_step;
+    quiet = still_quiet ∙ so_far.quiet;
+    room = room_step so_far.room used;
+    places = same_numbers ∙ (are ∙ ap (range_with_len 0) (sym same_many));
+    many = same_many ∙ so_far.many;
+  }
+
+-- a place that is not past the end has a row
+row_at : {X : Type 0} (xs : List X) (place : ℕ) → place < length xs → (x : X) × (slice_get xs place ≡ Some x)
+row_at xs place within = elim (slice_get_cases xs place).1 [
+  | inl it ↦ (it.0, it.2)
+  | inr past ↦ absurd (let far = past.0 in omega (arith, far, within))
+]
+
+module _ (key : List ℕ) (old : State) (first : NoticeList) (from : State) (before : NoticeList) (place : ℕ) (so_far : IsLeft key old first from before place) (within : place < length old.registrations) where
+  found : (row : Registration) × (slice_get from.registrations place ≡ Some row)
+  found = let many = so_far.many in row_at from.registrations place (omega (arith, many, within))
+
+  -- there is room for the registration at this place
+  pub room_here : room_of (mapped_at key from place) ≤ before.spare
+  room_here =
+      by (is_mapped_of key found.0) (ap (λ rows. length (filter (is_mapped_of key) rows)) (front from.registrations place found.0 found.1)) (ap room_of (asked_of key from place found.0 found.1)) so_far.room
     where
-      by : (b : Bool) → left_of key scopes rest from place ≡ length (if b then shown_registration scopes rest here.0 ∷ behind_place rest else behind_place rest)
-          → room_of (mapped_at key scopes from place) ≡ room_of (if b then Some here.0.number else None) → 4 * length (behind_place rest) ≤ left
-      by true count ask = omega (arith, count, ask, room, used)
-      by false count ask = omega (arith, count, ask, room, used)
+      by : (b : Bool) → length (filter (is_mapped_of key) (drop place from.registrations))
+          ≡ length (if b then found.0 ∷ filter (is_mapped_of key) (drop (place + 1) from.registrations) else filter (is_mapped_of key) (drop (place + 1) from.registrations))
+          → room_of (mapped_at key from place) ≡ room_of (if b then Some found.0.number else None)
+          → 4 * length (filter (is_mapped_of key) (drop place from.registrations)) ≤ before.spare → room_of (mapped_at key from place) ≤ before.spare
+      by true count ask room = omega (arith, count, ask, room)
+      by false count ask room = omega (arith, ask)
 
-told_length : (key : List ℕ) (from : State) (o : Option Registration) → length (option_map_or (forget_row key from) o (quiet from)).state.registrations ≡ length from.registrations
-unfolding forget_row
-told_length key from None = refl
-told_length key from (Some row) = by (is_mapped_of key row)
-  where
-    by : (b : Bool) → length (if b then one_told from row.number else quiet from).state.registrations ≡ length from.registrations
-    by true = ap length (one_registrations from row.number) ∙ length-map from.registrations (λ r. if is_registration row.number r then record r { mapped = false } else r)
-    by false = refl
-
-pub rows_shown : (scopes : Scopes) (rest : Rest) (rows : List RegistrationRow) → ArePlaces (λ (r : RegistrationRow). r.number) rows → ArePlaces (λ (r : Registration). r.number) (map (shown_registration scopes rest) rows)
-rows_shown scopes rest rows are = places_shown (λ (r : RegistrationRow). r.number) (λ (r : Registration). r.number) (shown_registration scopes rest) (λ r. refl) rows are
-
-module _ (key : List ℕ) (place : ℕ) (scopes after : Scopes) (old new : workers.Table) (from to : registrations.Table) (of_clients : clients.Table) (told_before told_after : NoticeList)
-    (are : ArePlaces (λ (r : RegistrationRow). r.number) from.rows) (within : place < length from.rows)
-    (did : (rest : Rest) → Did (forget_place key (lent scopes old from of_clients rest) place) told_before told_after (lent after new to of_clients rest)) where
-  pub goes_on : (rest : Rest) (start : State) (first : NoticeList) → IsLeft key start first (lent scopes old from of_clients rest) told_before place → IsLeft key start first (lent after new to of_clients rest) told_after (place + 1)
-  goes_on rest start first left =
-      next_left key place (lent scopes old from of_clients rest) (lent after new to of_clients rest) told_before told_after (shown_registration scopes rest (here key place scopes from.rows within).0)
-      (rows_shown scopes rest from.rows are) (shown_here key place scopes from.rows within rest) (did rest) start first left
-
-  pub same_length : (rest : Rest) → length to.rows ≡ length from.rows
-  same_length rest =
-      sym (length-map to.rows (shown_registration after rest))
-      ∙ (ap (λ (state : State). length state.registrations) (did rest).state
-      ∙ (told_length key (lent scopes old from of_clients rest) (slice_get (map (shown_registration scopes rest) from.rows) place)
-      ∙ length-map from.rows (shown_registration scopes rest)))
-
-  pub room_left : (rest : Rest) → 4 * left_of key scopes rest from.rows place ≤ told_before.spare → told_before.spare ≤ told_after.spare + room_of (mapped_at key scopes from.rows place)
-      → 4 * left_of key after rest to.rows (place + 1) ≤ told_after.spare
-  room_left rest room used =
-      let behind_it = room_behind key place scopes from.rows within rest told_before.spare told_after.spare room used in
-      let same = ap (λ rows. length (filter (is_mapped_of key) rows))
-      (others_stay key place (lent scopes old from of_clients rest) (lent after new to of_clients rest) told_before told_after (shown_registration scopes rest (here key place scopes from.rows within).0)
-      (rows_shown scopes rest from.rows are) (shown_here key place scopes from.rows within rest) (did rest)) in
-      omega (arith, behind_it, same)
-
--- ---- at the end
+  pub goes_on : (to : State) (after : NoticeList) → Did (forget_at key from place) before after to → before.spare ≤ after.spare + room_of (mapped_at key from place) → IsLeft key old first to after (place + 1)
+  goes_on to after did used = next_left key place from to before after found.0 so_far.places found.1 did used old first so_far
 
 -- all places are done, and the caches of the key are removed
 pub all_left : (key : List ℕ) (old new : State) (first last : NoticeList) (place : ℕ) (caches : List KeptCache)
-    → IsLeft key old first new last place → length new.registrations ≤ place → caches ≡ filter (λ row. not (bytes_eq row.key key)) new.caches
+    → IsLeft key old first new last place → length old.registrations ≤ place → caches ≡ filter (λ row. not (bytes_eq row.key key)) new.caches
     → Did (forget_key old key) first last (record new { caches = caches })
 unfolding forget_key forget_registrations
 all_left key old new first last place caches left far removed =
-    let none = drop_all place new.registrations far in
+    let many = left.many in
+    let none = drop_all place new.registrations (omega (arith, many, far)) in
     let done : (forget_of key old old.registrations).state ≡ new = left.state ∙ ap (λ rows. (forget_of key new rows).state) none in
     record {
       state = sym (ap (λ (s : State). record s { caches = filter (λ row. not (bytes_eq row.key key)) s.caches }) done ∙ (λ i. record new { caches = sym removed i }));
       notices = sym (append-nil last.rows) ∙ sym (left.notices ∙ ap (λ rows. last.rows ++ (forget_of key new rows).notices) none);
     }
+
+-- ---- on the tables
+
+here_from : (base place : ℕ) (rows : List RegistrationRow) (row : RegistrationRow) → map (λ r. r.number) rows ≡ range_with_len base (length rows) → slice_get rows place ≡ Some row
+    → (base ≤ row.number) × (registration_at row.number rows ≡ Some row)
+here_from base place [] row are is = absurd cc
+here_from base zero (first ∷ rows) row are is =
+    let here : first.number ≡ base = cc in
+    let same : first ≡ row = cc in
+    let own : row.number ≡ base = cc in (
+      omega (arith, own),
+      grind (arith, nat_tests, own, here, same),
+    )
+here_from base (suc place) (first ∷ rows) row are is =
+    let here : first.number ≡ base = cc in
+    let later = here_from (base + 1) place rows row (cc) is in
+    let above = later.0 in
+    let found = later.1 in (
+      omega (arith, above),
+      grind (arith, nat_tests, here, above, found),
+    )
+
+-- the registration at a place is that of its number
+pub there_at : (rows : List RegistrationRow) (place : ℕ) (row : RegistrationRow) → ArePlaces (λ r. r.number) rows → slice_get rows place ≡ Some row → is_there row.number rows ≡ true
+there_at rows place row are is = ap is_some (here_from 0 place rows row are is).1
+
+-- a row that is read at a place is there
+pub read_at : (xs ys : List RegistrationRow) (place : ℕ) (row : RegistrationRow) → xs ≡ ys → place < length xs → row ≡ get_or xs place row → slice_get ys place ≡ Some row
+read_at xs ys place row same within is =
+    subst (λ (zs : List RegistrationRow). slice_get zs place ≡ Some row) same (slice_get-get_or xs place row within ∙ ap Some (sym is))
+
+-- it is the mapped one of the key, or it isn't
+pub shown_at : (host : Hosted) (key : List ℕ) (place : ℕ) (found : Option RegistrationRow) → slice_get host.registrations.rows place ≡ found
+    → mapped_at key (state_of host) place ≡ option_and_then (λ row. if is_mapped_of key (shown_of host row) then Some row.number else None) found
+shown_at host key place found is =
+    ap (option_and_then (λ (row : Registration). if is_mapped_of key row then Some row.number else None)) (slice_get-map (shown_of host) host.registrations.rows place ∙ ap (option_map (shown_of host)) is)
+    ∙ by found
+  where
+    by : (o : Option RegistrationRow) → option_and_then (λ (row : Registration). if is_mapped_of key row then Some row.number else None) (option_map (shown_of host) o)
+        ≡ option_and_then (λ row. if is_mapped_of key (shown_of host row) then Some row.number else None) o
+    by None = refl
+    by (Some row) = refl
+
+-- the mapped registrations of the state are those of the rows
+pub filter_shown : (host : Hosted) (key : List ℕ) (rows : List RegistrationRow) → length (filter (is_mapped_of key) (map (shown_of host) rows)) ≡ length (filter (λ row. is_mapped_of key (shown_of host row)) rows)
+filter_shown host key [] = refl
+filter_shown host key (row ∷ rows) = by (is_mapped_of key (shown_of host row)) (filter_shown host key rows)
+  where
+    by : (b : Bool) → length (filter (is_mapped_of key) (map (shown_of host) rows)) ≡ length (filter (λ r. is_mapped_of key (shown_of host r)) rows)
+        → length (if b then shown_of host row ∷ filter (is_mapped_of key) (map (shown_of host) rows) else filter (is_mapped_of key) (map (shown_of host) rows))
+        ≡ length (if b then row ∷ filter (λ r. is_mapped_of key (shown_of host r)) rows else filter (λ r. is_mapped_of key (shown_of host r)) rows)
+    by true later = ap suc later
+    by false later = later

@@ -9,9 +9,8 @@ pub mod OpsLemmas
 pub mod ParsedLemmas
 pub mod PlaceLemmas
 pub mod Busy
-pub mod Quiet
 pub mod Scans
 pub mod Settling
-pub mod StayQuiet
+pub mod Starting
 pub mod UnparsedLemmas
 pub mod WriteLemmas

@@ -1,5 +1,5 @@
 -- One row after another of a list.
-use Rattle.std.proofs.Common.{◌≡◌, ◌∙◌, ◌+◌, ◌≤◌, ◌<◌, ◌||◌, ◌==◌, ℕ, Bool, false, List, [], ◌∷◌, map, drop, get_or, length, inl, inr, refl, ap, subst, arith}
+use Rattle.std.proofs.Common.{◌≡◌, ◌∙◌, ◌+◌, ◌≤◌, ◌<◌, ◌||◌, ◌==◌, ℕ, zero, suc, Bool, false, List, [], ◌∷◌, map, drop, get_or, length, inl, inr, Some, refl, ap, subst, arith}
 use Rattle.std.specs.Prelude.{slice_get}
 use Rattle.std.specs.List.{list_any, range_with_len}
 use Rattle.std.specs.Option.{option_map_or}
@@ -36,9 +36,18 @@ module _ {X : Type 0} (test : X → Bool) (xs : List X) where
   any_gone i far = at_drop_all (list_any test) xs i far
 
   -- the row at this place of the same list passes or not
-  pub passes_here : (ys : List X) (i : ℕ) (x : X) → ys ≡ xs → x ≡ get_or ys i x → i < length ys → list_any test xs ≡ list_any test (drop i xs) → list_any test xs ≡ (test x || list_any test (drop (i + 1) xs))
-  passes_here ys i x same is within so_far =
+  pub passes_here : (ys : List X) (i : ℕ) (x : X) → ys ≡ xs → x ≡ get_or ys i x → i < length ys → list_any test (drop i xs) ≡ (test x || list_any test (drop (i + 1) xs))
+  passes_here ys i x same is within =
       let here : x ≡ get_or xs i x = is ∙ ap (λ (zs : List X). get_or zs i x) same in
       let inside : i < length xs = subst (λ (zs : List X). i < length zs) same within in
       let more = at_drop_more (list_any test) xs i x inside in
-      grind (arith, here, more, so_far)
+      grind (arith, here, more)
+
+  -- where none passes, that of a place doesn't
+  pub none_at : list_any test xs ≡ false → (i : ℕ) (x : X) → slice_get xs i ≡ Some x → test x ≡ false
+  none_at none i x is = none_of xs i none is
+    where
+      none_of : (ys : List X) (i : ℕ) → list_any test ys ≡ false → slice_get ys i ≡ Some x → test x ≡ false
+      none_of [] i none is = absurd cc
+      none_of (y ∷ ys) zero none is = let same : y ≡ x = cc in grind (arith, none, same)
+      none_of (y ∷ ys) (suc i) none is = none_of ys i (grind (arith, none)) is

@@ -1,27 +1,27 @@
 -- An addAll settles: the state that is left, the links between the tables, and the counts of unsettled addAlls.
-use Rattle.std.proofs.Common.{◌≡◌, ◌∙◌, ◌+◌, ◌==◌, ℕ, Bool, true, false, List, [], ◌∷◌, filter, map, length, Option, Some, None, option_map, option_and_then, is_some, refl, sym, ap, arith, subst, if◌then◌else◌}
+use Rattle.std.proofs.Common.{◌≡◌, ◌∙◌, ◌+◌, ◌<◌, ◌==◌, ℕ, Bool, true, false, List, [], ◌∷◌, filter, map, length, Option, Some, None, option_map, option_and_then, is_some, refl, sym, ap, arith, subst, if◌then◌else◌}
 use Rattle.std.specs.Prelude.{find, is_none, nat_lt, IfSome}
 use Rattle.std.specs.List.{range_with_len}
 use Rattle.std.specs.Option.{option_map_or}
 use Rattle.std.proofs.lemmas.Bool.Decides.{nat_tests}
-use Rattle.sw_client.specs.Table as clients
 use Rattle.sw_cachestorage.proofs.Scans.{past_stay}
-use Rattle.sw_cachestorage.specs.Added.{maker_of, noted_settled, with_tasks}
+use Rattle.sw_cachestorage.specs.Added.{maker_of, noted_settled}
 use Rattle.sw_data.specs.declared.answers.Settlement.{Settlement}
 use Rattle.sw_data.specs.declared.rows.HandlerRow.{HandlerRow}
 use Rattle.sw_data.specs.declared.rows.WorkerRow.{WorkerRow}
+use Rattle.sw_ledgers.specs.Tasks as tasks
 use Rattle.sw_ledgers.specs.Tasks.{has_task}
 use Rattle.sw_reg.specs.Table as registrations
 use Rattle.sw_rules.specs.Caching.{is_maker, noted_task, settle_task}
 use Rattle.sw_rules.specs.Rows.{changed, is_number, is_task, is_unsettled_of, maker_worker}
 use Rattle.sw_rules.specs.State.{AddAll, Worker}
-use Rattle.sw_scope.specs.Scopes.{Scopes}
-use Rattle.sw_tables.proofs.OneMoves.{StaysPut, put_linked, put_slots}
+use Rattle.sw_state.specs.Hosted.{Hosted, IsJoined, rest_of, state_of}
+use Rattle.sw_tables.proofs.OneMoves.{StaysPut, put_linked}
 use Rattle.sw_tables.proofs.Rows.{at_changed, at_others}
 use Rattle.sw_tables.proofs.Shown.{seen_changed}
 use Rattle.sw_tables.specs.Happened.{CountsTasks, unsettled_of}
-use Rattle.sw_tables.specs.Lent.{Rest, lent, shown_worker}
-use Rattle.sw_tables.specs.Linked.{ArePlaces, HasSlots, Linked}
+use Rattle.sw_tables.specs.Lent.{lent, shown_worker}
+use Rattle.sw_tables.specs.Linked.{ArePlaces, Linked}
 use Rattle.sw_tables.specs.Parts.{StayLinked}
 use Rattle.sw_worker.specs.Edits.{task_counted, with_handler}
 use Rattle.sw_worker.specs.Table as workers
@@ -50,22 +50,17 @@ workers_shown (Some worker) fault rows =
     seen_changed shown_worker (is_worker worker) (noted fault) (is_maker (Some worker)) (λ row. record row { handler = option_map (noted_task fault) row.handler })
     (λ row. grind (arith, nat_tests)) (noted_shown fault) rows
 
-pub settled_state : (task : ℕ) (value : Settlement) (fault : Bool) (maker : Option ℕ) (tasks after : List AddAll) (old new : workers.Table)
-    → maker ≡ maker_of task tasks → after ≡ changed (is_task task) (λ row. record row { settled = Some value }) tasks
-    → new ≡ record old { rows = noted_settled maker fault old.rows }
-    → (scopes : Scopes) (of : registrations.Table) (of_clients : clients.Table) (rest : Rest) → rest.tasks ≡ tasks
-    → lent scopes new of of_clients (with_tasks after rest) ≡ (settle_task (lent scopes old of of_clients rest) task value fault).state
-unfolding settle_task
-settled_state task value fault maker tasks after old new made is_after is scopes of of_clients rest same =
-    (λ i. lent scopes (is i) of of_clients (with_tasks (is_after i) rest))
-    ∙ (λ i. record (lent scopes old of of_clients rest) {
-      tasks = changed (is_task task) (λ row. record row { settled = Some value }) (sym same i);
-      workers = workers_shown (made i) fault old.rows i;
-    })
-    ∙ (λ i. record (lent scopes old of of_clients rest) {
-      tasks = changed (is_task task) (λ row. record row { settled = Some value }) rest.tasks;
-      workers = changed (is_maker (maker_of task (sym same i))) (λ row. record row { handler = option_map (noted_task fault) row.handler }) (map shown_worker old.rows);
-    })
+module _ (task : ℕ) (value : Settlement) (fault : Bool) (maker : Option ℕ) (host : Hosted) (of_workers : workers.Table) (of_tasks : tasks.Table)
+    (made : maker ≡ maker_of task host.tasks.rows) (settles : of_tasks.rows ≡ changed (is_task task) (λ row. record row { settled = Some value }) host.tasks.rows)
+    (notes : of_workers ≡ record host.workers { rows = noted_settled maker fault host.workers.rows }) where
+  pub settled_state : state_of (record host { workers = of_workers; tasks = of_tasks }) ≡ (settle_task (state_of host) task value fault).state
+  unfolding settle_task
+  settled_state =
+      (λ i. lent host.scopes (notes i) host.registrations host.clients (record (rest_of host) { tasks = settles i }))
+      ∙ (λ i. record (state_of host) {
+        tasks = changed (is_task task) (λ row. record row { settled = Some value }) host.tasks.rows;
+        workers = workers_shown (made i) fault host.workers.rows i;
+      })
 
 -- ---- the links
 
@@ -76,17 +71,11 @@ puts fault = record { number = λ row. refl; owner = λ row. refl; state = λ ro
     there None is = is
     there (Some handler) is = refl
 
-module _ (fault : Bool) (old new : workers.Table) (of : registrations.Table) where
-  pub still_slots : (maker : Option ℕ) → IfSome maker (λ number. has_worker has_unsettled number old.rows ≡ true) → new ≡ record old { rows = noted_settled maker fault old.rows }
-      → HasSlots old of → HasSlots new of
-  still_slots None counted is has = subst (λ table. HasSlots table of) (sym is) has
-  still_slots (Some worker) counted is has = put_slots has_unsettled worker (noted fault) old new of (puts fault) has counted is
-
-  pub still_linked : (maker : Option ℕ) → IfSome maker (λ number. has_worker has_unsettled number old.rows ≡ true) → new ≡ record old { rows = noted_settled maker fault old.rows }
-      → StayLinked old of new of
-  still_linked None counted is scopes of_clients linked = subst (λ table. Linked scopes table of of_clients) (sym is) linked
-  still_linked (Some worker) counted is scopes of_clients linked =
-      put_linked has_unsettled worker (noted fault) old new of (puts fault) linked.slots counted is scopes of_clients linked
+still_linked : (fault : Bool) (old new : workers.Table) (of : registrations.Table) (maker : Option ℕ) → IfSome maker (λ number. has_worker has_unsettled number old.rows ≡ true)
+    → new ≡ record old { rows = noted_settled maker fault old.rows } → StayLinked old of new of
+still_linked fault old new of None counted is scopes of_clients linked = subst (λ table. Linked scopes table of of_clients) (sym is) linked
+still_linked fault old new of (Some worker) counted is scopes of_clients linked =
+    put_linked has_unsettled worker (noted fault) old new of (puts fault) linked.slots counted is scopes of_clients linked
 
 -- ---- the counts
 
@@ -164,7 +153,7 @@ workers_less fault n rows (Some worker) has = by (worker == n) refl
         let stays = ap counted_in (at_others (λ (row : WorkerRow). row.number) (noted fault) (λ row. refl) n worker other rows) in
         omega (arith, stays)
 
-pub settled_counts : (task : ℕ) (value : Settlement) (fault : Bool) (maker : Option ℕ) (tasks after : List AddAll) (old new : workers.Table)
+settled_counts : (task : ℕ) (value : Settlement) (fault : Bool) (maker : Option ℕ) (tasks after : List AddAll) (old new : workers.Table)
     → maker ≡ maker_of task tasks → after ≡ changed (is_task task) (λ row. record row { settled = Some value }) tasks
     → new ≡ record old { rows = noted_settled maker fault old.rows }
     → ArePlaces (λ row. row.number) tasks → has_task (λ row. is_none row.settled) task tasks ≡ true
@@ -177,3 +166,63 @@ settled_counts task value fault maker tasks after old new made is_after is are t
     let left = ap (λ (t : workers.Table). unsettled_of n t.rows) is in
     let right = ap (λ (rows : List AddAll). length (filter (is_unsettled_of n) rows)) is_after in
     omega (arith, of_workers, of_tasks, same, makers, left, right)
+
+-- one that is found and passes is counted
+passing : (found test : AddAll → Bool) (rows : List AddAll) (row : AddAll) → find found rows ≡ Some row → test row ≡ true → 0 < length (filter test rows)
+passing found test [] row is passes = absurd cc
+passing found test (first ∷ rows) row is passes = by (found first) (test first) refl refl (λ rest. passing found test rows row rest passes)
+  where
+    by : (f t : Bool) → found first ≡ f → test first ≡ t → (find found rows ≡ Some row → 0 < length (filter test rows)) → 0 < length (filter test (first ∷ rows))
+    by f true one two later = let many : filter test (first ∷ rows) ≡ first ∷ filter test rows = cc two in subst (λ (list : List AddAll). 0 < length list) (sym many) (omega arith)
+    by false false one two later =
+        let rest : find found rows ≡ Some row = cc (one, is) in
+        let many : filter test (first ∷ rows) ≡ filter test rows = cc two in
+        subst (λ (list : List AddAll). 0 < length list) (sym many) (later rest)
+    by true false one two later = let same : first ≡ row = cc (one, is) in absurd (cc (same, two, passes))
+
+has_some : (worker : ℕ) (rows : List WorkerRow) → 0 < unsettled_of worker rows → has_worker has_unsettled worker rows ≡ true
+has_some worker rows = by (worker_at worker rows)
+  where
+    inner : (row : WorkerRow) (found : Option HandlerRow) → row.handler ≡ found → 0 < counted found → has_unsettled row ≡ true
+    inner row (Some handler) is more = let less : nat_lt 0 handler.unsettled ≡ true = grind (arith, nat_tests, more) in cc (is, less)
+    inner row None is more = absurd (omega (arith, more))
+
+    by : (found : Option WorkerRow) → 0 < counted_in found → option_map_or has_unsettled found false ≡ true
+    by (Some row) more = inner row row.handler refl more
+    by None more = absurd (omega (arith, more))
+
+-- an addAll that has not settled is counted by the handler that made it
+pub unsettled_counted : (of_workers : workers.Table) (rows : List AddAll) (task : ℕ) → has_task (λ row. is_none row.settled) task rows ≡ true → CountsTasks of_workers rows
+    → IfSome (maker_of task rows) (λ worker. has_worker has_unsettled worker of_workers.rows ≡ true)
+unsettled_counted of_workers rows task unsettled counts = by (find (is_task task) rows) refl unsettled
+  where
+    made : (row : AddAll) → find (is_task task) rows ≡ Some row → is_none row.settled ≡ true → (maker : Option ℕ) → maker_worker row.maker ≡ maker
+        → IfSome maker (λ worker. has_worker has_unsettled worker of_workers.rows ≡ true)
+    made row is open_ None none = tt
+    made row is open_ (Some worker) of =
+        let passes : is_unsettled_of worker row ≡ true = grind (arith, nat_tests, open_, of) in
+        let more = passing (is_task task) (is_unsettled_of worker) rows row is passes in
+        let count = counts worker in
+        has_some worker of_workers.rows (omega (arith, more, count))
+
+    by : (found : Option AddAll) → find (is_task task) rows ≡ found → option_map_or (λ row. is_none row.settled) found false ≡ true
+        → IfSome (maker_of task rows) (λ worker. has_worker has_unsettled worker of_workers.rows ≡ true)
+    by (Some row) is open_ =
+        subst (λ (o : Option AddAll). IfSome (option_and_then (λ r. maker_worker r.maker) o) (λ worker. has_worker has_unsettled worker of_workers.rows ≡ true)) (sym is)
+        (made row is open_ (maker_worker row.maker) refl)
+    by None is open_ = absurd cc
+
+-- the tables of a host belong together where an addAll has settled
+pub settled_joined : (task : ℕ) (value : Settlement) (fault : Bool) (maker : Option ℕ) (host : Hosted) (of_workers : workers.Table) (of_tasks : tasks.Table)
+    → maker ≡ maker_of task host.tasks.rows → of_tasks.rows ≡ changed (is_task task) (λ row. record row { settled = Some value }) host.tasks.rows
+    → of_workers ≡ record host.workers { rows = noted_settled maker fault host.workers.rows }
+    → ArePlaces (λ row. row.number) host.tasks.rows → has_task (λ row. is_none row.settled) task host.tasks.rows ≡ true
+    → IsJoined host → IsJoined (record host { workers = of_workers; tasks = of_tasks })
+settled_joined task value fault maker host of_workers of_tasks made settles notes are unsettled joined =
+    let counted =
+    subst (λ m. IfSome m (λ worker. has_worker has_unsettled worker host.workers.rows ≡ true)) (sym made)
+    (unsettled_counted host.workers host.tasks.rows task unsettled joined.counts) in
+    record {
+      linked = still_linked fault host.workers of_workers host.registrations maker counted notes host.scopes host.clients joined.linked;
+      counts = settled_counts task value fault maker host.tasks.rows of_tasks.rows host.workers of_workers made settles notes are unsettled counted joined.counts;
+    }

@@ -16,14 +16,13 @@ use Rattle.sw_data.specs.declared.exchange.Response.{Response}
 use Rattle.sw_data.specs.declared.recordings.Fetched.{Fetched}
 use Rattle.sw_data.specs.declared.recordings.FetchLine.{FetchLine}
 use Rattle.sw_data.specs.declared.rows.WorkerRow.{WorkerRow}
-use Rattle.sw_data.specs.declared.storage.KeptCache.{KeptCache}
 use Rattle.sw_rules.specs.Caching.{added, batch_fault, puts_of, responses_fault, run_batch, settle_task, with_cache_pairs}
 use Rattle.sw_rules.specs.Installing.{fetched_of, is_ok_status}
 use Rattle.sw_rules.specs.Matching.{varies_on_all}
 use Rattle.sw_rules.specs.Rows.{changed, is_task, maker_worker}
 use Rattle.sw_rules.specs.State.{State, AddAll}
 use Rattle.sw_rules.specs.Told.{Told, Outcome, refused}
-use Rattle.sw_tables.specs.Lent.{Rest}
+use Rattle.sw_state.specs.Hosted.{Hosted, state_of}
 use Rattle.sw_worker.specs.Edits.{task_counted, with_handler}
 use Rattle.sw_worker.specs.Table.{is_worker}
 
@@ -89,11 +88,10 @@ pub record IsAdded (outcome : Outcome) (state : State) (task : ℕ) (step : Adde
   pub state_is : outcome.told.state ≡ (told_by_added step task state).state
   pub changes : outcome.told.changes ≡ step.changes
 
--- own: the end of an addAll's fetches is enabled in a state with these caches and addAlls, and comes to this step
-abbrev pub IsEnded : List KeptCache → List AddAll → ℕ → List (Option FetchLine) → AddedStep → State → Type 0
-IsEnded caches tasks task lines step others =
-    let state = record others { caches = caches; tasks = tasks } in
-    (outcome : Outcome) × (added state task lines ≡ Some outcome) × IsAdded outcome state task step
+-- own: the end of an addAll's fetches is enabled on a host, and comes to this step
+abbrev pub IsEnded : ℕ → List (Option FetchLine) → Hosted → AddedStep → Type 0
+IsEnded task lines host step =
+    (outcome : Outcome) × (added (state_of host) task lines ≡ Some outcome) × IsAdded outcome (state_of host) task step
 
 -- own: the worker whose handler made an addAll, if one did
 abbrev pub maker_of : ℕ → List AddAll → Option ℕ
@@ -103,7 +101,3 @@ maker_of task tasks = option_and_then (λ row. maker_worker row.maker) (find (is
 abbrev pub noted_settled : Option ℕ → Bool → List WorkerRow → List WorkerRow
 noted_settled None fault rows = rows
 noted_settled (Some worker) fault rows = changed (is_worker worker) (with_handler (task_counted fault)) rows
-
--- own: the same with these addAlls
-abbrev pub with_tasks : List AddAll → Rest → Rest
-with_tasks tasks rest = record rest { tasks = tasks }

@@ -2,17 +2,10 @@
 
 ghost use Rattle.std.specs.Prelude.{◌≡◌, true, is_none, option_copied, IfOk, IfSome};
 ghost use Rattle.sw_cachestorage.specs.Acts.{FitsAct, IsStep};
-ghost use Rattle.sw_cachestorage.specs.Added.{IsEnded, fault_at, fetched_at, maker_of, noted_settled, put_at, response_fault, settled_by, stored, with_tasks};
-ghost use Rattle.sw_client.specs.Table as clients;
+ghost use Rattle.sw_cachestorage.specs.Added.{IsEnded, fault_at, fetched_at, maker_of, noted_settled, put_at, response_fault, settled_by, stored};
 ghost use Rattle.sw_ledgers.specs.Tasks.{has_task, row_of};
-ghost use Rattle.sw_reg.specs.Table as registrations;
 ghost use Rattle.sw_rules.specs.Caching as rules;
-ghost use Rattle.sw_rules.specs.State.{State};
-ghost use Rattle.sw_scope.specs.Scopes.{Scopes};
-ghost use Rattle.sw_tables.specs.Happened.{CountsTasks};
-ghost use Rattle.sw_tables.specs.Lent.{Rest, lent};
-ghost use Rattle.sw_tables.specs.Linked.{HasSlots};
-ghost use Rattle.sw_tables.specs.Parts.{StayLinked};
+ghost use Rattle.sw_state.specs.Hosted.{SameRows, state_of};
 ghost use Rattle.sw_worker.specs.Table.{has_unsettled, has_worker};
 
 use crate::act::{CacheAct, CacheStep, refused};
@@ -25,6 +18,7 @@ use sw_data::{
 };
 use sw_ledgers::{TaskRow, Tasks};
 use sw_match::varies_on_all;
+use sw_state::HostTables;
 use sw_worker::Workers;
 
 /// What the fetches of an addAll came to, worked out: its answer, what is done to the caches, the durable changes, what it
@@ -178,24 +172,22 @@ fn settled(step: CacheStep) -> AddedStep
     }
 }
 
-/// The fetches of an addAll have ended, worked out. The caches stay as they are.
+/// The fetches of an addAll have ended, worked out. No table changes but for its room.
 pub fn added(
+    host: &mut HostTables,
     alloc: Global,
     task: u32,
     lines: &[Option<FetchLine>],
-    caches: &mut Caches,
-    tasks: &Tasks,
 ) -> Result<AddedStep, NoMemory>
-    requires unsettled { has_task (λ row. is_none row.settled) task tasks.now.rows ≡ true }
-    ensures same { caches.new.rows ≡ caches.old.rows }
-    ensures fits { IfOk result (λ step. FitsAct step.act caches.new) }
-    ensures step { IfOk result (λ step. (others : State)
-        → IsEnded caches.old.rows tasks.now.rows task lines.now step others) }
+    requires { has_task (λ row. is_none row.settled) task host.old.tasks.rows ≡ true }
+    ensures same { SameRows host.old host.new }
+    ensures fits { IfOk result (λ step. FitsAct step.act host.new.caches) }
+    ensures step { IfOk result (IsEnded task lines.now host.old) }
 {
-    let Some(row) = tasks.row(task) else {
+    let Some(row) = host.tasks.row(task) else {
         unreachable!();
     };
-    let step = stored(alloc, row, lines, caches)?;
+    let step = stored(alloc, row, lines, &mut host.caches)?;
     Ok(settled(step))
 }
 
@@ -226,28 +218,16 @@ fn note_settled(worker: Option<u32>, fault: bool, workers: &mut Workers)
 }
 
 /// An addAll settles, and the handler that made it notes a fault. It takes no memory.
-pub fn settle_added(
-    task: u32,
-    value: Settlement,
-    faulted: bool,
-    tasks: &mut Tasks,
-    workers: &mut Workers,
-)
-    requires unsettled { has_task (λ row. is_none row.settled) task tasks.old.rows ≡ true }
-    requires counted { IfSome (maker_of task tasks.old.rows)
-        (λ worker. has_worker has_unsettled worker workers.old.rows ≡ true) }
-    ensures state { (scopes : Scopes) (of : registrations.Table) (of_clients : clients.Table)
-        (rest : Rest) → rest.tasks ≡ tasks.old.rows
-        → lent scopes workers.new of of_clients (with_tasks tasks.new.rows rest)
-        ≡ (rules.settle_task (lent scopes workers.old of of_clients rest)
-        task value faulted).state }
-    ensures slots { (of : registrations.Table)
-        → HasSlots workers.old of → HasSlots workers.new of }
-    ensures linked { (of : registrations.Table) → StayLinked workers.old of workers.new of }
-    ensures counts { CountsTasks workers.old tasks.old.rows
-        → CountsTasks workers.new tasks.new.rows }
+pub fn settle_added(host: &mut HostTables, task: u32, value: Settlement, faulted: bool)
+    requires { has_task (λ row. is_none row.settled) task host.old.tasks.rows ≡ true }
+    ensures state { state_of host.new
+        ≡ (rules.settle_task (state_of host.old) task value faulted).state }
+    ensures others { host.new ≡ record host.old {
+      workers = host.new.workers;
+      tasks = host.new.tasks;
+    } }
 {
-    let maker = maker_of(task, tasks);
-    tasks.settle(task, value);
-    note_settled(maker, faulted, workers);
+    let maker = maker_of(task, &host.tasks);
+    host.tasks.settle(task, value);
+    note_settled(maker, faulted, &mut host.workers);
 }

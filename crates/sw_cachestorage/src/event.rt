@@ -59,14 +59,26 @@ fn act_at(
         Event::CacheHas { name, .. } => Ok(has_cache(alloc, caches, key, name)),
         Event::CacheDelete { name, .. } => delete_cache(alloc, caches, key, name),
         Event::CacheKeys { .. } => cache_names(alloc, caches, key),
-        Event::Match { place, find, .. } => match_request(alloc, caches, &place.at, key, find),
-        Event::MatchAll { place, query, .. } => query_cache(alloc, caches, &place.at, key, query),
-        Event::Keys { place, query, .. } => query_cache(alloc, caches, &place.at, key, query),
-        Event::Put { place, put, .. } => put_response(alloc, caches, &place.at, key, put),
+        Event::Match { place, find, .. } => match_request(
+            alloc,
+            caches,
+            &place.at,
+            key,
+            find.get(),
+        ),
+        Event::MatchAll { place, query, .. } => query_cache(
+            alloc,
+            caches,
+            &place.at,
+            key,
+            query.get(),
+        ),
+        Event::Keys { place, query, .. } => query_cache(alloc, caches, &place.at, key, query.get()),
+        Event::Put { place, put, .. } => put_response(alloc, caches, &place.at, key, put.get()),
         Event::Delete { place, delete, .. } => {
-            delete_request(alloc, caches, &place.at, key, delete)
+            delete_request(alloc, caches, &place.at, key, delete.get())
         }
-        Event::Batch { place, batch, .. } => batch_ops(alloc, caches, &place.at, key, batch),
+        Event::Batch { place, batch, .. } => batch_ops(alloc, caches, &place.at, key, batch.get()),
         _ => unreachable!(),
     }
 }

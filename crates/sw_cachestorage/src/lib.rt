@@ -16,10 +16,10 @@ mod place;
 mod writes;
 
 pub use act::{CacheAct, CacheStep};
-pub use adding::{AddAllStep, NewAddAll, add_all, add_all_at, start_all};
+pub use adding::{AddAllStep, NewAddAll, add_all, add_all_at, start_all, start_called};
 pub use caching::{delete_cache, open_cache};
 pub use ended::{AddedStep, added, settle_added};
 pub use event::{finish_on_caches, is_on_caches, prepare_on_caches};
-pub use forgetting::{forget, forget_one, is_busy, mapped_many};
+pub use forgetting::{forget, is_busy, mapped_many};
 pub use place::place_key;
 pub use writes::{batch_ops, delete_request, put_response};

@@ -75,7 +75,7 @@ fn of_registration(alloc: Global, parts: &[Value]) -> Result<Change, Fault> {
 // The operations on a cache: its key, and an object with its name and the operations, as in a batch.
 fn operations(alloc: Global, parts: &[Value]) -> Result<Change, Fault> {
     let key = text(alloc, parts, 1)?;
-    let batch = form(batch_parts(alloc, part(parts, 2)?))?;
+    let batch = form(batch_parts(alloc, part(parts, 2)?))?.into_inner();
     Ok(Change::CacheOps {
         key,
         name: batch.name,

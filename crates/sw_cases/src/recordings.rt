@@ -12,11 +12,10 @@ use crate::row::{
 use serde_json::Value;
 use std::alloc::Global;
 use sw_data::{
-    Action, Bytes, CachePut, End, Event, FetchLine, Fetched, Handlers, Items, Place, Request,
-    Response, Text, Who,
+    Action, Boxed, Bytes, CachePut, End, Event, FetchLine, Fetched, Handlers, Items, NoMemory,
+    Place, Request, Response, Text, Who, event_of_action,
 };
 use sw_gen::generate;
-use sw_lane::event_of_action;
 use sw_net::{Gate, Net, NoGate};
 use sw_print::print_history;
 
@@ -123,8 +122,8 @@ fn blank(alloc: Global) -> Text {
     Text::from_string(String::new(alloc))
 }
 
-fn blank_put(alloc: Global) -> CachePut {
-    CachePut {
+fn blank_put(alloc: Global) -> Result<Boxed<CachePut>, NoMemory> {
+    let put = CachePut {
         name: blank(alloc),
         request: Request {
             method: blank(alloc),
@@ -136,7 +135,8 @@ fn blank_put(alloc: Global) -> CachePut {
             headers: Items::new(alloc),
             body: Bytes::from_vec(Vec::new(alloc)),
         },
-    }
+    };
+    Boxed::new(alloc, put)
 }
 
 fn action(alloc: Global, word: &str) -> Result<Action, Fault> {
@@ -151,7 +151,7 @@ fn action(alloc: Global, word: &str) -> Result<Action, Fault> {
         }),
         "put" => Ok(Action::Put {
             place,
-            put: blank_put(alloc),
+            put: blank_put(alloc)?,
         }),
         _ => Err(Fault::BadRow),
     }

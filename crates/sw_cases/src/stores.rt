@@ -17,7 +17,9 @@ use crate::table::Table;
 use serde_json::Value;
 use std::alloc::Global;
 use sw_caches::{BatchFault, Caches, apply_ops};
-use sw_data::{Bytes, CacheBatch, Call, Items, Op, Request, Response, Text, copy_call, same_call};
+use sw_data::{
+    Boxed, Bytes, CacheBatch, Call, Items, Op, Request, Response, Text, copy_call, same_call,
+};
 use sw_forms::{batch_parts, match_parts, put_parts};
 use sw_list::Named;
 use sw_match::{combined, query};
@@ -31,7 +33,7 @@ fn combined_value(alloc: Global, parts: &[Value]) -> Answer {
 fn pairs(alloc: Global, puts: &[Value]) -> Result<Vec<(Request, Response)>, Fault> {
     let mut pairs = Vec::new(alloc);
     for put in puts {
-        let put = form(put_parts(alloc, put))?;
+        let put = form(put_parts(alloc, put))?.into_inner();
         pairs.push((put.request, put.response))?;
     }
     Ok(pairs)
@@ -50,7 +52,7 @@ fn numbers(alloc: Global, numbers: &[u32]) -> Answer {
 // The places of the puts that a match finds.
 fn found(alloc: Global, parts: &[Value]) -> Answer {
     let pairs = pairs(alloc, list(parts, 0)?)?;
-    let asked = form(match_parts(alloc, part(parts, 1)?))?;
+    let asked = form(match_parts(alloc, part(parts, 1)?))?.into_inner();
     let places = query(alloc, pairs.as_slice(), &asked.request, asked.options)?;
     numbers(alloc, places.as_slice())
 }
@@ -70,7 +72,7 @@ fn compared(alloc: Global, call: &Call) -> Result<(bool, bool), Fault> {
     Ok((same_call(call, &copy), same_call(&copy, &Call::Claim)))
 }
 
-fn copied(alloc: Global, batch: CacheBatch) -> Answer {
+fn copied(alloc: Global, batch: Boxed<CacheBatch>) -> Answer {
     let found = compared(alloc, &Call::Batch(batch));
     let (same, other) = found?;
     Ok(format!(in alloc; "{same} {other}")?)
@@ -94,7 +96,7 @@ fn batched(alloc: Global, answer: Result<(), BatchFault>) -> Answer {
 
 // What a batch makes of no pairs: how many there are then.
 fn applied(alloc: Global, parts: &[Value]) -> Answer {
-    let batch = form(batch_parts(alloc, part(parts, 1)?))?;
+    let batch = form(batch_parts(alloc, part(parts, 1)?))?.into_inner();
     let mut pairs = Vec::new(alloc);
     match apply_ops(alloc, &mut pairs, batch.operations.as_slice()) {
         Ok(()) => place_or_none(alloc, Some(pairs.len())),
@@ -129,7 +131,7 @@ fn put_large(alloc: Global, caches: &mut Caches, parts: &[Value]) -> Answer {
 
 fn batch(alloc: Global, caches: &mut Caches, parts: &[Value]) -> Answer {
     let key = text(alloc, parts, 1)?;
-    let CacheBatch { name, operations } = form(batch_parts(alloc, part(parts, 2)?))?;
+    let CacheBatch { name, operations } = form(batch_parts(alloc, part(parts, 2)?))?.into_inner();
     batched(
         alloc,
         caches.batch(alloc, &key, &name, operations.into_vec()),

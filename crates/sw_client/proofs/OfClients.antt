@@ -58,7 +58,7 @@ absent n es is none = found_client n (values_of es) ∙ ap (option_map client) (
 pub present : (n : ℕ) (es : Entries) (x : OpenClient) → IsKeyed number es → lookup (nat_eq n) es ≡ Some x → find (is_client n) (map client (values_of es)) ≡ Some x.client
 present n es x is there = found_client n (values_of es) ∙ ap (option_map client) (sym (found_by n es is) ∙ there)
 
-apart_now : (es : Entries) → IsKeyed number es → IsDistinct nat_eq (keys_of (keyed number (values_of es)))
+pub apart_now : (es : Entries) → IsKeyed number es → IsDistinct nat_eq (keys_of (keyed number (values_of es)))
 apart_now es is = subst (λ (xs : Entries). IsDistinct nat_eq (keys_of xs)) is.rows is.apart
 
 keys_are : (rows : List OpenClient) → keys_of (keyed number rows) ≡ map (λ row. row.number) (map client rows)

@@ -49,7 +49,7 @@ edited_keys : {X : Type 0} (f : X → X) (es : List (ℕ × X)) → keys_of (edi
 edited_keys f [] = refl
 edited_keys f (e ∷ es) = ap (λ (ks : List ℕ). e.0 ∷ ks) (edited_keys f es)
 
-edited_values : {X : Type 0} (f : X → X) (es : List (ℕ × X)) → values_of (edited f es) ≡ map f (values_of es)
+pub edited_values : {X : Type 0} (f : X → X) (es : List (ℕ × X)) → values_of (edited f es) ≡ map f (values_of es)
 edited_values f [] = refl
 edited_values f (e ∷ es) = ap (λ (xs : List _). f e.1 ∷ xs) (edited_values f es)
 

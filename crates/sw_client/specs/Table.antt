@@ -1,8 +1,9 @@
 -- The table of clients as contracts see it (own), and the users of a registration.
-use Rattle.std.specs.Prelude.{ℕ, Bool, false, ◌≡◌, ◌<◌, ◌-◌, ◌^◌, List, map, filter, length, slice_index_or, Some, None, IfSome, if◌then◌else◌}
+use Rattle.std.specs.Prelude.{ℕ, Bool, false, ◌≡◌, ◌<◌, ◌-◌, ◌^◌, List, map, filter, length, bytes_eq, slice_index_or, Some, None, IfSome, if◌then◌else◌}
 use Rattle.std.specs.List.{list_any}
 use Rattle.std.specs.Map.{values_of}
 use Rattle.sw_data.specs.declared.rows.ClientRow.{ClientRow}
+use Rattle.sw_list.specs.Tally.{Tally, count_of}
 use Rattle.sw_rules.specs.Rows.{is_client, is_number}
 use Rattle.sw_client.specs.declared.OpenClient.{OpenClient}
 use Rattle.sw_client.specs.Keyed.{IsKeyed}
@@ -56,3 +57,16 @@ pub record IsCounted (entries : List (ℕ × OpenClient)) (counts : List ℕ) : 
   pub keyed : IsKeyed (λ row. row.client.number) entries
   pub users : (registration : ℕ) → slice_index_or counts registration 0 ≡ users_of registration (values_of entries)
   pub few : length (values_of entries) < 2 ^ 32
+
+-- a client is of a key
+abbrev pub is_of : List ℕ → OpenClient → Bool
+is_of key row = bytes_eq row.client.key key
+
+-- the tally has the key of each client
+abbrev pub AreTallied : List (ℕ × OpenClient) → Tally → Type 0
+AreTallied entries keys = (key : List ℕ) → count_of keys key ≡ length (filter (is_of key) (values_of entries))
+
+-- what is kept of the clients
+pub record IsKept (entries : List (ℕ × OpenClient)) (counts : List ℕ) (keys : Tally) : Type 0 where
+  pub counted : IsCounted entries counts
+  pub tallied : AreTallied entries keys

@@ -1,7 +1,8 @@
-//! The table of clients: each is found by its number, and the users of each registration are counted.
+//! The table of clients: each is found by its number, and the users of each registration and the clients of each key are
+//! counted.
 #![tactic(auto)]
 
-ghost use Rattle.std.specs.Prelude.{◌≡◌, ◌↔◌, ◌+◌, ◌-◌, ◌<◌, ◌≤◌, ◌^◌, ℕ, [], ◌++◌, ◌∷◌, true, false, max, nat_eq, length, filter, find, map, slice_get, IfSome, IfOk, IsErr, OnOk, OnErr, Some, None};
+ghost use Rattle.std.specs.Prelude.{◌≡◌, ◌↔◌, ◌+◌, ◌-◌, ◌<◌, ◌≤◌, ◌^◌, ℕ, [], ◌++◌, ◌∷◌, true, false, bytes_eq, max, nat_eq, length, filter, find, map, slice_get, IfSome, IfOk, IsErr, OnOk, OnErr, Some, None};
 ghost use Rattle.std.specs.List.{IsDistinct, list_any};
 ghost use Rattle.std.specs.Option.{option_and_then, option_copied, option_map, option_map_or, option_to_list};
 ghost use Rattle.std.specs.Map.{values_of};
@@ -14,7 +15,7 @@ mod counts;
 use std::alloc::Global;
 use std::marker::Model;
 use sw_data::{ClientRow, NoMemory, Notice, Text};
-use sw_list::Ordered;
+use sw_list::{Ordered, Tally};
 use sw_rules::Notices;
 
 /// A client that is open, with the registration of its controller where it has one.
@@ -24,41 +25,50 @@ pub struct OpenClient {
     pub registration: Option<u32>,
 }
 
-/// The clients, in order of opening. The hash of a number is fixed, so numbers can be chosen that collide.
+/// The clients, in order of opening. The hashes of a number and of a key are fixed, so some can be chosen that collide.
 #[derive(Drop)]
 pub struct Clients {
     rows: Ordered<OpenClient>,
     counts: Vec<u32>,
+    // The keys of the clients.
+    keys: Tally,
 }
 
 impl Model for Clients {
+    ghost use Rattle.std.specs.Prelude.{min};
     ghost use Rattle.std.specs.Map.{values_of};
     ghost use Rattle.std.specs.Vec.{vec_len};
-    ghost use Rattle.sw_client.specs.Table.{IsCounted, Table};
+    ghost use Rattle.sw_client.specs.Table.{IsKept, Table};
 
     ghost Value = { Table };
 
     ghost view = { λ clients. record {
       rows = values_of clients.rows.entries;
       known = vec_len clients.counts;
-      spare = clients.rows.spare;
+      spare = min clients.rows.spare clients.keys.spare;
     } };
 
-    ghost invariant = { λ clients. IsCounted clients.rows.entries clients.counts.items };
+    ghost invariant = { λ clients.
+        IsKept clients.rows.entries clients.counts.items clients.keys };
 }
 
 /// A finished row that isn't in the table yet. It means the row.
 #[derive(Drop)]
 pub struct NewClient {
     row: OpenClient,
+    // A copy of its key, for the tally.
+    key: Text,
 }
 
 impl Model for NewClient {
+    ghost use Rattle.std.specs.Prelude.{◌≡◌};
     ghost use Rattle.sw_client.specs.declared.OpenClient.{OpenClient};
 
     ghost Value = { OpenClient };
 
     ghost view = { λ new. new.row };
+
+    ghost invariant = { λ new. new.key ≡ new.row.client.key };
 }
 
 /// Why a client is not added: its number is there, or there is no memory.
@@ -168,6 +178,7 @@ impl Clients {
         Clients {
             rows: Ordered::new(alloc),
             counts: Vec::new(alloc),
+            keys: Tally::new(alloc),
         }
     }
 
@@ -249,6 +260,13 @@ impl Clients {
         self.rows.len() as u32
     }
 
+    /// Whether a client of a key is open. It takes no memory.
+    pub fn has_of(&self, key: &Text) -> bool
+        ensures { result ≡ list_any (λ row. bytes_eq row.key key.now) (clients_of self.now) }
+    {
+        self.keys.has(key)
+    }
+
     // Whether a client is there. It takes no memory.
     #[tactic(auto, using(crate::proofs::OfClients::is_there))]
     fn has(&self, number: u32) -> bool
@@ -257,18 +275,20 @@ impl Clients {
         self.rows.contains(number)
     }
 
-    // Makes room for one more client; the rows stay.
-    fn make_room(&mut self) -> Result<(), NoMemory>
+    // Makes room for one more client, and a copy of its key; the rows stay.
+    fn make_room(&mut self, alloc: Global, key: &Text) -> Result<Text, NoMemory>
         ensures rows { self.new.rows ≡ self.old.rows }
         ensures known { self.new.known ≡ self.old.known }
-        ensures room { OnOk result (0 < self.new.spare) }
-        ensures few { OnOk result (length self.new.rows < 2 ^ 32 - 1) }
+        ensures copied { IfOk result (λ copied. copied ≡ key.now) }
+        ensures room { IfOk result (λ copied. 0 < self.new.spare) }
+        ensures few { IfOk result (λ copied. length self.new.rows < 2 ^ 32 - 1) }
     {
         if self.len() == u32::MAX {
             return Err(NoMemory);
         }
         self.rows.make_room()?;
-        Ok(())
+        self.keys.make_room()?;
+        key.copy(alloc)
     }
 
     /// Makes room for a client, and its row: its number, its address, its key, whether it is secure, and the worker and
@@ -276,7 +296,7 @@ impl Clients {
     /// memory.
     pub fn add_row(
         &mut self,
-        _alloc: Global,
+        alloc: Global,
         number: u32,
         url: Text,
         key: Text,
@@ -303,21 +323,23 @@ impl Clients {
         if self.has(number) {
             return Err(AddFault::InUse);
         }
-        match self.make_room() {
-            Ok(()) => Ok(NewClient {
-                row: OpenClient {
-                    client: ClientRow {
-                        number,
-                        url,
-                        key,
-                        secure,
-                        controller: controller.map(|c| c.0),
-                    },
-                    registration: controller.map(|c| c.1),
+        let copied = match self.make_room(alloc, &key) {
+            Ok(copied) => copied,
+            Err(_) => return Err(AddFault::NoMemory),
+        };
+        Ok(NewClient {
+            row: OpenClient {
+                client: ClientRow {
+                    number,
+                    url,
+                    key,
+                    secure,
+                    controller: controller.map(|c| c.0),
                 },
-            }),
-            Err(_) => Err(AddFault::NoMemory),
-        }
+                registration: controller.map(|c| c.1),
+            },
+            key: copied,
+        })
     }
 
     /// Adds a row that was made, last. It takes no memory.
@@ -329,6 +351,7 @@ impl Clients {
     {
         counts::raise(&mut self.counts, row.row.registration);
         self.rows.add(row.row.client.number, row.row);
+        self.keys.add(row.key);
     }
 
     /// A client leaves. It takes no memory.
@@ -346,6 +369,7 @@ impl Clients {
             return Err(NoClient);
         };
         counts::lower(&mut self.counts, gone.registration);
+        self.keys.take(&gone.client.key);
         let _ = self.rows.remove(number);
         Ok(())
     }

@@ -19,9 +19,10 @@ ghost use Rattle.sw_state.specs.Hosted.{state_of};
 use crate::core_tables::Core;
 use std::alloc::Global;
 use sw_activate::claimed;
+use sw_cachestorage::is_busy;
 use sw_data::{Event, NoMemory, Task, Text};
 use sw_next::{
-    busy, cache_count, enabled, event_of, fetches, has_settled, is_ready, mapped_count, may_begin,
+    cache_count, enabled, event_of, fetches, has_settled, is_ready, mapped_count, may_begin,
     next_task, ready, task_key,
 };
 use sw_state::HostTables;
@@ -88,7 +89,7 @@ impl Core {
     pub fn busy(&self, key: &Text) -> bool
         ensures { result ≡ is_busy (state_of self.now) key.now }
     {
-        busy(&self.host, key)
+        is_busy(&self.host, key)
     }
 
     /// The key of an addAll. None exactly where there is no such addAll. It takes no memory.

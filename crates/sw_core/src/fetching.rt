@@ -13,7 +13,7 @@ ghost use Rattle.sw_state.specs.Hosted.{state_of};
 use crate::core_tables::Core;
 use std::alloc::Global;
 use sw_data::address::without_fragment;
-use sw_data::{Event, FetchLine, Items, NoMemory, Task, Text, Who, copy_line};
+use sw_data::{Boxed, Event, FetchLine, Items, NoMemory, Task, Text, Who, boxed_option, copy_line};
 use sw_net::Net;
 
 // The line that a fetch gets.
@@ -36,12 +36,12 @@ fn first_line(
     alloc: Global,
     net: &Net,
     fetches: &[(Text, u32)],
-) -> Result<Option<FetchLine>, NoMemory>
+) -> Result<Option<Boxed<FetchLine>>, NoMemory>
     ensures { IfOk result (λ line.
         line ≡ option_and_then (line_for net.now) (slice_get fetches.now 0)) }
 {
     match fetches.first() {
-        Some((address, number)) => line(alloc, net, address, *number),
+        Some((address, number)) => boxed_option(alloc, line(alloc, net, address, *number)?),
         None => Ok(None),
     }
 }

@@ -1,11 +1,12 @@
--- Events and their makers.
-use Rattle.std.specs.Prelude.{Bool, true, false}
+-- Events, their makers, the actions that they are, and what they name.
+use Rattle.std.specs.Prelude.{ℕ, Bool, true, false, Option, Some, None}
 use Rattle.sw_data.specs.declared.events.Who.{Who}
 use Rattle.sw_data.specs.declared.events.Who.TheVariants.{Lane, Handler}
 use Rattle.sw_data.specs.declared.events.Event.{Event}
 use Rattle.sw_data.specs.declared.events.Event.TheVariants as event
 use Rattle.sw_data.specs.declared.recordings.Action.{Action}
 use Rattle.sw_data.specs.declared.recordings.Action.TheVariants as action
+use Rattle.sw_data.specs.declared.recordings.Place.{Place}
 
 -- the event that an action is, with its maker (own)
 unfoldable pub event_of_action : Who → Action → Event
@@ -39,6 +40,40 @@ event_of_action who (action.PreloadEnable of) = event.PreloadEnable who of
 event_of_action who (action.PreloadDisable of) = event.PreloadDisable who of
 event_of_action who (action.PreloadValue of text) = event.PreloadValue who of text
 event_of_action who (action.PreloadState of) = event.PreloadState who of
+
+-- the action that an event is, none where it is that of no action (own)
+unfoldable pub action_of_event : Event → Option Action
+action_of_event (event.Open who client url partition) = Some (action.Open client url partition)
+action_of_event (event.Close who client) = Some (action.Close client)
+action_of_event (event.Register who register) = Some (action.Register register)
+action_of_event (event.Update who of) = Some (action.Update of)
+action_of_event (event.SoftUpdate who of) = Some (action.SoftUpdate of)
+action_of_event (event.Unregister who of) = Some (action.Unregister of)
+action_of_event (event.Await who of) = Some (action.Await of)
+action_of_event (event.Ready who client) = Some (action.Ready client)
+action_of_event (event.Registration who client url) = Some (action.Registration client url)
+action_of_event (event.Registrations who client) = Some (action.Registrations client)
+action_of_event (event.SkipWaiting who of slot) = Some (action.SkipWaiting of slot)
+action_of_event (event.Claim who of slot) = Some (action.Claim of slot)
+action_of_event (event.Begin who client number) = Some (action.Begin client number)
+action_of_event (event.End who number) = Some (action.End number)
+action_of_event (event.CacheOpen who place name) = Some (action.CacheOpen place name)
+action_of_event (event.CacheHas who place name) = Some (action.CacheHas place name)
+action_of_event (event.CacheDelete who place name) = Some (action.CacheDelete place name)
+action_of_event (event.CacheKeys who place) = Some (action.CacheKeys place)
+action_of_event (event.Forget who place) = Some (action.Forget place)
+action_of_event (event.Match who place find) = Some (action.Match place find)
+action_of_event (event.MatchAll who place query) = Some (action.MatchAll place query)
+action_of_event (event.Keys who place query) = Some (action.Keys place query)
+action_of_event (event.Put who place put) = Some (action.Put place put)
+action_of_event (event.Delete who place delete) = Some (action.Delete place delete)
+action_of_event (event.Batch who place batch) = Some (action.Batch place batch)
+action_of_event (event.AddAll who place add) = Some (action.AddAll place add)
+action_of_event (event.PreloadEnable who of) = Some (action.PreloadEnable of)
+action_of_event (event.PreloadDisable who of) = Some (action.PreloadDisable of)
+action_of_event (event.PreloadValue who of text) = Some (action.PreloadValue of text)
+action_of_event (event.PreloadState who of) = Some (action.PreloadState of)
+action_of_event _ = None
 
 -- the maker of an event (own)
 unfoldable pub who_of : Event → Who
@@ -81,6 +116,42 @@ who_of (event.TryActivate who registration) = who
 who_of (event.Activated who worker) = who
 who_of (event.Added who task lines) = who
 who_of (event.Restarted who) = who
+
+-- the client that an action names; `await` and `end` name none (own)
+unfoldable pub named_client : Event → Option ℕ
+named_client (event.Open maker client url partition) = Some client
+named_client (event.Close maker client) = Some client
+named_client (event.Register maker asked) = Some asked.client
+named_client (event.Update maker of) = Some of.client
+named_client (event.SoftUpdate maker of) = Some of.client
+named_client (event.Unregister maker of) = Some of.client
+named_client (event.Ready maker client) = Some client
+named_client (event.Registration maker client url) = Some client
+named_client (event.Registrations maker client) = Some client
+named_client (event.SkipWaiting maker of place) = Some of.client
+named_client (event.Claim maker of place) = Some of.client
+named_client (event.Begin maker client number) = Some client
+named_client (event.PreloadEnable maker of) = Some of.client
+named_client (event.PreloadDisable maker of) = Some of.client
+named_client (event.PreloadValue maker of text) = Some of.client
+named_client (event.PreloadState maker of) = Some of.client
+named_client _ = None
+
+-- the page that an action on caches names, or a lane that forgets a key; that the host forgets one is no use (own)
+unfoldable pub named_page : Event → Option Place
+named_page (event.CacheOpen maker place name) = Some place
+named_page (event.CacheHas maker place name) = Some place
+named_page (event.CacheDelete maker place name) = Some place
+named_page (event.CacheKeys maker place) = Some place
+named_page (event.Forget (Lane lane at) place) = Some place
+named_page (event.Match maker place asked) = Some place
+named_page (event.MatchAll maker place asked) = Some place
+named_page (event.Keys maker place asked) = Some place
+named_page (event.Put maker place put) = Some place
+named_page (event.Delete maker place asked) = Some place
+named_page (event.Batch maker place asked) = Some place
+named_page (event.AddAll maker place asked) = Some place
+named_page _ = None
 
 abbrev pub is_lane : Who → Bool
 is_lane (Lane lane at) = true

@@ -4,47 +4,51 @@ ghost use Rattle.std.specs.Prelude.{◌≡◌, IfOk};
 
 use crate::ops::{copy_ops, copy_requests};
 use crate::{
-    CacheAddAll, CacheBatch, CacheDelete, CachePut, Call, FetchLine, Fetched, Handlers, Items,
-    NoMemory,
+    Boxed, CacheAddAll, CacheBatch, CacheDelete, CachePut, Call, FetchLine, Fetched, Handlers,
+    Items, NoMemory,
 };
 use std::alloc::Global;
 
-fn copy_put(alloc: Global, put: &CachePut) -> Result<CachePut, NoMemory>
+fn copy_put(alloc: Global, put: &CachePut) -> Result<Boxed<CachePut>, NoMemory>
     ensures { IfOk result (λ copy. copy ≡ put.now) }
 {
-    Ok(CachePut {
+    let copy = CachePut {
         name: put.name.copy(alloc)?,
         request: put.request.copy(alloc)?,
         response: put.response.copy(alloc)?,
-    })
+    };
+    Boxed::new(alloc, copy)
 }
 
-fn copy_delete(alloc: Global, delete: &CacheDelete) -> Result<CacheDelete, NoMemory>
+fn copy_delete(alloc: Global, delete: &CacheDelete) -> Result<Boxed<CacheDelete>, NoMemory>
     ensures { IfOk result (λ copy. copy ≡ delete.now) }
 {
-    Ok(CacheDelete {
+    let copy = CacheDelete {
         name: delete.name.copy(alloc)?,
         request: delete.request.copy(alloc)?,
         options: delete.options,
-    })
+    };
+    Boxed::new(alloc, copy)
 }
 
-fn copy_batch(alloc: Global, batch: &CacheBatch) -> Result<CacheBatch, NoMemory>
+fn copy_batch(alloc: Global, batch: &CacheBatch) -> Result<Boxed<CacheBatch>, NoMemory>
     ensures { IfOk result (λ copy. copy ≡ batch.now) }
 {
-    Ok(CacheBatch {
+    let copy = CacheBatch {
         name: batch.name.copy(alloc)?,
         operations: copy_ops(alloc, batch.operations.as_slice())?,
-    })
+    };
+    Boxed::new(alloc, copy)
 }
 
-fn copy_add_all(alloc: Global, add: &CacheAddAll) -> Result<CacheAddAll, NoMemory>
+fn copy_add_all(alloc: Global, add: &CacheAddAll) -> Result<Boxed<CacheAddAll>, NoMemory>
     ensures { IfOk result (λ copy. copy ≡ add.now) }
 {
-    Ok(CacheAddAll {
+    let copy = CacheAddAll {
         name: add.name.copy(alloc)?,
         requests: copy_requests(alloc, &add.requests)?,
-    })
+    };
+    Boxed::new(alloc, copy)
 }
 
 /// A call of its own that equals this one.
@@ -61,10 +65,10 @@ pub fn copy_call(alloc: Global, call: &Call) -> Result<Call, NoMemory>
         Call::CacheDelete { name } => Ok(Call::CacheDelete {
             name: name.copy(alloc)?,
         }),
-        Call::Put(put) => Ok(Call::Put(copy_put(alloc, put)?)),
-        Call::Delete(delete) => Ok(Call::Delete(copy_delete(alloc, delete)?)),
-        Call::Batch(batch) => Ok(Call::Batch(copy_batch(alloc, batch)?)),
-        Call::AddAll(add) => Ok(Call::AddAll(copy_add_all(alloc, add)?)),
+        Call::Put(put) => Ok(Call::Put(copy_put(alloc, put.get())?)),
+        Call::Delete(delete) => Ok(Call::Delete(copy_delete(alloc, delete.get())?)),
+        Call::Batch(batch) => Ok(Call::Batch(copy_batch(alloc, batch.get())?)),
+        Call::AddAll(add) => Ok(Call::AddAll(copy_add_all(alloc, add.get())?)),
     }
 }
 

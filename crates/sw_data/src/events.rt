@@ -1,8 +1,10 @@
 //! Events: what one algorithm does between two waits, with its maker.
 
-ghost use Rattle.std.specs.Prelude.{◌≡◌};
-ghost use Rattle.sw_data.specs.Events.{who_of};
+ghost use Rattle.std.specs.Prelude.{◌≡◌, None, Some, if◌then◌else◌};
+ghost use Rattle.std.specs.Option.{option_copied};
+ghost use Rattle.sw_data.specs.Events.{is_lane, named_client, named_page, who_of};
 
+use crate::base::boxed::Boxed;
 use crate::base::items::Items;
 use crate::base::text::Text;
 use crate::recordings::{
@@ -34,7 +36,7 @@ pub enum Event {
         who: Who,
         client: u32,
         url: Text,
-        partition: Option<Text>,
+        partition: Option<Boxed<Text>>,
     },
     Close {
         who: Who,
@@ -42,7 +44,7 @@ pub enum Event {
     },
     Register {
         who: Who,
-        register: Registering,
+        register: Boxed<Registering>,
     },
     Update {
         who: Who,
@@ -118,37 +120,37 @@ pub enum Event {
     Match {
         who: Who,
         place: Place,
-        find: CacheMatch,
+        find: Boxed<CacheMatch>,
     },
     MatchAll {
         who: Who,
         place: Place,
-        query: CacheQuery,
+        query: Boxed<CacheQuery>,
     },
     Keys {
         who: Who,
         place: Place,
-        query: CacheQuery,
+        query: Boxed<CacheQuery>,
     },
     Put {
         who: Who,
         place: Place,
-        put: CachePut,
+        put: Boxed<CachePut>,
     },
     Delete {
         who: Who,
         place: Place,
-        delete: CacheDelete,
+        delete: Boxed<CacheDelete>,
     },
     Batch {
         who: Who,
         place: Place,
-        batch: CacheBatch,
+        batch: Boxed<CacheBatch>,
     },
     AddAll {
         who: Who,
         place: Place,
-        add: CacheAddAll,
+        add: Boxed<CacheAddAll>,
     },
     PreloadEnable {
         who: Who,
@@ -179,7 +181,7 @@ pub enum Event {
     Fetched {
         who: Who,
         job: u32,
-        line: Option<FetchLine>,
+        line: Option<Boxed<FetchLine>>,
     },
     Evaluated {
         who: Who,
@@ -206,6 +208,16 @@ pub enum Event {
     Restarted {
         who: Who,
     },
+}
+
+// A page, where a lane names it.
+fn page_of_lane(who: Who, place: &Place) -> Option<&Place>
+    ensures { option_copied result ≡ (if is_lane who then Some place.now else None) }
+{
+    match who {
+        Who::Lane { .. } => Some(place),
+        _ => None,
+    }
 }
 
 impl Event {
@@ -254,6 +266,54 @@ impl Event {
             Event::Activated { who, .. } => *who,
             Event::Added { who, .. } => *who,
             Event::Restarted { who } => *who,
+        }
+    }
+
+    /// The client that an action names, which `await` and `end` don't. It takes no memory.
+    #[tactic(auto, unfolding(crate::specs::Events::named_client))]
+    pub fn named_client(&self) -> Option<u32>
+        ensures { result ≡ named_client self.now }
+    {
+        match self {
+            Event::Open { client, .. }
+            | Event::Close { client, .. }
+            | Event::Ready { client, .. }
+            | Event::Registration { client, .. }
+            | Event::Registrations { client, .. }
+            | Event::Begin { client, .. } => Some(*client),
+            Event::Register { register, .. } => Some(register.get().client),
+            Event::Update { of, .. }
+            | Event::SoftUpdate { of, .. }
+            | Event::Unregister { of, .. }
+            | Event::SkipWaiting { of, .. }
+            | Event::Claim { of, .. }
+            | Event::PreloadEnable { of, .. }
+            | Event::PreloadDisable { of, .. }
+            | Event::PreloadValue { of, .. }
+            | Event::PreloadState { of, .. } => Some(of.client),
+            _ => None,
+        }
+    }
+
+    /// The page that an action on caches names, or a lane that forgets a key. It takes no memory.
+    #[tactic(auto, unfolding(crate::specs::Events::named_page))]
+    pub fn named_page(&self) -> Option<&Place>
+        ensures { option_copied result ≡ named_page self.now }
+    {
+        match self {
+            Event::CacheOpen { place, .. }
+            | Event::CacheHas { place, .. }
+            | Event::CacheDelete { place, .. }
+            | Event::CacheKeys { place, .. }
+            | Event::Match { place, .. }
+            | Event::MatchAll { place, .. }
+            | Event::Keys { place, .. }
+            | Event::Put { place, .. }
+            | Event::Delete { place, .. }
+            | Event::Batch { place, .. }
+            | Event::AddAll { place, .. } => Some(place),
+            Event::Forget { who, place } => page_of_lane(*who, place),
+            _ => None,
         }
     }
 }

@@ -5,6 +5,7 @@
 //! for each subject.
 #![tactic(auto)]
 
+pub mod acting;
 pub mod address;
 pub mod answers;
 pub mod base;
@@ -22,7 +23,9 @@ mod sameness;
 pub mod storage;
 pub mod workers;
 
+pub use acting::{action_of_event, event_of_action};
 pub use answers::{Answer, Cause, Fault, Notice, SecurityCause, Settlement, StateCause};
+pub use base::boxed::{Boxed, boxed_option, unboxed_option};
 pub use base::bytes::Bytes;
 pub use base::failed::Failed;
 pub use base::items::Items;

@@ -1,6 +1,6 @@
 //! A recording: what the network answers, and what the lanes do.
 
-use crate::base::bytes::Bytes;
+use crate::base::boxed::Boxed;
 use crate::base::items::Items;
 use crate::base::text::Text;
 use crate::exchange::{Op, Options, Request, Response};
@@ -50,17 +50,17 @@ pub enum Call {
     Update,
     CacheOpen { name: Text },
     CacheDelete { name: Text },
-    Put(CachePut),
-    Delete(CacheDelete),
-    Batch(CacheBatch),
-    AddAll(CacheAddAll),
+    Put(Boxed<CachePut>),
+    Delete(Boxed<CacheDelete>),
+    Batch(Boxed<CacheBatch>),
+    AddAll(Boxed<CacheAddAll>),
 }
 
 /// The address of a page, and its partition if it has one. They give a storage key.
 #[derive(Drop)]
 pub struct Place {
     pub at: Text,
-    pub partition: Option<Text>,
+    pub partition: Option<Boxed<Text>>,
 }
 
 /// A scope that a client names.
@@ -132,12 +132,12 @@ pub enum Action {
     Open {
         client: u32,
         url: Text,
-        partition: Option<Text>,
+        partition: Option<Boxed<Text>>,
     },
     Close {
         client: u32,
     },
-    Register(Registering),
+    Register(Boxed<Registering>),
     Update(ClientScope),
     SoftUpdate(ClientScope),
     Unregister(ClientScope),
@@ -189,31 +189,31 @@ pub enum Action {
     },
     Match {
         place: Place,
-        find: CacheMatch,
+        find: Boxed<CacheMatch>,
     },
     MatchAll {
         place: Place,
-        query: CacheQuery,
+        query: Boxed<CacheQuery>,
     },
     Keys {
         place: Place,
-        query: CacheQuery,
+        query: Boxed<CacheQuery>,
     },
     Put {
         place: Place,
-        put: CachePut,
+        put: Boxed<CachePut>,
     },
     Delete {
         place: Place,
-        delete: CacheDelete,
+        delete: Boxed<CacheDelete>,
     },
     Batch {
         place: Place,
-        batch: CacheBatch,
+        batch: Boxed<CacheBatch>,
     },
     AddAll {
         place: Place,
-        add: CacheAddAll,
+        add: Boxed<CacheAddAll>,
     },
     PreloadEnable(ClientScope),
     PreloadDisable(ClientScope),

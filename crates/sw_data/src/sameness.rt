@@ -114,20 +114,24 @@ pub fn same_call(left: &Call, right: &Call) -> bool
         (Call::CacheOpen { name }, Call::CacheOpen { name: other })
         | (Call::CacheDelete { name }, Call::CacheDelete { name: other }) => name == other,
         (Call::Put(put), Call::Put(other)) => {
+            let (put, other) = (put.get(), other.get());
             put.name == other.name
                 && same_request(&put.request, &other.request)
                 && same_response(&put.response, &other.response)
         }
         (Call::Delete(asked), Call::Delete(other)) => {
+            let (asked, other) = (asked.get(), other.get());
             asked.name == other.name
                 && same_request(&asked.request, &other.request)
                 && same_options(asked.options, other.options)
         }
         (Call::Batch(asked), Call::Batch(other)) => {
+            let (asked, other) = (asked.get(), other.get());
             asked.name == other.name
                 && same_ops(asked.operations.as_slice(), other.operations.as_slice())
         }
         (Call::AddAll(asked), Call::AddAll(other)) => {
+            let (asked, other) = (asked.get(), other.get());
             asked.name == other.name
                 && same_requests(asked.requests.as_slice(), other.requests.as_slice())
         }

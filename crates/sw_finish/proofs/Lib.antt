@@ -4,4 +4,3 @@ pub mod FirstPreload
 pub mod Going
 pub mod Preload
 pub mod Settling
-pub mod Starting

@@ -3,13 +3,11 @@
 ghost use Rattle.std.specs.Prelude.{◌≡◌, ◌≤◌, ◌<◌, true, List, None, Some};
 ghost use Rattle.sw_cachestorage.specs.Acts.{FitsAct};
 ghost use Rattle.sw_cachestorage.specs.Added.{IsAdded};
-ghost use Rattle.sw_cachestorage.specs.Adding.{FitsNew};
-ghost use Rattle.sw_cachestorage.specs.Forgetting.{AreQuiet};
+ghost use Rattle.sw_cachestorage.specs.Adding.{FitsNew, added_by};
 ghost use Rattle.sw_client.specs.Table as clients_table;
 ghost use Rattle.sw_data.specs.declared.storage.Change.{Change};
 ghost use Rattle.sw_pages.specs.Acts.{told_by};
 ghost use Rattle.sw_queue.specs.Tables.{FitsJob};
-ghost use Rattle.sw_rules.specs.Forgetting.{forget_key};
 ghost use Rattle.sw_rules.specs.Calls as calls;
 ghost use Rattle.sw_rules.specs.Clients as rules;
 ghost use Rattle.sw_rules.specs.Jobs as jobs;
@@ -19,15 +17,15 @@ ghost use Rattle.sw_rules.specs.Rows.{maker_worker};
 ghost use Rattle.sw_rules.specs.Told.{Outcome, Told};
 ghost use Rattle.sw_tables.specs.Linked.{IsNoted, registration_of};
 ghost use Rattle.sw_state.specs.Hosted.{state_of};
-ghost use Rattle.sw_work.specs.Plans.{FitsAdded, FitsAsked, FitsPageAct, FitsStart, FitsTheAct, FitsThen, Goes, act_room, has_calls_left, outcome_of, page_room, started_outcome, told_by_act, told_by_caches, told_by_start, told_then, with_promise};
+ghost use Rattle.sw_work.specs.Plans.{FitsAdded, FitsAsked, FitsPageAct, FitsStart, FitsTheAct, FitsThen, Goes, act_room, has_calls_left, outcome_of, page_room, started_outcome, told_by_act, told_by_caches, told_then, with_promise};
 ghost use Rattle.sw_worker.specs.Fits.{FitsEvent};
 
 use sw_activate::unload;
 use sw_cachestorage::{
-    AddedStep, CacheAct, NewAddAll, finish_on_caches, forget, settle_added, start_all,
+    AddedStep, CacheAct, NewAddAll, finish_on_caches, forget, settle_added, start_all, start_called,
 };
 use sw_client::NewClient;
-use sw_data::{Answer, Text};
+use sw_data::Answer;
 use sw_ledgers::{NewPreload, NewPromise};
 use sw_pages::PageAct;
 use sw_queue::NewJob;
@@ -197,25 +195,6 @@ fn act_on_caches(host: &mut HostTables, act: CacheAct)
     finish_on_caches(&mut host.caches, act);
 }
 
-// The key is forgotten.
-fn do_forget(host: &mut HostTables, key: Text, notices: &mut Notices)
-    requires quiet { AreQuiet key host.old.workers host.old.registrations }
-    requires room { act_room (Act.Forget key) host.old ≤ notices.old.spare }
-    ensures did { Did (forget_key (state_of host.old) key) notices.old notices.new
-        (state_of host.new) }
-    ensures promises { host.new.promises ≡ host.old.promises }
-{
-    forget(
-        &key,
-        &mut host.map,
-        &mut host.workers,
-        &mut host.registrations,
-        &host.clients,
-        &mut host.caches,
-        notices,
-    );
-}
-
 // What an act does.
 fn do_act(host: &mut HostTables, act: Act, notices: &mut Notices)
     requires fits { FitsTheAct act host.old }
@@ -228,7 +207,7 @@ fn do_act(host: &mut HostTables, act: Act, notices: &mut Notices)
         Act::Page(act) => do_page(host, act, notices),
         Act::Preload(row) => set_preload(host, row),
         Act::Caches { act, .. } => act_on_caches(host, act),
-        Act::Forget(key) => do_forget(host, key, notices),
+        Act::Forget(key) => forget(host, &key, notices),
     }
 }
 
@@ -276,38 +255,15 @@ pub(crate) fn do_asked(host: &mut HostTables, asked: Asked, notices: &mut Notice
     Some(answer)
 }
 
-// An addAll of a handler goes on to its fetches, and the handler has made one call more.
-#[tactic(auto, unfolding(sw_rules::specs::Calls::note_call))]
-fn start_called(host: &mut HostTables, new: NewAddAll, worker: u32, fault: bool)
-    requires fits { FitsNew new host.old.tasks host.old.draws }
-    requires maker { maker_worker new.row.maker ≡ Some worker }
-    requires calls { has_calls_left worker (state_of host.old) ≡ true }
-    ensures { state_of host.new
-        ≡ (calls.note_call (told_by_start new (state_of host.old)).state worker fault).state }
-{
-    start_all(new, &mut host.tasks, &mut host.draws);
-    note_call(worker, fault, true, &mut host.workers, &host.registrations);
-}
-
-// An addAll of a lane goes on to its fetches.
-fn start(host: &mut HostTables, new: NewAddAll)
-    requires fits { FitsNew new host.old.tasks host.old.draws }
-    requires lane { maker_worker new.row.maker ≡ None }
-    ensures state { state_of host.new ≡ (told_by_start new (state_of host.old)).state }
-    ensures promises { host.new.promises ≡ host.old.promises }
-{
-    start_all(new, &mut host.tasks, &mut host.draws);
-}
-
 // An addAll of a lane goes on to its fetches, and its promise waits for it.
 fn start_promised(host: &mut HostTables, new: NewAddAll, row: NewPromise)
-    requires fits { FitsNew new host.old.tasks host.old.draws }
+    requires fits { FitsNew new host.old }
     requires lane { maker_worker new.row.maker ≡ None }
     requires room { 0 < host.old.promises.spare }
     ensures { state_of host.new
-        ≡ with_promise row (told_by_start new (state_of host.old)).state }
+        ≡ with_promise row (added_by new (state_of host.old)).state }
 {
-    start(host, new);
+    start_all(host, new);
     promise(host, row);
 }
 
@@ -315,11 +271,11 @@ fn start_promised(host: &mut HostTables, new: NewAddAll, row: NewPromise)
 fn start_then(host: &mut HostTables, new: NewAddAll, then: Then)
     requires { FitsStart new then host.old }
     ensures { (notices : NoticeList)
-        → Did (told_then then (told_by_start new (state_of host.old))) notices notices
+        → Did (told_then then (added_by new (state_of host.old))) notices notices
         (state_of host.new) }
 {
     match then {
-        Then::Nothing => start(host, new),
+        Then::Nothing => start_all(host, new),
         Then::Promise(row) => start_promised(host, new, row),
         Then::Called { worker, fault } => start_called(host, new, worker, fault),
     }
@@ -355,7 +311,7 @@ pub(crate) fn do_added(host: &mut HostTables, task: u32, step: AddedStep) -> Opt
         faulted,
         ..
     } = step;
-    finish_on_caches(&mut host.caches, act);
-    settle_added(task, value, faulted, &mut host.tasks, &mut host.workers);
+    act_on_caches(host, act);
+    settle_added(host, task, value, faulted);
     Some(answer)
 }

@@ -6,15 +6,15 @@ ghost use Rattle.sw_forms.specs.Caches as caches;
 
 use crate::error::Limit;
 use crate::exchanges::response_of;
-use crate::flaw::{Flaw, NO_FORM, Part, both};
+use crate::flaw::{Flaw, NO_FORM, Part, both, boxed_part};
 use crate::limits::OPERATIONS_LIMIT;
 use crate::lists::{FromValue, list_of};
 use crate::members::{has_only, short_text_member, short_text_option, truth_of};
 use serde_json::Value;
 use std::alloc::Global;
 use sw_data::{
-    CacheAddAll, CacheBatch, CacheDelete, CacheMatch, CachePut, CacheQuery, Items, Op, Options,
-    Request, Response, Text,
+    Boxed, CacheAddAll, CacheBatch, CacheDelete, CacheMatch, CachePut, CacheQuery, Items, Op,
+    Options, Request, Response, Text,
 };
 
 #[tactic(auto, unfolding(crate::specs::Caches::option_member))]
@@ -106,13 +106,13 @@ fn put_from(
 
 /// A response to keep under a request.
 #[tactic(auto, unfolding(crate::specs::Caches::put_parts))]
-pub fn put_parts(alloc: Global, value: &Value) -> Part<CachePut>
+pub fn put_parts(alloc: Global, value: &Value) -> Part<Boxed<CachePut>>
     ensures { IfOk result (λ put. put ≡ caches.put_parts (view value.now)) }
 {
     let name = name_member(alloc, value)?;
     let request = request_member(alloc, "request", value)?;
     let response = response_member(alloc, value)?;
-    Ok(put_from(name, request, response))
+    boxed_part(alloc, put_from(name, request, response))
 }
 
 #[tactic(auto, unfolding(crate::specs::Flaws::both))]
@@ -135,12 +135,12 @@ fn delete_from(
 
 /// What to remove from a cache.
 #[tactic(auto, unfolding(crate::specs::Caches::delete_parts))]
-pub fn delete_parts(alloc: Global, value: &Value) -> Part<CacheDelete>
+pub fn delete_parts(alloc: Global, value: &Value) -> Part<Boxed<CacheDelete>>
     ensures { IfOk result (λ delete. delete ≡ caches.delete_parts (view value.now)) }
 {
     let name = name_member(alloc, value)?;
     let request = request_member(alloc, "request", value)?;
-    Ok(delete_from(name, request, options_of(value)))
+    boxed_part(alloc, delete_from(name, request, options_of(value)))
 }
 
 #[tactic(auto, unfolding(crate::specs::Flaws::both))]
@@ -242,12 +242,12 @@ fn batch_from(
 
 /// The operations of a batch.
 #[tactic(auto, unfolding(crate::specs::Caches::batch_parts))]
-pub fn batch_parts(alloc: Global, value: &Value) -> Part<CacheBatch>
+pub fn batch_parts(alloc: Global, value: &Value) -> Part<Boxed<CacheBatch>>
     ensures { IfOk result (λ batch. batch ≡ caches.batch_parts (view value.now)) }
 {
     let name = name_member(alloc, value)?;
     let operations = operations_member(alloc, value)?;
-    Ok(batch_from(name, operations))
+    boxed_part(alloc, batch_from(name, operations))
 }
 
 #[tactic(auto, unfolding(crate::specs::Caches::requests_member))]
@@ -280,12 +280,12 @@ fn add_all_from(
 
 /// The requests to fetch and keep.
 #[tactic(auto, unfolding(crate::specs::Caches::add_all_parts))]
-pub fn add_all_parts(alloc: Global, value: &Value) -> Part<CacheAddAll>
+pub fn add_all_parts(alloc: Global, value: &Value) -> Part<Boxed<CacheAddAll>>
     ensures { IfOk result (λ add. add ≡ caches.add_all_parts (view value.now)) }
 {
     let name = name_member(alloc, value)?;
     let requests = requests_member(alloc, value)?;
-    Ok(add_all_from(name, requests))
+    boxed_part(alloc, add_all_from(name, requests))
 }
 
 // The name of a cache, where it is given.
@@ -316,12 +316,12 @@ fn match_from(
 
 /// A look-up over all caches, or in one.
 #[tactic(auto, unfolding(crate::specs::Caches::match_parts))]
-pub fn match_parts(alloc: Global, value: &Value) -> Part<CacheMatch>
+pub fn match_parts(alloc: Global, value: &Value) -> Part<Boxed<CacheMatch>>
     ensures { IfOk result (λ find. find ≡ caches.match_parts (view value.now)) }
 {
     let request = request_member(alloc, "request", value)?;
     let name = name_option(alloc, value)?;
-    Ok(match_from(request, name, options_of(value)))
+    boxed_part(alloc, match_from(request, name, options_of(value)))
 }
 
 // A request, where it is given.
@@ -358,10 +358,10 @@ fn query_from(
 
 /// A look-up of all places in a cache.
 #[tactic(auto, unfolding(crate::specs::Caches::query_parts))]
-pub fn query_parts(alloc: Global, value: &Value) -> Part<CacheQuery>
+pub fn query_parts(alloc: Global, value: &Value) -> Part<Boxed<CacheQuery>>
     ensures { IfOk result (λ query. query ≡ caches.query_parts (view value.now)) }
 {
     let name = name_member(alloc, value)?;
     let request = request_option(alloc, value)?;
-    Ok(query_from(name, request, options_of(value)))
+    boxed_part(alloc, query_from(name, request, options_of(value)))
 }

@@ -13,7 +13,7 @@ use crate::members::has_only;
 use crate::word::{Word, word_member};
 use serde_json::Value;
 use std::alloc::Global;
-use sw_data::{CacheAddAll, CacheBatch, CacheDelete, CachePut, Call, Items, Text};
+use sw_data::{Boxed, CacheAddAll, CacheBatch, CacheDelete, CachePut, Call, Items, Text};
 
 // A call without members of its own.
 fn bare_call(bare: Call, value: &Value) -> Result<Call, Flaw>
@@ -38,7 +38,7 @@ fn name_call(alloc: Global, value: &Value) -> Part<Text>
 }
 
 #[tactic(auto, unfolding(crate::specs::Caches::put_call))]
-fn put_call(alloc: Global, value: &Value) -> Part<CachePut>
+fn put_call(alloc: Global, value: &Value) -> Part<Boxed<CachePut>>
     ensures { IfOk result (λ put. put ≡ caches.put_call (view value.now)) }
 {
     if !has_only(&["do", "name", "request", "response"], value) {
@@ -48,7 +48,7 @@ fn put_call(alloc: Global, value: &Value) -> Part<CachePut>
 }
 
 #[tactic(auto, unfolding(crate::specs::Caches::delete_call))]
-fn delete_call(alloc: Global, value: &Value) -> Part<CacheDelete>
+fn delete_call(alloc: Global, value: &Value) -> Part<Boxed<CacheDelete>>
     ensures { IfOk result (λ delete. delete ≡ caches.delete_call (view value.now)) }
 {
     if !has_only(
@@ -68,7 +68,7 @@ fn delete_call(alloc: Global, value: &Value) -> Part<CacheDelete>
 }
 
 #[tactic(auto, unfolding(crate::specs::Caches::batch_call))]
-fn batch_call(alloc: Global, value: &Value) -> Part<CacheBatch>
+fn batch_call(alloc: Global, value: &Value) -> Part<Boxed<CacheBatch>>
     ensures { IfOk result (λ batch. batch ≡ caches.batch_call (view value.now)) }
 {
     if !has_only(&["do", "name", "operations"], value) {
@@ -78,7 +78,7 @@ fn batch_call(alloc: Global, value: &Value) -> Part<CacheBatch>
 }
 
 #[tactic(auto, unfolding(crate::specs::Caches::add_all_call))]
-fn add_all_call(alloc: Global, value: &Value) -> Part<CacheAddAll>
+fn add_all_call(alloc: Global, value: &Value) -> Part<Boxed<CacheAddAll>>
     ensures { IfOk result (λ add. add ≡ caches.add_all_call (view value.now)) }
 {
     if !has_only(&["do", "name", "requests"], value) {

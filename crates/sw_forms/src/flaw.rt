@@ -1,10 +1,11 @@
 //! The flaws of a line, and which of them decides.
 
-ghost use Rattle.std.specs.Prelude.{◌≡◌, Ok, Err};
+ghost use Rattle.std.specs.Prelude.{◌≡◌, Ok, Err, IfOk};
 ghost use Rattle.sw_forms.specs.Flaws as flaws;
 
 use crate::error::{Limit, LineCause, RecordingError};
-use sw_data::NoMemory;
+use std::alloc::Global;
+use sw_data::{Boxed, NoMemory};
 
 /// What is wrong with a line, or what it has too much of.
 #[derive(Debug, Clone, Copy, PartialEq, Eq)]
@@ -62,6 +63,16 @@ pub fn both<A: Drop, B: Drop>(left: Result<A, Flaw>, right: Result<B, Flaw>) -> 
         (Ok(left), Ok(right)) => Ok((left, right)),
         (Err(why), Ok(_)) | (Ok(_), Err(why)) => Err(why),
         (Err(why), Err(other)) => Err(first_of(why, other)),
+    }
+}
+
+/// A part, moved to the heap.
+pub fn boxed_part<A: Drop>(alloc: Global, part: Result<A, Flaw>) -> Part<Boxed<A>>
+    ensures { IfOk result (λ boxed. boxed ≡ part) }
+{
+    match part {
+        Ok(part) => Ok(Ok(Boxed::new(alloc, part)?)),
+        Err(why) => Ok(Err(why)),
     }
 }
 

@@ -21,7 +21,7 @@ pub use caches::{
 pub use error::{Limit, LineCause, RecordingError};
 pub use exchanges::response_parts;
 pub use fetches::{address_part, error_line, fetch_line};
-pub use flaw::{Flaw, NO_FORM, Part, both, error_at, needs};
+pub use flaw::{Flaw, NO_FORM, Part, both, boxed_part, error_at, needs};
 pub use limits::{ACTIONS_LIMIT, CALLS_LIMIT, LANES_LIMIT, PARTITION_LIMIT, RECORDING_LIMIT};
 pub use lists::{FromValue, list_of};
 pub use members::{

@@ -18,7 +18,7 @@ use std::alloc::{AllocError, Global};
 use std::snapshot::Snapshot;
 use std::sync::Wait;
 use std::thread::Threads;
-use sw_data::{Bytes, Entry, NoMemory, Recording, Text};
+use sw_data::{Bytes, Entry, NoMemory, Recording, Text, unboxed_option};
 use sw_disk::Disk;
 use sw_net::Gate;
 use sw_pool::{Asked, Worked, Yard, work_watched};
@@ -34,7 +34,7 @@ use sw_view::{Look, Looker, Publisher, View};
 fn asked_of(alloc: Global, line: &LookLine) -> Result<Asked, NoMemory>
     ensures { IfOk result (λ asked. asked ≡ asked_of line.now) }
 {
-    let key = match key_of(alloc, &line.address, line.partition.as_ref())? {
+    let key = match key_of(alloc, &line.address, unboxed_option(&line.partition))? {
         Some(key) => key,
         None => Text::of(alloc, "")?,
     };

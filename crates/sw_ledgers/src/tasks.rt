@@ -1,7 +1,7 @@
 //! The addAlls, by their numbers.
 
-ghost use Rattle.std.specs.Prelude.{◌≡◌, ◌≤◌, ◌++◌, ◌∷◌, ◌-◌, [], true, drop, find, length, is_none, map, Some, None, option_map, IfOk};
-ghost use Rattle.std.specs.List.{range_with_len};
+ghost use Rattle.std.specs.Prelude.{◌≡◌, ◌≤◌, ◌++◌, ◌∷◌, ◌-◌, ◌&&◌, [], true, bytes_eq, drop, find, length, is_none, map, Some, None, option_map, IfOk};
+ghost use Rattle.std.specs.List.{list_any, range_with_len};
 ghost use Rattle.std.specs.Option.{option_copied};
 ghost use Rattle.sw_rules.specs.Rows.{changed, is_task};
 ghost use Rattle.sw_ledgers.specs.Tasks.{FitsTask, has_task, row_of};
@@ -9,7 +9,7 @@ ghost use Rattle.sw_ledgers.specs.Tasks.{FitsTask, has_task, row_of};
 use std::alloc::Global;
 use std::marker::Model;
 use sw_data::{Items, NoMemory, Request, Settlement, Text, Who};
-use sw_list::Flags;
+use sw_list::{Flags, Tally};
 
 /// An addAll, with its value where it has settled.
 #[derive(Drop)]
@@ -24,12 +24,15 @@ pub struct TaskRow {
     pub settled: Option<Settlement>,
 }
 
-/// The addAlls in order of making, where an addAll's number is its place.
+/// The addAlls in order of making, where an addAll's number is its place. The hash of a key is fixed, so keys can be
+/// chosen that collide.
 #[derive(Drop)]
 pub struct Tasks {
     rows: Vec<TaskRow>,
     // Which of them have not settled.
     unsettled: Flags,
+    // The keys of those.
+    keys: Tally,
 }
 
 impl Model for Tasks {
@@ -41,28 +44,30 @@ impl Model for Tasks {
 
     ghost view = { λ tasks. record {
       rows = map row_of tasks.rows.items;
-      spare = min (vec_capacity tasks.rows - vec_len tasks.rows) tasks.unsettled.spare;
+      spare = min (min (vec_capacity tasks.rows - vec_len tasks.rows) tasks.unsettled.spare)
+          tasks.keys.spare;
     } };
 
-    ghost invariant = { λ tasks. IsKept tasks.rows.items tasks.unsettled.flags };
+    ghost invariant = { λ tasks. IsKept tasks.rows.items tasks.unsettled.flags tasks.keys };
 }
 
 /// A finished row of an addAll, which isn't in the table yet.
 #[derive(Drop)]
 pub struct NewTask {
     row: TaskRow,
+    // A copy of its key, for the tally.
+    key: Text,
 }
 
 impl Model for NewTask {
-    ghost use Rattle.std.specs.Prelude.{◌<◌, ◌+◌, ◌^◌};
     ghost use Rattle.sw_rules.specs.State.{AddAll};
-    ghost use Rattle.sw_ledgers.specs.Tasks.{row_of};
+    ghost use Rattle.sw_ledgers.specs.Tasks.{IsNew, row_of};
 
     ghost Value = { AddAll };
 
     ghost view = { λ new. row_of new.row };
 
-    ghost invariant = { λ new. new.row.number + 1 < 2 ^ 32 };
+    ghost invariant = { λ new. IsNew new.row new.key };
 }
 
 impl NewTask {
@@ -77,20 +82,22 @@ impl NewTask {
     pub fn with_fetches(self, fetches: Items<u32>) -> NewTask
         ensures { result ≡ record self { fetches = fetches } }
     {
-        let NewTask { mut row } = self;
+        let NewTask { mut row, key } = self;
         row.fetches = fetches;
-        NewTask { row }
+        NewTask { row, key }
     }
 }
 
 impl Tasks {
     /// No addAlls. It takes no memory.
+    #[tactic(auto, using(crate::proofs::Tasking::none_kept))]
     pub fn new(alloc: Global) -> Tasks
         ensures { result.rows ≡ [] }
     {
         Tasks {
             rows: Vec::new(alloc),
             unsettled: Flags::new(alloc),
+            keys: Tally::new(alloc),
         }
     }
 
@@ -141,6 +148,14 @@ impl Tasks {
         self.unsettled.first_row(&self.rows, from as usize)
     }
 
+    /// Whether an addAll of a key has not settled. It takes no memory.
+    pub fn has_unsettled_of(&self, key: &Text) -> bool
+        ensures { result ≡ list_any (λ row. is_none row.settled && bytes_eq row.key key.now)
+            self.now.rows }
+    {
+        self.keys.has(key)
+    }
+
     /// Makes room for an addAll, and its row.
     #[tactic(auto, using(crate::proofs::Tasking::many_rows))]
     pub fn make_row(
@@ -171,6 +186,7 @@ impl Tasks {
         };
         self.rows.reserve(1)?;
         self.unsettled.make_room()?;
+        self.keys.make_room()?;
         Ok(NewTask {
             row: TaskRow {
                 number,
@@ -181,6 +197,7 @@ impl Tasks {
                 fetches,
                 settled: None,
             },
+            key: key.copy(alloc)?,
         })
     }
 
@@ -195,7 +212,8 @@ impl Tasks {
         ensures number { result ≡ length self.old.rows }
     {
         let number = row.row.number;
-        self.unsettled.add(row.row.settled.is_none());
+        self.unsettled.add(true);
+        self.keys.add(row.key);
         self.rows.push_reserved(row.row);
         number
     }
@@ -211,7 +229,9 @@ impl Tasks {
             ≡ range_with_len 0 (length self.old.rows) }
     {
         let place = task as usize;
-        self.rows[place].settled = Some(value);
+        let row = &mut self.rows[place];
+        row.settled = Some(value);
+        self.keys.take(&row.key);
         self.unsettled.set(place, false);
     }
 }

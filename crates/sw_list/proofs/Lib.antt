@@ -10,3 +10,4 @@ pub mod IndexLemmas
 mod MarkLemmas
 mod RowLemmas
 pub mod DigestLemmas
+pub mod Tallies

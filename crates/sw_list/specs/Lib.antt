@@ -13,3 +13,4 @@ pub mod Named
 pub mod Names
 pub mod Numbered
 pub mod Marks
+pub mod Tally

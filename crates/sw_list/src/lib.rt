@@ -1,5 +1,6 @@
 //! Lists by number: values under rising numbers (`Numbered`) or under any numbers (`Ordered`), in order of adding; flags
-//! by number (`Flags`); values under keys and names (`Named`); and an index that finds numbers by digests (`Slots`).
+//! by number (`Flags`); values under keys and names (`Named`); how many things each text has (`Tally`); and an index that
+//! finds numbers by digests (`Slots`).
 //!
 //! Each row of a `Named` has a number, and the numbers rise. A map has the numbers of each key, in
 //! order, and by name, and no other number but that of a row that was made and isn't there yet. So no
@@ -19,6 +20,7 @@ mod numbered;
 mod ordered;
 mod row;
 mod slots;
+mod tally;
 
 pub use flags::Flags;
 pub use marks::{Mark, Slots, digest, mixed, next_number, put_mark, take_mark, take_marks};
@@ -26,3 +28,4 @@ pub use named::{Named, NewRow};
 pub use numbered::Numbered;
 pub use ordered::Ordered;
 pub use row::Row;
+pub use tally::Tally;

@@ -15,7 +15,7 @@ mod waits;
 pub use counts::{cache_count, mapped_count};
 pub use events::{enabled, ready};
 pub use flights::many_in_flight;
-pub use keys::{busy, task_key};
+pub use keys::task_key;
 pub use task_events::event_of;
 pub use task_fetches::fetches;
 pub use tasks::next_task;

@@ -14,7 +14,7 @@ ghost use Rattle.sw_work.specs.Plans.{Works};
 use crate::lanes::work_of_forget;
 use std::alloc::Global;
 use sw_cachestorage::added;
-use sw_data::{Event, FetchLine, NoMemory};
+use sw_data::{Event, FetchLine, NoMemory, unboxed_option};
 use sw_install::Rows;
 use sw_state::HostTables;
 use sw_work::{Work, fetch_ended, fetched_of, run_work};
@@ -87,7 +87,7 @@ fn work_of_added(
     ensures works { IfOk result
         (Works host.old host.new (added (state_of host.old) task lines.now)) }
 {
-    let step = added(alloc, task, lines, &mut host.caches, &host.tasks)?;
+    let step = added(host, alloc, task, lines)?;
     Ok(Work::Added { task, step })
 }
 
@@ -107,7 +107,12 @@ pub(crate) fn work_of_host(
 {
     match event {
         Event::Run { job, .. } => work_of_run(host, alloc, *job),
-        Event::Fetched { job, line, .. } => work_of_fetched(host, alloc, *job, line.as_ref()),
+        Event::Fetched { job, line, .. } => work_of_fetched(
+            host,
+            alloc,
+            *job,
+            unboxed_option(line),
+        ),
         Event::Evaluated { job, .. } => Ok(Work::Evaluated(*job)),
         Event::Installed { job, .. } => Ok(Work::Installed(*job)),
         Event::TryActivate { registration, .. } => Ok(Work::TryActivate(*registration)),

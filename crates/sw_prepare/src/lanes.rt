@@ -21,7 +21,7 @@ use std::alloc::Global;
 use sw_cachestorage::{
     AddAllStep, add_all_at, is_busy, is_on_caches, place_key, prepare_on_caches,
 };
-use sw_data::{Answer, CacheAddAll, Event, NoMemory, Place, Who};
+use sw_data::{Answer, CacheAddAll, Event, NoMemory, Place, Who, unboxed_option};
 use sw_pages::{
     PageAct, Worked, await_promise, begin, claim, close_client, end, open_client, preload_state,
     preload_switch, preload_value, ready, register, registration_at, registrations_of,
@@ -70,12 +70,12 @@ fn page(
             url,
             partition,
             ..
-        } => open_client(host, alloc, *client, url, partition.as_ref()),
+        } => open_client(host, alloc, *client, url, unboxed_option(partition)),
         Event::Close { client, .. } => Ok(close_client(host, *client)),
         Event::Register {
             register: registering,
             ..
-        } => register(host, alloc, registering),
+        } => register(host, alloc, registering.get()),
         Event::Update { of, .. } => update(host, alloc, of),
         Event::SoftUpdate { of, .. } => soft_update(host, alloc, of),
         Event::Unregister { of, .. } => unregister(host, alloc, of),
@@ -150,7 +150,7 @@ fn work_on_caches(host: &mut HostTables, alloc: Global, event: &Event) -> Result
 
 // An addAll that was worked out up to its fetches, with the room for its promise.
 fn begun(host: &mut HostTables, lane: u32, at: u32, step: AddAllStep) -> Result<Work, NoMemory>
-    requires fits { FitsStart step.start host.old.tasks host.old.draws }
+    requires fits { FitsStart step.start host.old }
     requires maker { IfSome step.start (λ new. new.row.maker ≡ maker.Lane lane at) }
     ensures same { SameRows host.old host.new }
     ensures fits { IfOk result (λ work. FitsWork work host.new) }
@@ -187,15 +187,7 @@ fn work_of_add_all(
     ensures means { IfOk result (λ work. Means work host.old
         (rules.add_all_at (state_of host.old) (maker.Lane lane at) place.now add.now)) }
 {
-    let step = add_all_at(
-        alloc,
-        Who::Lane { lane, at },
-        place,
-        add,
-        &host.caches,
-        &mut host.tasks,
-        &mut host.draws,
-    )?;
+    let step = add_all_at(host, alloc, Who::Lane { lane, at }, place, add)?;
     begun(host, lane, at, step)
 }
 
@@ -211,14 +203,7 @@ fn forget(host: &HostTables, alloc: Global, place: &Place) -> Result<Asked, NoMe
         Ok(key) => key,
         Err(why) => return Ok(answered(Answer::Fault(why))),
     };
-    if is_busy(
-        &key,
-        &host.queues,
-        &host.workers,
-        &host.registrations,
-        &host.clients,
-        &host.tasks,
-    ) {
+    if is_busy(host, &key) {
         return Ok(answered(Answer::Busy));
     }
     Ok(Asked {
@@ -261,7 +246,9 @@ pub(crate) fn work_of_lane(
         return work_on_caches(host, alloc, event);
     }
     match event {
-        Event::AddAll { place, add, .. } => work_of_add_all(host, alloc, lane, at, place, add),
+        Event::AddAll { place, add, .. } => {
+            work_of_add_all(host, alloc, lane, at, place, add.get())
+        }
         Event::Forget { place, .. } => work_of_forget(host, alloc, place),
         _ => work_of_page(host, alloc, lane, at, event),
     }

@@ -40,9 +40,7 @@ fn act_room(host: &HostTables, act: &Act) -> Result<usize, NoMemory>
 {
     match act {
         Act::Page(act) => Ok(page_room(host, act)),
-        Act::Forget(key) => mapped_many(key, &host.map, &host.registrations)
-            .checked_mul(4)
-            .ok_or(NoMemory),
+        Act::Forget(key) => mapped_many(host, key).checked_mul(4).ok_or(NoMemory),
         _ => Ok(0),
     }
 }

@@ -76,7 +76,7 @@ fn root_key(alloc: Global, place: &Place) -> Result<String, AllocError>
     match &place.partition {
         None => String::from_str(alloc, origin),
         Some(partition) => {
-            let partition = partition.as_str();
+            let partition = partition.get().as_str();
             format!(in alloc; "{origin}^{partition}")
         }
     }

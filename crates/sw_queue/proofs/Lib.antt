@@ -16,3 +16,4 @@ pub mod Heads
 pub mod Telling
 pub mod Marking
 pub mod Leaving
+pub mod Tallying

@@ -3,7 +3,7 @@
 ghost use Rattle.std.specs.Prelude.{◌≡◌};
 
 use std::marker::Model;
-use sw_data::{JobPhase, JobRow};
+use sw_data::{JobPhase, JobRow, Text};
 
 /// What became of a job that was scheduled.
 #[derive(Debug, Clone, Copy, PartialEq, Eq)]
@@ -35,6 +35,8 @@ pub struct JobNotes {
 pub struct NewJob {
     pub(crate) row: JobRow,
     pub(crate) followers: Vec<u32>,
+    // A copy of its key, for the tally.
+    pub(crate) key: Text,
 }
 
 impl Model for NewJob {
@@ -45,7 +47,7 @@ impl Model for NewJob {
 
     ghost view = { λ new. new.row };
 
-    ghost invariant = { λ new. new.followers.items ≡ [] };
+    ghost invariant = { λ new. (new.followers.items ≡ []) × (new.key ≡ new.row.job.key) };
 }
 
 impl NewJob {

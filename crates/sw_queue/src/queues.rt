@@ -1,13 +1,15 @@
-//! The table of jobs, with the queue of each key and scope and the followers of each job.
+//! The table of jobs, with the queue of each key and scope, the followers of each job and how many of each key are
+//! unfinished.
 
-ghost use Rattle.std.specs.Prelude.{◌≡◌, ◌++◌, ◌∷◌, [], ◌+◌, ◌<◌, ◌≤◌, length, map, filter, true, not, ◌&&◌, drop, find, is_none, is_some, Some, option_map, IfOk, IfSome, OnOk, OnErr};
-ghost use Rattle.std.specs.List.{All, flat_map, range_with_len};
+ghost use Rattle.std.specs.Prelude.{◌≡◌, ◌++◌, ◌∷◌, [], ◌+◌, ◌<◌, ◌≤◌, ℕ, List, bytes_eq, length, map, filter, true, not, ◌&&◌, drop, find, is_none, is_some, Some, option_map, IfOk, IfSome, OnOk, OnErr, if◌then◌else◌};
+ghost use Rattle.std.specs.List.{All, flat_map, list_any, range_with_len};
 ghost use Rattle.std.specs.Option.{option_copied};
 ghost use Rattle.std.specs.Result.{result_ok};
 ghost use Rattle.sw_data.specs.declared.answers.Notice.TheVariants as notice;
 ghost use Rattle.sw_data.specs.declared.rows.JobPhase.TheVariants as job_phase;
+ghost use Rattle.sw_list.specs.Tally.{count_of};
 ghost use Rattle.sw_rules.specs.Jobs.{gets_value, is_equivalent, new_job_row};
-ghost use Rattle.sw_rules.specs.Rows.{changed, first_job, is_in_phase, is_evaluating, is_fetching, is_first, is_installing, is_job, is_waiting, last_job};
+ghost use Rattle.sw_rules.specs.Rows.{changed, first_job, is_in_phase, is_evaluating, is_fetching, is_first, is_installing, is_job, is_unfinished, is_waiting, last_job};
 ghost use Rattle.sw_queue.specs.Kept.{AreFrom, followers_of};
 ghost use Rattle.sw_queue.specs.Ready.{led_by, may_start};
 ghost use Rattle.sw_queue.specs.Tables.{FitsJob, FollowersStay, HasPlace, given, has_head, has_job, with_phase, is_under_way, joined_in, noted, ready_job, scheduled_as, settled_all, told_at, told_of};
@@ -20,6 +22,7 @@ use crate::ready::Ready;
 use std::alloc::Global;
 use std::marker::Model;
 use sw_data::{Job, JobPhase, JobRow, NoMemory, Notice, Settlement, Text};
+use sw_list::Tally;
 use sw_rules::Notices;
 
 /// The jobs by number, in order of scheduling, and their queues by storage key and scope.
@@ -29,6 +32,8 @@ pub struct Queues {
     followers: Followers,
     index: Index,
     ready: Ready,
+    // The keys of the unfinished jobs.
+    keys: Tally,
 }
 
 impl Model for Queues {
@@ -42,7 +47,8 @@ impl Model for Queues {
     ghost view = { λ queues. record {
       rows = queues.rows.items;
       room = record {
-        rows = min (vec_capacity queues.rows - vec_len queues.rows) queues.ready.spare;
+        rows = min (min (vec_capacity queues.rows - vec_len queues.rows) queues.ready.spare)
+            queues.keys.spare;
         lists = queues.followers.spare;
         followers = queues.followers.spares;
         queues = spares queues.index;
@@ -50,7 +56,7 @@ impl Model for Queues {
     } };
 
     ghost invariant = { λ queues.
-        IsIndexed queues.rows.items queues.followers.lists queues.index queues.ready };
+        IsIndexed queues.rows.items queues.followers.lists queues.index queues.ready queues.keys };
 }
 
 // The row of a job that was just scheduled.
@@ -150,6 +156,17 @@ fn tell_rows(rows: &[JobRow], jobs: &[u32], value: Settlement, notices: &mut Not
     }
 }
 
+// The key of a job that was just scheduled is counted, where the job joined no other.
+fn count_key(keys: &mut Tally, row: &JobRow, key: Text)
+    requires { 0 < keys.old.spare }
+    ensures { (asked : List ℕ) → count_of keys.new asked ≡ count_of keys.old asked
+        + (if is_none row.now.leader && bytes_eq key asked then 1 else 0) }
+{
+    if row.leader.is_none() {
+        keys.add(key);
+    }
+}
+
 // Whether a new job joins the last of its queue.
 fn can_join(job: &Job, last: &JobRow) -> bool
     ensures { result ≡ (is_equivalent job.now last.now.job && is_none last.now.settled) }
@@ -167,6 +184,7 @@ impl Queues {
             followers: Followers::new(alloc),
             index: Index::new(alloc),
             ready: Ready::new(alloc),
+            keys: Tally::new(alloc),
         }
     }
 
@@ -253,6 +271,14 @@ impl Queues {
         ensures { option_copied result ≡ find (is_in_phase is_installing) (drop from self.now.rows) }
     {
         self.ready.next_installing(&self.rows, from)
+    }
+
+    /// Whether a job of a key joined no other and isn't done. It takes no memory.
+    pub fn has_unfinished_of(&self, key: &Text) -> bool
+        ensures { result ≡ list_any (λ row. is_unfinished row && bytes_eq row.job.key key.now)
+            self.now.rows }
+    {
+        self.keys.has(key)
     }
 
     // The job that a new job joins. It takes no memory.
@@ -360,6 +386,7 @@ impl Queues {
         self.index
             .drop_first(gone.key.as_bytes(), gone.scope.as_bytes());
         let next = self.index.first(gone.key.as_bytes(), gone.scope.as_bytes());
+        self.keys.take(&gone.key);
         self.rows[place].phase = JobPhase::Done;
         self.ready.set_phase(place, JobPhase::Done);
         lead(next, &self.rows, &self.index, &mut self.ready);
@@ -392,9 +419,12 @@ impl Queues {
         self.rows.reserve(1)?;
         self.followers.make_room()?;
         self.ready.make_room()?;
+        self.keys.make_room()?;
+        let key = job.key.copy(alloc)?;
         Ok(NewJob {
             row: new_row(job, leader),
             followers: Vec::new(alloc),
+            key,
         })
     }
 
@@ -404,7 +434,11 @@ impl Queues {
         ensures rows { self.new.rows ≡ self.old.rows ++ row ∷ [] }
         ensures scheduled { result ≡ scheduled_as row.leader }
     {
-        let NewJob { row, followers } = row;
+        let NewJob {
+            row,
+            followers,
+            key,
+        } = row;
         let scheduled = match row.leader {
             Some(leader) => {
                 self.followers.add(leader as usize, row.job.number);
@@ -420,6 +454,7 @@ impl Queues {
             }
         };
         self.followers.begin(followers);
+        count_key(&mut self.keys, &row, key);
         self.ready.add(may_start(&row, &self.index));
         self.rows.push_reserved(row);
         scheduled

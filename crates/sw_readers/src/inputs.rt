@@ -1,6 +1,6 @@
 //! What the lines of the commands beside `replay` hold, as plain data: the checks of imported scripts, the lines of a
 //! roster, and the look-ups beside a replay.
-use sw_data::{Action, FetchLine, Items, Recording, Text};
+use sw_data::{Action, Boxed, FetchLine, Items, Recording, Text};
 
 /// One answer of the network for an address, with what the script in it imports.
 #[derive(Drop)]
@@ -41,7 +41,7 @@ pub struct RosterRecording {
 #[derive(Drop)]
 pub struct LookLine {
     pub address: Text,
-    pub partition: Option<Text>,
+    pub partition: Option<Boxed<Text>>,
 }
 
 /// A recording, and the look-ups beside its replay, in order.

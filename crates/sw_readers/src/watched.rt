@@ -9,7 +9,7 @@ ghost use Rattle.sw_record.specs.Grammar.{Reads};
 use crate::inputs::{LookLine, WatchedRecording};
 use serde_json::Value;
 use std::alloc::Global;
-use sw_data::{Items, NoMemory, Text};
+use sw_data::{Boxed, Items, NoMemory, Text};
 use sw_forms::{Flaw, Limit, NO_FORM, Part, RecordingError, address_part, both, has_only, needs};
 use sw_record::{FromLines, Reading, nothing_read, partition_member, read_lines};
 
@@ -26,7 +26,7 @@ pub struct WatchedReading {
 #[tactic(auto, unfolding(sw_forms::specs::Flaws::both))]
 fn look_from(
     address: Result<Text, Flaw>,
-    partition: Result<Option<Text>, Flaw>,
+    partition: Result<Option<Boxed<Text>>, Flaw>,
 ) -> Result<LookLine, Flaw>
     ensures { result ≡ grammar.look_from address partition }
 {

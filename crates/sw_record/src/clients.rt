@@ -8,9 +8,9 @@ ghost use Rattle.sw_record.specs.Lanes as lanes;
 use serde_json::Value;
 use std::alloc::Global;
 use sw_data::header::is_value;
-use sw_data::{ClientScope, Kind, Mode, Place, Registering, Slot, Text};
+use sw_data::{Boxed, ClientScope, Kind, Mode, Place, Registering, Slot, Text};
 use sw_forms::{
-    Flaw, LineCause, NO_FORM, PARTITION_LIMIT, Part, both, needs, number_member, short,
+    Flaw, LineCause, NO_FORM, PARTITION_LIMIT, Part, both, boxed_part, needs, number_member, short,
     short_text_member, short_text_option,
 };
 
@@ -181,11 +181,14 @@ fn register_from(
 
 /// A registration that a client asks for.
 #[tactic(auto, unfolding(crate::specs::Lanes::register_parts))]
-pub fn register_parts(alloc: Global, value: &Value) -> Part<Registering>
+pub fn register_parts(alloc: Global, value: &Value) -> Part<Boxed<Registering>>
     ensures { IfOk result (λ register. register ≡ lanes.register_parts (view value.now)) }
 {
     let addresses = addresses(alloc, value)?;
-    Ok(register_from(client_member(value), addresses, settings(value)))
+    boxed_part(
+        alloc,
+        register_from(client_member(value), addresses, settings(value)),
+    )
 }
 
 fn preload_text(alloc: Global, text: &str) -> Part<Text>
@@ -229,18 +232,18 @@ fn is_partition(text: &str) -> bool
     0 < text.len() && text.len() <= PARTITION_LIMIT && has_partition_bytes(text.as_bytes())
 }
 
-fn partition_of(alloc: Global, value: &Value) -> Part<Text>
+fn partition_of(alloc: Global, value: &Value) -> Part<Boxed<Text>>
     ensures { IfOk result (λ partition. partition ≡ lanes.partition_of (view value.now)) }
 {
     match value.as_str() {
-        Some(text) if is_partition(text) => Ok(Ok(Text::of(alloc, text)?)),
+        Some(text) if is_partition(text) => Ok(Ok(Boxed::new(alloc, Text::of(alloc, text)?)?)),
         _ => Ok(Err(NO_FORM)),
     }
 }
 
 /// The partition of a page.
 #[tactic(auto, unfolding(crate::specs::Lanes::partition_member))]
-pub fn partition_member(alloc: Global, value: &Value) -> Part<Option<Text>>
+pub fn partition_member(alloc: Global, value: &Value) -> Part<Option<Boxed<Text>>>
     ensures { IfOk result (λ partition. partition ≡ lanes.partition_member (view value.now)) }
 {
     match value.get("partition") {
@@ -253,7 +256,10 @@ pub fn partition_member(alloc: Global, value: &Value) -> Part<Option<Text>>
 }
 
 #[tactic(auto, unfolding(sw_forms::specs::Flaws::both))]
-fn place_from(at: Result<Text, Flaw>, partition: Result<Option<Text>, Flaw>) -> Result<Place, Flaw>
+fn place_from(
+    at: Result<Text, Flaw>,
+    partition: Result<Option<Boxed<Text>>, Flaw>,
+) -> Result<Place, Flaw>
     ensures { result ≡ lanes.place_from at partition }
 {
     match both(at, partition) {

@@ -11,8 +11,8 @@ use crate::clients::{
 use serde_json::Value;
 use std::alloc::Global;
 use sw_data::{
-    CacheAddAll, CacheBatch, CacheDelete, CacheMatch, CachePut, CacheQuery, ClientScope, Place,
-    Registering, Slot, Text,
+    Boxed, CacheAddAll, CacheBatch, CacheDelete, CacheMatch, CachePut, CacheQuery, ClientScope,
+    Place, Registering, Slot, Text,
 };
 use sw_forms::{
     Flaw, NO_FORM, Part, add_all_parts, batch_parts, both, delete_parts, has_only, match_parts,
@@ -21,7 +21,7 @@ use sw_forms::{
 
 /// A client that opens at an address.
 #[tactic(auto, unfolding(crate::specs::Lanes::open_line))]
-pub fn open_line(alloc: Global, value: &Value) -> Part<(u32, (Text, Option<Text>))>
+pub fn open_line(alloc: Global, value: &Value) -> Part<(u32, (Text, Option<Boxed<Text>>))>
     ensures { IfOk result (λ parts. parts ≡ lanes.open_line (view value.now)) }
 {
     if !has_only(&["lane", "do", "client", "url", "partition"], value) {
@@ -45,7 +45,7 @@ pub fn client_line(value: &Value) -> Result<u32, Flaw>
 
 /// A registration that a client asks for.
 #[tactic(auto, unfolding(crate::specs::Lanes::register_line))]
-pub fn register_line(alloc: Global, value: &Value) -> Part<Registering>
+pub fn register_line(alloc: Global, value: &Value) -> Part<Boxed<Registering>>
     ensures { IfOk result (λ register. register ≡ lanes.register_line (view value.now)) }
 {
     if !has_only(
@@ -183,7 +183,7 @@ fn has_query_names(value: &Value) -> bool
 }
 
 #[tactic(auto, unfolding(crate::specs::Lanes::match_line))]
-pub fn match_line(alloc: Global, value: &Value) -> Part<(Place, CacheMatch)>
+pub fn match_line(alloc: Global, value: &Value) -> Part<(Place, Boxed<CacheMatch>)>
     ensures { IfOk result (λ parts. parts ≡ lanes.match_line (view value.now)) }
 {
     if !has_query_names(value) {
@@ -195,7 +195,7 @@ pub fn match_line(alloc: Global, value: &Value) -> Part<(Place, CacheMatch)>
 }
 
 #[tactic(auto, unfolding(crate::specs::Lanes::query_line))]
-pub fn query_line(alloc: Global, value: &Value) -> Part<(Place, CacheQuery)>
+pub fn query_line(alloc: Global, value: &Value) -> Part<(Place, Boxed<CacheQuery>)>
     ensures { IfOk result (λ parts. parts ≡ lanes.query_line (view value.now)) }
 {
     if !has_query_names(value) {
@@ -207,7 +207,7 @@ pub fn query_line(alloc: Global, value: &Value) -> Part<(Place, CacheQuery)>
 }
 
 #[tactic(auto, unfolding(crate::specs::Lanes::delete_line))]
-pub fn delete_line(alloc: Global, value: &Value) -> Part<(Place, CacheDelete)>
+pub fn delete_line(alloc: Global, value: &Value) -> Part<(Place, Boxed<CacheDelete>)>
     ensures { IfOk result (λ parts. parts ≡ lanes.delete_line (view value.now)) }
 {
     if !has_query_names(value) {
@@ -219,7 +219,7 @@ pub fn delete_line(alloc: Global, value: &Value) -> Part<(Place, CacheDelete)>
 }
 
 #[tactic(auto, unfolding(crate::specs::Lanes::put_line))]
-pub fn put_line(alloc: Global, value: &Value) -> Part<(Place, CachePut)>
+pub fn put_line(alloc: Global, value: &Value) -> Part<(Place, Boxed<CachePut>)>
     ensures { IfOk result (λ parts. parts ≡ lanes.put_line (view value.now)) }
 {
     if !has_only(
@@ -242,7 +242,7 @@ pub fn put_line(alloc: Global, value: &Value) -> Part<(Place, CachePut)>
 }
 
 #[tactic(auto, unfolding(crate::specs::Lanes::batch_line))]
-pub fn batch_line(alloc: Global, value: &Value) -> Part<(Place, CacheBatch)>
+pub fn batch_line(alloc: Global, value: &Value) -> Part<(Place, Boxed<CacheBatch>)>
     ensures { IfOk result (λ parts. parts ≡ lanes.batch_line (view value.now)) }
 {
     if !has_only(
@@ -257,7 +257,7 @@ pub fn batch_line(alloc: Global, value: &Value) -> Part<(Place, CacheBatch)>
 }
 
 #[tactic(auto, unfolding(crate::specs::Lanes::add_all_line))]
-pub fn add_all_line(alloc: Global, value: &Value) -> Part<(Place, CacheAddAll)>
+pub fn add_all_line(alloc: Global, value: &Value) -> Part<(Place, Boxed<CacheAddAll>)>
     ensures { IfOk result (λ parts. parts ≡ lanes.add_all_line (view value.now)) }
 {
     if !has_only(

@@ -2,3 +2,4 @@ pub mod Table
 pub mod Edits
 pub mod Fits
 pub mod Kept
+pub mod ByKey

@@ -1,5 +1,6 @@
 -- The table of registrations, and what is found in it.
-use Rattle.std.specs.Prelude.{ℕ, Bool, false, ◌==◌, List, find, filter, length, Option, is_some, option_and_then}
+use Rattle.std.specs.Prelude.{ℕ, ◌+◌, Bool, false, ◌==◌, List, find, filter, length, drop, position, slice_get, bytes_eq, Option, is_some, option_and_then}
+use Rattle.std.specs.List.{position_from}
 use Rattle.std.specs.Option.{option_map_or, option_or}
 use Rattle.sw_data.specs.declared.rows.RegistrationRow.{RegistrationRow}
 use Rattle.sw_data.specs.declared.workers.Slot.{Slot}
@@ -47,3 +48,16 @@ has_first row = is_some row.first
 -- own: how many registrations have got a waiting worker
 abbrev pub firsts : List RegistrationRow → ℕ
 firsts rows = length (filter has_first rows)
+
+-- own: a registration is one of this key
+abbrev pub is_of : List ℕ → RegistrationRow → Bool
+is_of key row = bytes_eq row.key key
+
+-- own: the number, which is the place, of the first registration of a key
+abbrev pub first_of : List ℕ → List RegistrationRow → Option ℕ
+first_of key rows = position (is_of key) rows
+
+-- own: the number of the first registration behind that of a number which has the same key
+abbrev pub next_of : ℕ → List RegistrationRow → Option ℕ
+next_of number rows =
+    option_and_then (λ row. position_from (is_of row.key) (number + 1) (drop (number + 1) rows)) (slice_get rows number)

@@ -1,6 +1,7 @@
 //! The registrations by number, each with its installing, waiting and active worker.
 #![tactic(auto)]
 
+mod by_key;
 mod edit;
 mod registrations;
 

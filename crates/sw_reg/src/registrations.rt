@@ -1,12 +1,13 @@
 //! The table of registrations.
 
-ghost use Rattle.std.specs.Prelude.{◌≡◌, ◌++◌, ◌∷◌, [], ◌-◌, ◌≤◌, true, find, length, is_none, is_some, IfOk, OnOk, OnErr};
+ghost use Rattle.std.specs.Prelude.{◌≡◌, ◌++◌, ◌∷◌, [], ◌-◌, ◌≤◌, ◌<◌, true, find, length, is_none, is_some, IfOk, OnOk, OnErr};
 ghost use Rattle.std.specs.Option.{option_copied};
 ghost use Rattle.sw_rules.specs.Rows.{changed};
 ghost use Rattle.sw_reg.specs.Edits.{edited, new_registration, with_active, with_installing, with_mode, with_owed, with_waiting, without};
 ghost use Rattle.sw_reg.specs.Fits.{FitsRegistration};
-ghost use Rattle.sw_reg.specs.Table.{firsts, has_registration, is_registration, is_there, newest_of, registration_at, slot_of};
+ghost use Rattle.sw_reg.specs.Table.{first_of, firsts, has_registration, is_registration, is_there, newest_of, next_of, registration_at, slot_of};
 
+use crate::by_key::ByKey;
 use crate::edit::{Edit, carry_out};
 use std::alloc::Global;
 use std::marker::Model;
@@ -17,35 +18,41 @@ use sw_list::Flags;
 #[derive(Drop)]
 pub struct Registrations {
     rows: Vec<RegistrationRow>,
+    by_key: ByKey,
     // How many of them have got a waiting worker.
     firsts: u32,
     // Which of them are owed a Try Activate.
     owed: Flags,
+    // For how many more there is room in each of these.
+    spare: usize,
 }
 
 impl Model for Registrations {
-    ghost use Rattle.std.specs.Prelude.{◌-◌, min};
+    ghost use Rattle.std.specs.Prelude.{◌-◌, ◌≤◌, min};
     ghost use Rattle.std.specs.Vec.{vec_len, vec_capacity};
+    ghost use Rattle.sw_reg.specs.ByKey.{IsIndex, keys_of, room};
     ghost use Rattle.sw_reg.specs.Kept.{IsKept};
     ghost use Rattle.sw_reg.specs.Table.{Table};
 
     ghost Value = { Table };
 
-    ghost view = { λ r. record {
-      rows = r.rows.items;
-      spare = min (vec_capacity r.rows - vec_len r.rows) r.owed.spare;
-    } };
+    ghost view = { λ r. record { rows = r.rows.items; spare = r.spare } };
 
-    ghost invariant = { λ r. IsKept r.rows.items r.firsts r.owed.flags };
+    ghost invariant = { λ r. IsKept r.rows.items r.firsts r.owed.flags
+        × IsIndex (keys_of r.rows.items) r.by_key
+        × (r.spare ≤ min (vec_capacity r.rows - vec_len r.rows) (min (room r.by_key) r.owed.spare)) };
 }
 
 /// A finished row of a registration, which isn't in the table yet.
 #[derive(Drop)]
 pub struct NewRegistration {
     row: RegistrationRow,
+    // The key once more, for the index.
+    key: Text,
 }
 
 impl Model for NewRegistration {
+    ghost use Rattle.std.specs.Prelude.{◌≡◌};
     ghost use Rattle.sw_data.specs.declared.rows.RegistrationRow.{RegistrationRow};
     ghost use Rattle.sw_reg.specs.Kept.{IsNew};
 
@@ -53,7 +60,7 @@ impl Model for NewRegistration {
 
     ghost view = { λ new. new.row };
 
-    ghost invariant = { λ new. IsNew new.row };
+    ghost invariant = { λ new. IsNew new.row × (new.key ≡ new.row.key) };
 }
 
 impl NewRegistration {
@@ -72,8 +79,10 @@ impl Registrations {
     {
         Registrations {
             rows: Vec::new(alloc),
+            by_key: ByKey::new(alloc),
             firsts: 0,
             owed: Flags::new(alloc),
+            spare: 0,
         }
     }
 
@@ -137,6 +146,35 @@ impl Registrations {
         self.owed.first_row(&self.rows, 0)
     }
 
+    /// The first registration of a key, by its number, which is its place. It takes no memory.
+    pub fn first_of(&self, key: &Text) -> Option<u32>
+        ensures { result ≡ first_of key.now self.now.rows }
+    {
+        self.by_key.first_of(key)
+    }
+
+    /// The first registration behind that of a number which has the same key. It takes no memory.
+    pub fn next_of(&self, number: u32) -> Option<u32>
+        ensures { result ≡ next_of number self.now.rows }
+    {
+        self.by_key.next_of(number)
+    }
+
+    // Makes room for one more registration.
+    fn make_room(&mut self) -> Result<(), NoMemory>
+        ensures same { self.new.rows ≡ self.old.rows }
+        ensures kept { self.old.spare ≤ self.new.spare }
+        ensures room { OnOk result (0 < self.new.spare) }
+    {
+        if self.spare == 0 {
+            self.rows.reserve(1)?;
+            self.by_key.make_room()?;
+            self.owed.make_room()?;
+            self.spare = 1;
+        }
+        Ok(())
+    }
+
     /// Makes room for a registration, and its row.
     pub fn make_row(
         &mut self,
@@ -155,8 +193,7 @@ impl Registrations {
             Ok(number) if number < u32::MAX => number,
             _ => return Err(NoMemory),
         };
-        self.rows.reserve(1)?;
-        self.owed.make_room()?;
+        self.make_room()?;
         Ok(NewRegistration {
             row: RegistrationRow {
                 number,
@@ -169,11 +206,12 @@ impl Registrations {
                 waiting: None,
                 active: None,
             },
+            key: key.copy(alloc)?,
         })
     }
 
     /// Adds a registration whose row was made, and gives its number. It takes no memory.
-    #[tactic(auto, using(crate::proofs::Placed::kept_more))]
+    #[tactic(auto, using(crate::proofs::Placed::kept_more, crate::proofs::Indexing::index_row))]
     pub fn make_put(&mut self, new: NewRegistration) -> u32
         requires { FitsRegistration new self.old }
         ensures put { self.new ≡ record {
@@ -183,8 +221,10 @@ impl Registrations {
         ensures number { result ≡ length self.old.rows }
     {
         let number = new.row.number;
+        self.by_key.add(&self.rows, new.key);
         self.owed.add(new.row.owed);
         self.rows.push_reserved(new.row);
+        self.spare -= 1;
         number
     }
 

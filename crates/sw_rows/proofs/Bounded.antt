@@ -2,8 +2,9 @@
 use Rattle.std.specs.Prelude.{◌≡◌, ◌++◌, codes, refl}
 use Rattle.std.specs.Fmt.{digits}
 use Rattle.json.specs.Print.{escape_byte}
-use Rattle.sw_bucket.specs.Uses.{named_client, named_page, work_key}
+use Rattle.sw_bucket.specs.Uses.{work_key}
 use Rattle.sw_codec.specs.Spelling.{bytes_spelling, change_spelling, op_spelling, request_spelling, response_spelling}
+use Rattle.sw_data.specs.Events.{named_client, named_page}
 use Rattle.sw_record.proofs.OnLiterals.{grammar_on_literals}
 use Rattle.sw_rows.specs.Bounding.{replayed_within}
 use Rattle.sw_rules.proofs.OnLiterals.{steps_on_literals}

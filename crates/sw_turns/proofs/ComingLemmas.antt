@@ -9,15 +9,14 @@ use Rattle.sw_data.specs.declared.histories.Task.{Task}
 use Rattle.sw_data.specs.declared.recordings.Action.{Action}
 use Rattle.sw_data.specs.declared.recordings.Action.TheVariants as action
 use Rattle.sw_data.specs.declared.recordings.FetchLine.{FetchLine}
-use Rattle.sw_data.specs.Events.{event_of_action}
+use Rattle.sw_data.specs.Events.{action_of_event, event_of_action}
 use Rattle.sw_lane.specs.Left.{Left, action_of, taken}
 use Rattle.sw_rules.specs.History.{after_entries, moved}
 use Rattle.sw_rules.specs.State.{State}
 use Rattle.sw_rules.specs.Step.{state_after}
 use Rattle.sw_store.specs.Stores.{StoreState, all_stamped}
 use Rattle.sw_turns.proofs.FlightLemmas.{flies_not_free}
-use Rattle.sw_turns.specs.Acting.{IsTaking, action_of_event}
-use Rattle.sw_turns.specs.Coming.{AreOfTurn, ArePicked, GrowsByPick, HaveLanded, IsPickedNext}
+use Rattle.sw_turns.specs.Coming.{AreOfTurn, ArePicked, GrowsByPick, HaveLanded, IsPickedNext, IsTaking}
 use Rattle.sw_turns.specs.Flights.{Flies}
 use Rattle.sw_core.specs.Machines.{IsEventOf}
 use Rattle.sw_state.specs.Hosted.{state_of}

@@ -1,10 +1,13 @@
 -- What comes next of a recording beside what passes have taken up, and entries that came so.
 use Rattle.std.specs.Prelude.{◌≡◌, ℕ, false, List, [], ◌∷◌, ◌++◌, Option, Some, None, slice_get, slice_set}
 use Rattle.sw_data.specs.declared.events.Event.{Event}
+use Rattle.sw_data.specs.declared.events.Who.TheVariants as who
 use Rattle.sw_data.specs.declared.histories.Entry.{Entry}
 use Rattle.sw_data.specs.declared.histories.Task.{Task}
+use Rattle.sw_data.specs.declared.recordings.Action.{Action}
 use Rattle.sw_data.specs.declared.recordings.FetchLine.{FetchLine}
-use Rattle.sw_lane.specs.Left.{Left, taken}
+use Rattle.sw_data.specs.Events.{event_of_action}
+use Rattle.sw_lane.specs.Left.{Left, action_of, taken}
 use Rattle.sw_lane.specs.Picked.{event_left, in_flight, is_fetch, picked}
 use Rattle.sw_lane.specs.declared.picks.Pick.TheVariants as pick
 use Rattle.sw_lane.specs.declared.picks.Work.{Work}
@@ -31,6 +34,14 @@ pub record IsPickedNext (lines : List FetchLine) (state : State) (flights : List
   pub chosen : Work
   pub is_next : picked state (in_flight flights) lanes ≡ pick.Work chosen
   pub made : IsMadeOf lines state lanes chosen happened left
+
+-- own: the event is that of the next action of a lane, which was taken
+pub record IsTaking (before : List Left) (lane : ℕ) (happened : Event) (left : List Left) : Type 0 where
+  pub at : ℕ
+  pub taking : Action
+  pub was_next : action_of before lane ≡ Some taking
+  pub event : happened ≡ event_of_action (who.Lane lane at) taking
+  pub is_taken : left ≡ taken lane before
 
 -- own: these entries happened one after another, each what the pick order had next beside what passes have taken up, and leave
 -- this of the lanes

@@ -1,4 +1,3 @@
-pub mod Acting
 pub mod Coming
 pub mod Ends
 pub mod Flights

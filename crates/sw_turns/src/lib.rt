@@ -2,7 +2,6 @@
 //! the history's.
 #![tactic(auto)]
 
-mod acting;
 mod ends;
 mod filling;
 mod next;

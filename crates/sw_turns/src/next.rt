@@ -7,18 +7,16 @@ ghost use Rattle.sw_lane.specs.Picked as picks;
 ghost use Rattle.sw_lane.specs.declared.picks.Pick.TheVariants as pick;
 ghost use Rattle.sw_lane.specs.declared.picks.Work.TheVariants as work;
 ghost use Rattle.sw_laws.specs.Coherent.{Coherent};
-ghost use Rattle.sw_turns.specs.Acting.{IsTaking};
-ghost use Rattle.sw_turns.specs.Coming.{IsPickedNext};
+ghost use Rattle.sw_turns.specs.Coming.{IsPickedNext, IsTaking};
 ghost use Rattle.sw_turns.specs.Flights.{AreInFlight, Flies, IsDue, Spares};
 ghost use Rattle.sw_core.specs.Machines.{IsEventOf};
 ghost use Rattle.sw_turns.specs.Playing.{ComesByPick};
 ghost use Rattle.sw_state.specs.Hosted.{state_of};
 
-use crate::acting::action_of_event;
 use std::alloc::Global;
 use sw_core::{Core, task_event};
-use sw_data::{Event, NoMemory, Task, Who};
-use sw_lane::{Lanes, event_of_action};
+use sw_data::{Event, NoMemory, Task, Who, action_of_event, event_of_action};
+use sw_lane::Lanes;
 use sw_net::Net;
 
 /// The event of the next action of a lane, which is taken.

@@ -3,11 +3,11 @@ use Rattle.std.specs.Prelude.{◌≡◌, ◌<◌, ◌+◌, ◌*◌, ℕ, Bool, t
 use Rattle.std.specs.Option.{option_map_or}
 use Rattle.sw_cachestorage.specs.Acts.{FitsAct, acted}
 use Rattle.sw_cachestorage.specs.Added.{IsAdded}
-use Rattle.sw_cachestorage.specs.Adding.{FitsNew}
+use Rattle.sw_cachestorage.specs.Adding.{FitsNew, added_by}
 use Rattle.sw_cachestorage.specs.declared.act.CacheAct.{CacheAct}
 use Rattle.sw_cachestorage.specs.declared.adding.NewAddAll.{NewAddAll}
 use Rattle.sw_cachestorage.specs.declared.ended.AddedStep.{AddedStep}
-use Rattle.sw_cachestorage.specs.Forgetting.{AreQuiet, mapped_of}
+use Rattle.sw_cachestorage.specs.Forgetting.{has_pending_of, mapped_of}
 use Rattle.sw_client.specs.Table.{users_of}
 use Rattle.sw_data.specs.declared.answers.Answer.{Answer}
 use Rattle.sw_data.specs.declared.answers.Fault.{Fault}
@@ -32,7 +32,6 @@ use Rattle.sw_pages.specs.declared.worked.PageAct.TheVariants as page
 use Rattle.sw_queue.specs.Kept.{followers_of}
 use Rattle.sw_rules.specs.Activating as activating
 use Rattle.sw_rules.specs.Calls.{note_call}
-use Rattle.sw_rules.specs.Caching.{add_task}
 use Rattle.sw_rules.specs.Forgetting.{forget_key}
 use Rattle.sw_rules.specs.Installing as installing
 use Rattle.sw_rules.specs.Installing.{calls_of}
@@ -88,13 +87,9 @@ outcome_of asked state = record {
   told = told_then asked.then (told_by_act asked.act state);
 }
 
--- own: an addAll goes on to its fetches
-abbrev pub told_by_start : NewAddAll → State → Told
-told_by_start new state = add_task state new.row.maker new.row.key new.row.name new.row.requests
-
 -- own: an addAll that was worked out comes to this in a state
 abbrev pub started_outcome : Answer → NewAddAll → Then → State → Outcome
-started_outcome reply new then state = record { answer = reply; told = told_then then (told_by_start new state) }
+started_outcome reply new then state = record { answer = reply; told = told_then then (added_by new state) }
 
 -- own: both answer the same, tell the same, and leave the same state
 pub record Agree (one other : Outcome) : Type 0 where
@@ -156,7 +151,7 @@ page_room _ host = 0
 -- own: how many notices an act may tell
 abbrev pub act_room : Act → Hosted → ℕ
 act_room (act.Page act) host = page_room act host
-act_room (act.Forget key) host = 4 * length (mapped_of key host.scopes host.registrations.rows)
+act_room (act.Forget key) host = 4 * length (mapped_of key (state_of host))
 act_room _ host = 0
 
 -- own: an act of a page may be done; its preload has an act of its own
@@ -169,7 +164,7 @@ abbrev pub FitsTheAct : Act → Hosted → Type 0
 FitsTheAct (act.Page act) host = FitsPageAct act host
 FitsTheAct (act.Preload row) host = 0 < host.preloads.spare
 FitsTheAct (act.Caches act changes) host = FitsAct act host.caches
-FitsTheAct (act.Forget key) host = AreQuiet key host.workers host.registrations
+FitsTheAct (act.Forget key) host = has_pending_of key (state_of host) ≡ false
 
 -- own: the worker whose handler made a call
 abbrev pub caller_of : Then → Option ℕ
@@ -189,7 +184,7 @@ pub record FitsAsked (asked : Asked) (host : Hosted) : Type 0 where
 
 -- own: an addAll may go on to its fetches without memory: a lane made it, or the handler that made the call
 pub record FitsStart (begun : NewAddAll) (next : Then) (host : Hosted) : Type 0 where
-  pub new : FitsNew begun host.tasks host.draws
+  pub new : FitsNew begun host
   pub then : FitsThen next (state_of host) host
   pub maker : maker_worker begun.row.maker ≡ caller_of next
 

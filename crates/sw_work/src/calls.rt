@@ -12,6 +12,7 @@ ghost use Rattle.sw_data.specs.Events.{is_handler};
 ghost use Rattle.sw_laws.specs.Coherent.{Coherent};
 ghost use Rattle.sw_pages.specs.Acts as pages;
 ghost use Rattle.sw_pages.specs.Jobs.{IsNext, comes_to};
+ghost use Rattle.sw_rules.specs.Caching.{add_all};
 ghost use Rattle.sw_rules.specs.Calls as calls;
 ghost use Rattle.sw_rules.specs.Rows.{is_number, maker_worker, worker_row};
 ghost use Rattle.sw_rules.specs.Told.{Outcome};
@@ -31,10 +32,9 @@ use sw_cachestorage::{
     put_response,
 };
 use sw_data::{
-    Answer, CacheAddAll, Call, Fault, Job, NoMemory, Phase, RegistrationRow, StateCause, Who,
+    Answer, CacheAddAll, Call, Fault, Job, NoMemory, Phase, RegistrationRow, StateCause, Text, Who,
     WorkerRow,
 };
-use sw_ledgers::{Draws, Tasks};
 use sw_pages::{PageAct, Worked, claim_of, schedule_asked, skip_waiting_of, update_named};
 use sw_scope::ScopeMap;
 use sw_state::HostTables;
@@ -90,7 +90,7 @@ fn page_work(worker: u32, worked: Worked) -> Work
 // The work of an addAll that was worked out up to its fetches. Its promise has no effect.
 fn begun_work(worker: u32, step: AddAllStep) -> Work
     requires maker { IfSome step.start (λ new. maker_worker new.row.maker ≡ Some worker) }
-    ensures fits { (host : Hosted) → FitsStart step.start host.tasks host.draws
+    ensures fits { (host : Hosted) → FitsStart step.start host
         → has_calls_left worker (state_of host) ≡ true → FitsWork result host }
     ensures means { (host : Hosted) (by : Who) → is_handler by ≡ true
         → Means result host (calls.noted (begun by step (state_of host)) worker) }
@@ -126,9 +126,9 @@ fn on_caches(
     match call {
         Call::CacheOpen { name } => open_cache(alloc, caches, &of.key, name),
         Call::CacheDelete { name } => delete_cache(alloc, caches, &of.key, name),
-        Call::Put(put) => put_response(alloc, caches, &row.script, &of.key, put),
-        Call::Delete(asked) => delete_request(alloc, caches, &row.script, &of.key, asked),
-        Call::Batch(asked) => batch_ops(alloc, caches, &row.script, &of.key, asked),
+        Call::Put(put) => put_response(alloc, caches, &row.script, &of.key, put.get()),
+        Call::Delete(asked) => { delete_request(alloc, caches, &row.script, &of.key, asked.get()) }
+        Call::Batch(asked) => batch_ops(alloc, caches, &row.script, &of.key, asked.get()),
         _ => unreachable!(),
     }
 }
@@ -263,30 +263,25 @@ fn update_work(
     Ok(page_work(worker, worked))
 }
 
-// The work of an addAll.
+// The work of an addAll at a key, in the name of a worker.
 fn add_all_work(
+    host: &mut HostTables,
     alloc: Global,
     by: Who,
-    row: &WorkerRow,
-    of: &RegistrationRow,
+    worker: u32,
+    base: &Text,
+    key: &Text,
     asked: &CacheAddAll,
-    caches: &Caches,
-    tasks: &mut Tasks,
-    draws: &mut Draws,
 ) -> Result<Work, NoMemory>
-    requires by { maker_worker by ≡ Some row.now.number }
-    requires left { workers_of.has_calls_left row.now ≡ true }
-    ensures tasks { tasks.new.rows ≡ tasks.old.rows }
-    ensures draws { draws.new.rows ≡ draws.old.rows }
-    ensures fits { IfOk result (λ work. (host : Hosted) → HasRow row.now host
-        → FitsWork work (record host { tasks = tasks.new; draws = draws.new })) }
-    ensures means { IfOk result (λ work. (host : Hosted) (in_phase : Phase)
-        → Means work (record host { caches = caches.now; tasks = tasks.old })
-        (noted_call by in_phase row.now of.now.key (Call.AddAll asked.now)
-        (state_of (record host { caches = caches.now; tasks = tasks.old })))) }
+    requires by { maker_worker by ≡ Some worker }
+    requires left { has_calls_left worker (state_of host.old) ≡ true }
+    ensures same { SameRows host.old host.new }
+    ensures fits { IfOk result (λ work. FitsWork work host.new) }
+    ensures means { IfOk result (λ work. Means work host.old
+        (calls.noted (add_all (state_of host.old) by base.now asked.now key.now) worker)) }
 {
-    let step = add_all(alloc, by, &row.script, &of.key, asked, caches, tasks, draws)?;
-    Ok(begun_work(row.number, step))
+    let step = add_all(host, alloc, by, base, key, asked)?;
+    Ok(begun_work(worker, step))
 }
 
 /// The work of the next call of the handler of a worker.
@@ -315,20 +310,16 @@ pub fn call_work(
         Call::SkipWaiting => Ok(skip_work(row)),
         Call::Claim => Ok(claim_work(row)),
         Call::Update => update_work(host, alloc, worker, phase),
-        Call::AddAll(asked) => add_all_work(
-            alloc,
-            Who::Handler {
+        Call::AddAll(asked) => {
+            let base = row.script.copy(alloc)?;
+            let key = of.key.copy(alloc)?;
+            let by = Who::Handler {
                 worker,
                 phase,
                 call: number,
-            },
-            row,
-            of,
-            asked,
-            &host.caches,
-            &mut host.tasks,
-            &mut host.draws,
-        ),
+            };
+            add_all_work(host, alloc, by, worker, &base, &key, asked.get())
+        }
         _ => caches_work(alloc, row, of, call, &mut host.caches),
     }
 }

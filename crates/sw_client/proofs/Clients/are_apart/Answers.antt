@@ -8,4 +8,4 @@ use Rattle.sw_client.proofs.Clients.are_apart.Goals as goal
 pub returns : goal.returns
 returns c =
     subst (λ (table : Table). IsDistinct nat_eq (map (λ (row : ClientRow). row.number) (clients_of table))) c.self.view_is
-    (numbers_apart c.self.inside.rows.entries c.self.invariant.keyed)
+    (numbers_apart c.self.inside.rows.entries c.self.invariant.counted.keyed)

@@ -2,13 +2,12 @@ use Rattle.std.proofs.Common.{◌≡◌, ℕ, Bool, true, false, List, Option, S
 use Rattle.std.specs.Option.{IfSome, option_map_or}
 use Rattle.sw_cachestorage.specs.Added.{IsAdded}
 use Rattle.sw_data.specs.declared.recordings.FetchLine.{FetchLine}
-use Rattle.sw_state.specs.contracts.tables.HostTables.{the_view}
 use Rattle.sw_ledgers.specs.Tasks.{has_task}
 use Rattle.sw_rules.specs.Caching.{added, task_ended}
 use Rattle.sw_rules.specs.Rows.{task_row}
 use Rattle.sw_rules.specs.State.{State, AddAll}
 use Rattle.sw_rules.specs.Told.{Outcome}
-use Rattle.sw_state.specs.Hosted.{Hosted, state_of}
+use Rattle.sw_state.specs.Hosted.{state_of}
 use Rattle.sw_prepare.proofs.hosts.work_of_added.Goals as goal
 
 -- an addAll whose fetches may end has not settled
@@ -25,24 +24,18 @@ unsettled state task lines ends = by (task_row state task) ends
     by (Some row) is = taken (is_none row.settled) (task_ended state lines row) is
 
 pub added-requires : goal.added-requires
-added-requires c = record {
-  unsettled =
-      unsettled (state_of (the_view c.host.inside)) c.args.task c.args.lines.now
-      (subst (λ (h : Hosted). IsSome (added (state_of h) c.args.task c.args.lines.now)) (sym c.host.view_is) c.requires);
-}
+added-requires c = unsettled (state_of c.args.host.now) c.args.task c.args.lines.now c.requires
 
 pub returns-clause-works : goal.returns-clause-works
 returns-clause-works c =
-    let inside : Hosted = the_view c.host.inside in
-    let ended = c.in_ok-step.ensures.step (state_of inside) in
+    let now = c.args.host.now in
+    let ended = c.in_ok-step.ensures.step in
     record {
-      means =
-          subst (λ (h : Hosted). IfSome (added (state_of h) c.args.task c.args.lines.now) (λ outcome. IsAdded outcome (state_of h) c.args.task c.in_ok-step.step)) c.host.view_is
-          (subst (λ (o : Option Outcome). IfSome o (λ outcome. IsAdded outcome (state_of inside) c.args.task c.in_ok-step.step)) (sym ended.1) ended.2);
+      means = subst (λ (o : Option Outcome). IfSome o (λ outcome. IsAdded outcome (state_of now) c.args.task c.in_ok-step.step)) (sym ended.1) ended.2;
       fits = record {
         act = c.in_ok-step.ensures.fits;
         unsettled =
-            unsettled (state_of inside) c.args.task c.args.lines.now
-            (subst (λ (h : Hosted). IsSome (added (state_of h) c.args.task c.args.lines.now)) (sym c.host.view_is) c.requires);
+            subst (λ (rows : List AddAll). has_task (λ row. is_none row.settled) c.args.task rows ≡ true) (sym c.added.ensures.same.tasks)
+            (unsettled (state_of now) c.args.task c.args.lines.now c.requires);
       };
     }

@@ -26,7 +26,7 @@ pub work_of_fetched-requires-clause-ends : goal.work_of_fetched-requires-clause-
 work_of_fetched-requires-clause-ends c =
     let state = state_of c.args.host.now in
     ap is_some
-    (ap (λ (line : Option FetchLine). fetched state c.in-Fetched.job line) c.as_ref.ensures.value
+    (ap (λ (line : Option FetchLine). fetched state c.in-Fetched.job line) c.unboxed_option.ensures
     ∙ sym (fetched_comes state c.args.event.now c.in-Fetched.who c.in-Fetched.job c.requires.who c.in-Fetched.line c.in-Fetched.is))
     ∙ c.requires.enabled
 
@@ -34,7 +34,7 @@ pub returns-in-Fetched-clause-works : goal.returns-in-Fetched-clause-works
 returns-in-Fetched-clause-works c =
     let state = state_of c.args.host.now in
     subst (λ (o : Option Outcome). IfOk c.work_of_fetched.result (Works c.args.host.now c.work_of_fetched.new.host o))
-    (ap (λ (line : Option FetchLine). fetched state c.in-Fetched.job line) c.as_ref.ensures.value
+    (ap (λ (line : Option FetchLine). fetched state c.in-Fetched.job line) c.unboxed_option.ensures
     ∙ sym (fetched_comes state c.args.event.now c.in-Fetched.who c.in-Fetched.job c.requires.who c.in-Fetched.line c.in-Fetched.is))
     c.work_of_fetched.ensures.works
 

@@ -5,7 +5,7 @@ use Rattle.sw_prepare.proofs.lanes.begun.Goals as goal
 
 pub returns-in-Some-clause-fits : goal.returns-in-Some-clause-fits
 returns-in-Some-clause-fits c =
-    starts (state_of c.args.host.now) c.args.lane c.args.at c.args.host.now c.then_of.new.host c.args.step.start c.in-Some.new c.in_ok-then.then c.in-Some.is
+    starts c.args.lane c.args.at c.args.host.now c.then_of.new.host c.args.step.start c.in-Some.new c.in_ok-then.then c.in-Some.is
     c.requires.fits c.requires.maker c.then_of.ensures.others c.in_ok-then.ensures.caller c.in_ok-then.ensures.fits
 
 pub returns-in-Some-clause-means : goal.returns-in-Some-clause-means

@@ -13,6 +13,6 @@ returns-in-Some c =
     let joined : front ++ (codes "^" ++ partition) ≡ root_key c.args.place.now =
     sym (append_assoc front (codes "^") partition)
     ∙ ap (λ (o : List ℕ). o ++ codes "^" ++ partition) front_is
-    ∙ ap (λ (p : List ℕ). origin ++ codes "^" ++ p) c.as_str-partition.ensures
+    ∙ ap (λ (p : List ℕ). origin ++ codes "^" ++ p) (c.as_str-partition.ensures ∙ c.get.ensures)
     ∙ ap (λ (p : Option (List ℕ)). partitioned p origin) (sym c.in-Some.is) in
     subst (λ (text : List ℕ). IfOk c.format.result (λ key. string_bytes key ≡ text)) joined c.format.ensures.ok

@@ -11,8 +11,7 @@ use Rattle.sw_turns.proofs.FlightLemmas.{none_flies}
 use Rattle.sw_turns.proofs.GroupLemmas.{next_of, next_pick, no_room}
 use Rattle.sw_turns.proofs.filling.act.Goals as goal
 use Rattle.sw_turns.proofs.filling.act.Goals.{After-put_back}
-use Rattle.sw_turns.specs.Acting.{IsTaking}
-use Rattle.sw_turns.specs.Coming.{NextHasNoRoom}
+use Rattle.sw_turns.specs.Coming.{IsTaking, NextHasNoRoom}
 use Rattle.sw_turns.specs.Groups.{IsUnderWay, StaysOut}
 use Rattle.sw_turns.specs.declared.ends.Refusal.{Refusal}
 use Rattle.sw_turns.specs.Ways.{recorded_way}

@@ -1,14 +1,16 @@
 -- The next call of a handler.
-use Rattle.std.proofs.Common.{◌≡◌, ℕ, true, Option, Some, IfSome, IsSome, is_some, refl, sym, ap, subst}
+use Rattle.std.proofs.Common.{◌≡◌, ◌∙◌, ℕ, true, List, Option, Some, IfSome, IsSome, is_some, refl, sym, ap, subst}
 use Rattle.sw_state.proofs.Same.{same_refl}
 use Rattle.sw_data.specs.declared.events.Who.{Who}
 use Rattle.sw_data.specs.declared.events.Who.TheVariants as maker
+use Rattle.sw_data.specs.declared.recordings.CacheAddAll.{CacheAddAll}
 use Rattle.sw_data.specs.declared.recordings.Call.{Call}
 use Rattle.sw_data.specs.declared.recordings.Call.TheVariants as call
 use Rattle.sw_data.specs.declared.rows.RegistrationRow.{RegistrationRow}
 use Rattle.sw_data.specs.declared.rows.WorkerRow.{WorkerRow}
 use Rattle.sw_data.specs.declared.workers.Phase.{Phase}
 use Rattle.sw_reg.specs.Table.{registration_at}
+use Rattle.sw_rules.specs.Caching.{add_all}
 use Rattle.sw_rules.specs.Calls.{make_call, noted, update_own}
 use Rattle.sw_rules.specs.State.{Worker}
 use Rattle.sw_tables.proofs.Rows.{found_number}
@@ -30,6 +32,14 @@ left_at : (host now : Hosted) (worker : ℕ) (in_phase : Phase) (number : ℕ) (
     → IsSome (make_call (state_of now) (maker.Handler worker in_phase number) asked) → workers.has_calls_left row ≡ true
 left_at host now worker in_phase number asked row is there comes =
     calls_left host worker in_phase number asked row there (happens host now (maker.Handler worker in_phase number) asked is comes)
+
+-- and so does the state say
+left_by : (host now : Hosted) (worker : ℕ) (in_phase : Phase) (number : ℕ) (asked : Call) (row : WorkerRow) → host ≡ now → worker_at worker host.workers.rows ≡ Some row
+    → IsSome (make_call (state_of now) (maker.Handler worker in_phase number) asked) → has_calls_left worker (state_of now) ≡ true
+left_by host now worker in_phase number asked row is there comes =
+    subst (λ (h : Hosted). has_calls_left worker (state_of h) ≡ true) is
+    (subst (λ (n : ℕ). has_calls_left n (state_of host) ≡ true) (found_number (λ (w : WorkerRow). w.number) worker host.workers.rows row there)
+    (host_left host row (own_row host worker row there) (left_at host now worker in_phase number asked row is there comes)))
 
 row_now : (host now : Hosted) (worker : ℕ) (row : WorkerRow) → host ≡ now → worker_at worker host.workers.rows ≡ Some row → worker_at worker now.workers.rows ≡ Some row
 row_now host now worker row is = subst (λ (h : Hosted). worker_at worker h.workers.rows ≡ Some row) is
@@ -63,24 +73,16 @@ claim_work-requires c = record {
 pub update_work-requires-clause-left : goal.update_work-requires-clause-left
 update_work-requires-clause-left c =
     let host = the_view c.host.inside in
-    let row = c.in-Some.row.now in
-    let there = sym c.in-Some.ensures in
-    let left = host_left host row (own_row host c.args.worker row there)
-    (left_at host c.args.host.now c.args.worker c.args.phase c.args.number c.args.call.now row c.host.view_is there c.requires.next) in
-    subst (λ (h : Hosted). has_calls_left c.args.worker (state_of h) ≡ true) c.host.view_is
-    (subst (λ (n : ℕ). has_calls_left n (state_of host) ≡ true) (found_number (λ (w : WorkerRow). w.number) c.args.worker host.workers.rows row there) left)
+    left_by host c.args.host.now c.args.worker c.args.phase c.args.number c.args.call.now c.in-Some.row.now c.host.view_is (sym c.in-Some.ensures) c.requires.next
 
 pub add_all_work-requires-clause-left : goal.add_all_work-requires-clause-left
 add_all_work-requires-clause-left c =
-    left_at (the_view c.host.inside) c.args.host.now c.args.worker c.args.phase c.args.number c.args.call.now c.in-Some.row.now c.host.view_is (sym c.in-Some.ensures) c.requires.next
+    let host = the_view c.host.inside in
+    left_by host c.args.host.now c.args.worker c.args.phase c.args.number c.args.call.now c.in-Some.row.now c.host.view_is (sym c.in-Some.ensures) c.requires.next
 
 pub caches_work-requires-clause-left : goal.caches_work-requires-clause-left
 caches_work-requires-clause-left c =
     left_at (the_view c.host.inside) c.args.host.now c.args.worker c.args.phase c.args.number c.args.call.now c.in-Some.row.now c.host.view_is (sym c.in-Some.ensures) c.requires.next
-
-pub add_all_work-requires-clause-by : goal.add_all_work-requires-clause-by
-add_all_work-requires-clause-by c =
-    ap Some (sym (found_number (λ (w : WorkerRow). w.number) c.args.worker c.host.inside.workers.rows c.in-Some.row.now (sym c.in-Some.ensures)))
 
 pub returns-in-SkipWaiting-clause-works : goal.returns-in-SkipWaiting-clause-works
 returns-in-SkipWaiting-clause-works c =
@@ -128,18 +130,22 @@ returns-in-Update-clause-works c =
 
 pub returns-in-AddAll-clause-works : goal.returns-in-AddAll-clause-works
 returns-in-AddAll-clause-works c =
-    let host : Hosted = the_view c.host.inside in
+    let now = c.args.host.now in
     let row = c.in-Some.row.now in
-    let there = sym c.in-Some.ensures in
+    let of = c.in-Some-row.of.now in
+    let asked = c.get.result.now in
     let by = maker.Handler c.args.worker c.args.phase c.args.number in
-    let new : Hosted = record host { tasks = c.add_all_work.new.tasks; draws = c.add_all_work.new.draws } in
+    let there = row_now (the_view c.host.inside) now c.args.worker row c.host.view_is (sym c.in-Some.ensures) in
+    let held = of_now (the_view c.host.inside) now row of c.host.view_is (sym c.in-Some-row.ensures) in
+    let own = found_number (λ (w : WorkerRow). w.number) c.args.worker now.workers.rows row there in
     both_ok c.add_all_work.result _ _
-    (λ (work : Work). Works c.args.host.now new (make_call (state_of c.args.host.now) by c.args.call.now) work)
+    (λ (work : Work). Works now c.add_all_work.new.host (make_call (state_of now) by c.args.call.now) work)
     (λ work fits means.
-    subst (λ (h : Hosted). Works h new (make_call (state_of h) by c.args.call.now) work) c.host.view_is
-    (works_next host c.args.worker c.args.phase c.args.number c.args.call.now row there new c.in-Some-row.of.now (call.AddAll c.in-AddAll.asked) work (sym c.in-Some-row.ensures) c.in-AddAll.is
-    (means host c.args.phase)
-    (fits host (own_row host c.args.worker row there))))
+    works_next now c.args.worker c.args.phase c.args.number c.args.call.now row there c.add_all_work.new.host of (call.AddAll asked) work held (c.in-AddAll.is ∙ ap (λ (it : CacheAddAll). call.AddAll it) (sym c.get.ensures))
+    (subst (λ (n : ℕ). Means work now (noted (add_all (state_of now) by row.script asked of.key) n)) (sym own)
+    (subst (λ (base : List ℕ). Means work now (noted (add_all (state_of now) by base asked of.key) c.args.worker)) c.in_ok-base.ensures
+    (subst (λ (key : List ℕ). Means work now (noted (add_all (state_of now) by c.in_ok-base.base asked key) c.args.worker)) c.in_ok-key.ensures means)))
+    fits)
     c.add_all_work.ensures.fits c.add_all_work.ensures.means
 
 pub returns-in_default-call : goal.returns-in_default-call

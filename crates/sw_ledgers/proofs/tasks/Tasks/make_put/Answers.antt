@@ -10,4 +10,4 @@ invariant_of-self c =
     let number = ap (λ (row : AddAll). row.number) c.row.view_is
     ∙ (c.requires.number ∙ (sym (ap (λ (table : Table). length table.rows) c.self.view_is) ∙ many_rows tasks)) in
     rw (c.push_reserved.ensures.items, c.add.ensures)
-    (kept_more tasks c.self.inside.unsettled.flags c.row.inside.row c.is_none.result c.self.invariant c.row.invariant number c.is_none.ensures)
+    (kept_more tasks c.self.inside.unsettled.flags c.self.inside.keys c.add-2.new.self c.row.inside.row c.row.inside.key c.self.invariant c.row.invariant number c.add-2.ensures.counts)

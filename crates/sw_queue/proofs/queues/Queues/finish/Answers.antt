@@ -9,7 +9,8 @@ use Rattle.sw_queue.specs.Tables.{Table, has_head, with_phase}
 use Rattle.sw_queue.proofs.Heads.{followers_stay}
 use Rattle.sw_queue.proofs.Leaving.{flag_there, has_left, head_there, marked_done}
 use Rattle.sw_queue.proofs.Marking.{flags_there, joined_none}
-use Rattle.sw_queue.proofs.Running.{passing_below, rows_set}
+use Rattle.sw_queue.proofs.Running.{not_done, passing_below, rows_set}
+use Rattle.sw_queue.proofs.Tallying.{tallied_done}
 use Rattle.sw_queue.proofs.queues.Queues.finish.Goals as goal
 
 pub index-requires : goal.index-requires
@@ -63,6 +64,9 @@ invariant_of-self c =
           left.dropped (joined_none rows kept.numbers old.job.key old.job.scope old left.first) refl c.first-next.result
           (c.first-next.ensures ∙ (λ i. slice_get (line_in after (key_is i) (scope_is i)).numbers 0))
           (head_there _ lists after c.as_bytes-3.result.now c.as_bytes-4.result.now c.first-next.result left.kept c.first-next.ensures);
+      tallied = tallied_done rows c.self.inside.keys c.take.new.self c.args.job old c.index.result.now.job.key c.self.invariant.tallied c.index_mut.ensures.value left.below
+          (joined_none rows kept.numbers old.job.key old.job.scope old left.first) (not_done rows kept.numbers old.job.key old.job.scope old left.first)
+          (ap (λ (row : JobRow). row.job.key) left.same) c.take.ensures.counts;
     }
 
 pub returns-clause-done : goal.returns-clause-done

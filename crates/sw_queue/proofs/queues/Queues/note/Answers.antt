@@ -6,6 +6,7 @@ use Rattle.sw_queue.specs.Tables.{Table, has_head, noted}
 use Rattle.sw_queue.proofs.Heads.{followers_stay, head_set}
 use Rattle.sw_queue.proofs.Marking.{flags_there, joined_none, marked_moved, waits_no}
 use Rattle.sw_queue.proofs.Running.{first_is, kept_set, not_done, passing_below, passing_row, rows_set, runs_on, table_set, waits_not}
+use Rattle.sw_queue.proofs.Tallying.{tallied_set}
 use Rattle.sw_queue.proofs.queues.Queues.note.Goals as goal
 
 pub index_mut-row-requires : goal.index_mut-row-requires
@@ -37,6 +38,8 @@ invariant_of-self c =
           (runs_on c.args.notes.phase c.requires.runs ∙ sym (not_done rows kept.numbers old.job.key old.job.scope old first));
       marked = marked_moved rows c.self.inside.index c.self.inside.ready c.args.job (noted c.args.notes old) c.self.invariant.marked
           (joined_none rows kept.numbers old.job.key old.job.scope old first) (waits_no c.args.notes.phase c.requires.runs);
+      tallied = tallied_set rows c.self.inside.keys c.args.job old (noted c.args.notes old) c.self.invariant.tallied here below refl refl
+          (runs_on c.args.notes.phase c.requires.runs ∙ sym (not_done rows kept.numbers old.job.key old.job.scope old first));
     }
 
 pub returns-clause-noted : goal.returns-clause-noted

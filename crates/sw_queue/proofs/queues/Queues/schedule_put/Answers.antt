@@ -10,6 +10,7 @@ use Rattle.sw_queue.proofs.Keeping.{kept_is, kept_joined, kept_queued}
 use Rattle.sw_queue.proofs.Marking.{marked_more, starting_more}
 use Rattle.sw_queue.proofs.Rooms.{spare_in}
 use Rattle.sw_queue.proofs.Running.{joined_below}
+use Rattle.sw_queue.proofs.Tallying.{tallied_more}
 use Rattle.sw_queue.proofs.queues.Queues.schedule_put.Goals as goal
 use Rattle.sw_queue.proofs.queues.Queues.schedule_put.Goals.{in-Some, in-None}
 
@@ -49,6 +50,8 @@ invariant_of-self c =
             marked = marked_more rows _ lines after c.self.inside.ready c.match-row.self-inside.ready _ row _ c.self.invariant.marked
                 (ap (λ inside. map (may_start inside.index) rows) w.self-inside-is)
                 (ap (λ (r : JobRow). is_waiting r.phase) new_is) c.may_start.ensures (ap (λ inside. inside.ready) w.self-inside-is) rows_are c.add-2.ensures;
+            tallied = tallied_more rows _ c.self.inside.keys c.match-row.self-inside.keys c.count_key.new.keys row c.row.inside.key c.self.invariant.tallied
+                (ap (λ (r : JobRow). is_done r.phase) new_is) c.row.invariant.1 (ap (λ inside. inside.keys) w.self-inside-is) c.count_key.ensures rows_are;
           }
       | in-None w ↦
           let done = ap (λ (r : JobRow). is_done r.phase) new_is in
@@ -69,5 +72,7 @@ invariant_of-self c =
                 (ap (λ inside. map (may_start inside.index) rows) w.self-inside-is
                 ∙ starting_more rows lines w.add-in-None.new.self row kept.numbers own added)
                 (ap (λ (r : JobRow). is_waiting r.phase) new_is) c.may_start.ensures (ap (λ inside. inside.ready) w.self-inside-is) rows_are c.add-2.ensures;
+            tallied = tallied_more rows _ c.self.inside.keys c.match-row.self-inside.keys c.count_key.new.keys row c.row.inside.key c.self.invariant.tallied
+                (ap (λ (r : JobRow). is_done r.phase) new_is) c.row.invariant.1 (ap (λ inside. inside.keys) w.self-inside-is) c.count_key.ensures rows_are;
           }
     ]

@@ -6,12 +6,13 @@ use Rattle.sw_data.specs.declared.rows.JobRow.{JobRow}
 use Rattle.sw_rules.specs.Jobs.{gets_value}
 use Rattle.sw_rules.specs.Rows.{is_first}
 use Rattle.sw_queue.specs.Kept.{followers_of}
-use Rattle.sw_queue.specs.Ready.{AreMarked}
+use Rattle.sw_queue.specs.Ready.{AreMarked, AreTallied}
 use Rattle.sw_queue.specs.Tables.{Table, has_job}
 use Rattle.sw_queue.proofs.Heads.{followers_stay, head_settled}
 use Rattle.sw_queue.proofs.Marking.{marked_changed}
 use Rattle.sw_queue.proofs.Running.{passing_below, table_set}
 use Rattle.sw_queue.proofs.Settling.{followers_below, kept_settled, settled_whole}
+use Rattle.sw_queue.proofs.Tallying.{tallied_changed}
 use Rattle.sw_queue.proofs.queues.Queues.settle.Goals as goal
 
 pub settle_rows-requires-clause-job : goal.settle_rows-requires-clause-job
@@ -40,6 +41,9 @@ invariant_of-self c =
       marked = subst (λ (rs : List JobRow). AreMarked rs c.self.inside.index c.self.inside.ready) (sym those)
           (marked_changed rows c.self.inside.index c.self.inside.ready (gets_value c.args.job) (λ row. record row { settled = Some c.args.value })
           c.self.invariant.marked (λ row. refl) (λ row. refl) (λ row. refl));
+      tallied = subst (λ (rs : List JobRow). AreTallied rs c.self.inside.keys) (sym those)
+          (tallied_changed rows c.self.inside.keys (gets_value c.args.job) (λ row. record row { settled = Some c.args.value })
+          c.self.invariant.tallied (λ row. refl) (λ row. refl) (λ row. refl));
     }
 
 pub returns-clause-settled : goal.returns-clause-settled

@@ -6,6 +6,7 @@ use Rattle.sw_queue.specs.Tables.{Table, with_phase, ready_job}
 use Rattle.sw_queue.proofs.Heads.{first_found, followers_stay, head_set}
 use Rattle.sw_queue.proofs.Marking.{flags_there, joined_none, marked_moved}
 use Rattle.sw_queue.proofs.Running.{first_there, kept_set, not_done, number_at, ready, rows_set, table_set}
+use Rattle.sw_queue.proofs.Tallying.{tallied_set}
 use Rattle.sw_queue.proofs.queues.Queues.start.Goals as goal
 
 pub index_mut-row-requires : goal.index_mut-row-requires
@@ -37,6 +38,8 @@ invariant_of-self-2 c =
           (sym (not_done rows kept.numbers key scope old found));
       marked = marked_moved rows c.self.inside.index c.self.inside.ready c.in-Some.number (with_phase job_phase.Fetching old) c.self.invariant.marked
           (joined_none rows kept.numbers key scope old found) refl;
+      tallied = tallied_set rows c.self.inside.keys c.in-Some.number old (with_phase job_phase.Fetching old) c.self.invariant.tallied here
+          (first_there rows kept.numbers key scope c.in-Some.number first).0 refl refl (sym (not_done rows kept.numbers key scope old found));
     }
 
 pub returns-then-not-is_waiting-clause-answer : goal.returns-then-not-is_waiting-clause-answer

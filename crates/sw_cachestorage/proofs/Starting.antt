@@ -1,6 +1,7 @@
--- An addAll that goes on to its fetches.
+-- An addAll that goes on to its fetches: the tables of its host belong together.
 use Rattle.std.proofs.Common.{◌≡◌, ◌∙◌, ◌+◌, ◌&&◌, ◌==◌, ℕ, Bool, true, false, List, [], ◌∷◌, ◌++◌, filter, length, Some, None, refl, sym, ap, arith, if◌then◌else◌}
 use Rattle.std.proofs.lemmas.Bool.Decides.{nat_tests}
+use Rattle.sw_cachestorage.specs.Adding.{added_by}
 use Rattle.sw_cachestorage.specs.declared.adding.NewAddAll.{NewAddAll}
 use Rattle.sw_ledgers.specs.Drawn as draws
 use Rattle.sw_ledgers.specs.Tasks as tasks
@@ -8,21 +9,10 @@ use Rattle.sw_rules.specs.Caching.{add_task, new_task}
 use Rattle.sw_rules.specs.Rows.{is_unsettled_of, maker_worker}
 use Rattle.sw_rules.specs.State.{AddAll}
 use Rattle.sw_rules.specs.Told.{Told, quiet}
+use Rattle.sw_state.specs.Hosted.{Hosted, IsJoined, state_of}
 use Rattle.sw_tables.specs.Happened.{CountsTasks, unsettled_of}
-use Rattle.sw_state.specs.Hosted.{Hosted, state_of}
-use Rattle.sw_work.specs.Plans.{told_by_start}
+use Rattle.sw_tables.specs.Linked.{Linked}
 use Rattle.sw_worker.specs.Table as workers
-
-module _ (host : Hosted) (new : NewAddAll) (of_tasks : tasks.Table) (of_draws : draws.Table)
-    (told : told_by_start new (state_of host) ≡ quiet (record (state_of host) { tasks = of_tasks.rows; draws = of_draws.rows })) where
-  pub started : state_of (record host { tasks = of_tasks; draws = of_draws }) ≡ (told_by_start new (state_of host)).state
-  started = sym (ap (λ (t : Told). t.state) told)
-
-  pub started_tasks : of_tasks.rows ≡ host.tasks.rows ++ new_task (state_of host) new.row.maker new.row.key new.row.name new.row.requests ∷ []
-  unfolding add_task
-  started_tasks = sym (ap (λ (t : Told). t.state.tasks) told)
-
--- ---- the counts of addAlls
 
 abbrev one_if : Bool → ℕ
 one_if true = 1
@@ -40,7 +30,7 @@ one_more number (row ∷ rows) task = grind (arith, one_more number rows task)
 not_of_lane : (number : ℕ) (task : AddAll) → maker_worker task.maker ≡ None → is_unsettled_of number task ≡ false
 not_of_lane number task lane = grind (arith, lane)
 
-pub counts_of_lane : (of_workers : workers.Table) (old new : List AddAll) (task : AddAll) → new ≡ old ++ task ∷ [] → maker_worker task.maker ≡ None
+counts_of_lane : (of_workers : workers.Table) (old new : List AddAll) (task : AddAll) → new ≡ old ++ task ∷ [] → maker_worker task.maker ≡ None
     → CountsTasks of_workers old → CountsTasks of_workers new
 counts_of_lane of_workers old new task is lane counts number =
     let more = one_more number old task in
@@ -53,7 +43,7 @@ counts_of_lane of_workers old new task is lane counts number =
 of_maker : (number worker : ℕ) (task : AddAll) → maker_worker task.maker ≡ Some worker → task.settled ≡ None → is_unsettled_of number task ≡ (number == worker)
 of_maker number worker task made open_ = grind (arith, nat_tests, made, open_)
 
-pub counts_of_call : (of_workers after_workers : workers.Table) (old new : List AddAll) (task : AddAll) (worker : ℕ) → new ≡ old ++ task ∷ [] → maker_worker task.maker ≡ Some worker
+counts_of_call : (of_workers after_workers : workers.Table) (old new : List AddAll) (task : AddAll) (worker : ℕ) → new ≡ old ++ task ∷ [] → maker_worker task.maker ≡ Some worker
     → ((number : ℕ) → unsettled_of number after_workers.rows ≡ (if true && number == worker then unsettled_of number of_workers.rows + 1 else unsettled_of number of_workers.rows))
     → task.settled ≡ None → CountsTasks of_workers old → CountsTasks after_workers new
 counts_of_call of_workers after_workers old new task worker is made counted open_ counts number = by (number == worker) refl
@@ -75,3 +65,25 @@ counts_of_call of_workers after_workers old new task worker is made counted open
         counted number ∙ ap (λ b. if true && b then unsettled_of number of_workers.rows + 1 else unsettled_of number of_workers.rows) same in
         let none : one_if (is_unsettled_of number task) ≡ 0 = ap one_if (of_maker number worker task made open_ ∙ same) in
         omega (arith, here, none, more, before, rows)
+
+module _ (host : Hosted) (new : NewAddAll) (of_tasks : tasks.Table) (of_draws : draws.Table)
+    (told : added_by new (state_of host) ≡ quiet (state_of (record host { tasks = of_tasks; draws = of_draws }))) where
+  added_tasks : of_tasks.rows ≡ host.tasks.rows ++ new_task (state_of host) new.row.maker new.row.key new.row.name new.row.requests ∷ []
+  unfolding add_task
+  added_tasks = sym (ap (λ (t : Told). t.state.tasks) told)
+
+  -- one of a lane
+  pub joined_lane : maker_worker new.row.maker ≡ None → IsJoined host → IsJoined (record host { tasks = of_tasks; draws = of_draws })
+  joined_lane lane joined = record {
+    linked = joined.linked;
+    counts = counts_of_lane host.workers host.tasks.rows of_tasks.rows _ added_tasks lane joined.counts;
+  }
+
+  -- one of a handler, which has made one call more
+  pub joined_call : (of_workers : workers.Table) (worker : ℕ) → maker_worker new.row.maker ≡ Some worker
+      → ((number : ℕ) → unsettled_of number of_workers.rows ≡ (if true && number == worker then unsettled_of number host.workers.rows + 1 else unsettled_of number host.workers.rows))
+      → Linked host.scopes of_workers host.registrations host.clients → IsJoined host → IsJoined (record host { workers = of_workers; tasks = of_tasks; draws = of_draws })
+  joined_call of_workers worker made counted linked joined = record {
+    linked = linked;
+    counts = counts_of_call host.workers of_workers host.tasks.rows of_tasks.rows _ worker added_tasks made counted refl joined.counts;
+  }
