@@ -1,6 +1,7 @@
 pub mod Lists
 pub mod Places
 pub mod Keeping
+pub mod Copying
 pub mod StampMarks
 pub mod StampRows
 pub mod Placing

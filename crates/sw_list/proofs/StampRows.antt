@@ -73,6 +73,11 @@ module _ {V : Type 0} where
 
   -- ---- values
 
+  pub number_at : (rows : List (ℕ × Row V)) (i : ℕ) (row : Row V) → slice_get (values_of rows) i ≡ Some row → slice_get (keys_of (entries_of rows)) i ≡ Some row.number
+  number_at [] i row at = absurd cc
+  number_at (first ∷ rows) zero row at = ap (option_map (λ (row : Row V). row.number)) at
+  number_at (first ∷ rows) (suc i) row at = number_at rows i row at
+
   pub value_at : (rows : List (ℕ × Row V)) (i : ℕ) (row : Row V) → slice_get (values_of rows) i ≡ Some row → slice_get (values_of (entries_of rows)) i ≡ Some row.value
   value_at [] i row at = absurd cc
   value_at (first ∷ rows) zero row at = ap (option_map (λ (row : Row V). row.value)) at

@@ -81,6 +81,13 @@ impl<V> Ordered<V> {
         }
     }
 
+    /// The number at a place in the order of adding. It takes no memory.
+    pub fn number(&self, place: usize) -> Option<u32>
+        ensures { result ≡ slice_get (keys_of self.now.entries) place }
+    {
+        Some(self.rows.at(place)?.number)
+    }
+
     /// The value at a place in the order of adding. It takes no memory.
     pub fn at(&self, place: usize) -> Option<&V>
         ensures { option_copied result ≡ slice_get (values_of self.now.entries) place }
