@@ -13,7 +13,7 @@ use Rattle.sw_rules.specs.Rows.{changed, client_row, is_client, is_number, is_us
 use Rattle.sw_rules.specs.State.{State, Registration}
 use Rattle.sw_rules.specs.Told.{Told, followed, quiet}
 use Rattle.sw_activate.specs.Claiming.{activated_by_claim, activated_by_claims, activated_by_release, activated_by_unload}
-use Rattle.sw_activate.specs.Counting.{Users, activated, emptied, may_activate, moved, step_activated, step_users, steps_activated, used_by, users_in}
+use Rattle.sw_activate.specs.Counting.{Users, activated, emptied, may_activate, users_moved, step_activated, step_users, steps_activated, used_by, users_in}
 use Rattle.sw_activate.proofs.Leaving.{IsOrderly, SameNames, is_one, not_activated, not_number, not_released, released_activated, released_keeps, same_owner, used_is, workers_of}
 use Rattle.sw_activate.proofs.Rows.{changed_there, count_least, count_replaced, count_two, found_there, numbers_same}
 use Rattle.sw_activate.proofs.Steps.{claimed_activated, claimed_users, passed_activated, passed_users}
@@ -228,7 +228,7 @@ module _ (first : State) (orderly : IsOrderly first) (worker registration : ℕ)
     abbrev taken : ClientRow
     taken = controlled_by worker row
 
-    taken_users : (q : ℕ) → moved used registration users q ≡ users_in first (done ++ taken ∷ rows) q
+    taken_users : (q : ℕ) → users_moved used registration users q ≡ users_in first (done ++ taken ∷ rows) q
     taken_users q =
         let replaced = count_replaced (uses_it q) done row taken rows in
         let now = ap {B = ℕ} (λ (o : Option ℕ). if is_number o q then 1 else 0) owner in
@@ -236,17 +236,17 @@ module _ (first : State) (orderly : IsOrderly first) (worker registration : ℕ)
         let before = goes.counted q in
         omega (arith, replaced, now, least, before)
 
-    moved_elsewhere : (q : ℕ) → (q ≡ registration → ⊥) → moved used registration users q ≡ users q - (if is_number used q then 1 else 0)
+    moved_elsewhere : (q : ℕ) → (q ≡ registration → ⊥) → users_moved used registration users q ≡ users q - (if is_number used q then 1 else 0)
     moved_elsewhere q other =
         let none = ap {B = ℕ} (λ (b : Bool). if b then 1 else 0) (not_number registration q other) in
         omega (arith, none)
 
-    last_gone : (q : ℕ) → (q ≡ registration → ⊥) → 0 < moved used registration users q → is_number used q ≡ true → (users q - 1 == 0) ≡ true → ⊥
+    last_gone : (q : ℕ) → (q ≡ registration → ⊥) → 0 < users_moved used registration users q → is_number used q ≡ true → (users q - 1 == 0) ≡ true → ⊥
     last_gone q other some passes last =
         let elsewhere = moved_elsewhere q other in
         grind (arith, nat_tests, elsewhere, some, passes, last)
 
-    some_before : (q : ℕ) → (q ≡ registration → ⊥) → 0 < moved used registration users q → 0 < users q
+    some_before : (q : ℕ) → (q ≡ registration → ⊥) → 0 < users_moved used registration users q → 0 < users q
     some_before q other some = let elsewhere = moved_elsewhere q other in omega (arith, elsewhere, some)
 
     taken_held : list_any held (done ++ taken ∷ []) ≡ true
@@ -259,7 +259,7 @@ module _ (first : State) (orderly : IsOrderly first) (worker registration : ℕ)
         by true parts own = parts
         by false parts own = parts ∙ ap (λ (b : Bool). b || false) own
 
-    taken_goes : (told : Told) → Left told → Goes (take_control told.state worker row.number).state (moved used registration users) (done ++ taken ∷ []) rows
+    taken_goes : (told : Told) → Left told → Goes (take_control told.state worker row.number).state (users_moved used registration users) (done ++ taken ∷ []) rows
     unfolding take_control
     taken_goes told left_it = record {
       registrations = left_it.registrations;

@@ -7,7 +7,7 @@ use Rattle.sw_client.specs.declared.OpenClient.{OpenClient}
 use Rattle.sw_rules.specs.Clients.{claims}
 use Rattle.sw_rules.specs.Rows.{is_number}
 use Rattle.sw_rules.specs.State.{State}
-use Rattle.sw_activate.specs.Counting.{Counts, Users, clients_from, moved, step_activated, step_users, steps_activated, used_by}
+use Rattle.sw_activate.specs.Counting.{Counts, Users, clients_from, users_moved, step_activated, step_users, steps_activated, used_by}
 
 module _ (place : ℕ) (rows : List OpenClient) (users : Users) (counts : Counts place rows users) (row : OpenClient) (from : drop place rows ≡ row ∷ drop (place + 1) rows) where
   abbrev later : List OpenClient
@@ -36,7 +36,7 @@ module _ (place : ℕ) (rows : List OpenClient) (users : Users) (counts : Counts
           grind (arith, enough, passes)
 
   module _ (registration : ℕ) where
-    moved_on : Counts (place + 1) rows (moved row.registration registration users)
+    moved_on : Counts (place + 1) rows (users_moved row.registration registration users)
     moved_on = record {
       enough = λ q. let enough = enough_here q in omega (arith, enough);
       few = λ q. at_most q (is_number (Some registration) q);
@@ -56,8 +56,8 @@ module _ (place : ℕ) (rows : List OpenClient) (users : Users) (counts : Counts
     pub stepped : (state : State) (worker : ℕ) → used_by state row.client ≡ row.registration → Counts (place + 1) rows (step_users state worker registration users row.client)
     stepped state worker is = by (claims state worker registration row.client)
       where
-        by : (b : Bool) → Counts (place + 1) rows (if b then moved (used_by state row.client) registration users else users)
-        by true = subst (λ (o : Option ℕ). Counts (place + 1) rows (moved o registration users)) (sym is) moved_on
+        by : (b : Bool) → Counts (place + 1) rows (if b then users_moved (used_by state row.client) registration users else users)
+        by true = subst (λ (o : Option ℕ). Counts (place + 1) rows (users_moved o registration users)) (sym is) moved_on
         by false = stayed
 
     -- and the registration that it activates, before those of the later ones

@@ -21,8 +21,8 @@ abbrev pub users_in : State → List ClientRow → Users
 users_in state clients registration = length (filter (λ client. is_number (used_by state client) registration) clients)
 
 -- own: the users when a client that used the one registration, or none, uses the other
-abbrev pub moved : Option ℕ → ℕ → Users → Users
-moved from to users registration =
+abbrev pub users_moved : Option ℕ → ℕ → Users → Users
+users_moved from to users registration =
     users registration - (if is_number from registration then 1 else 0) + (if is_number (Some to) registration then 1 else 0)
 
 -- own: the registration that a client leaves, where no other client uses it
@@ -50,7 +50,7 @@ step_activated state worker registration users client =
 -- own: the users of each registration after it
 abbrev pub step_users : State → ℕ → ℕ → Users → ClientRow → Users
 step_users state worker registration users client =
-    if claims state worker registration client then moved (used_by state client) registration users else users
+    if claims state worker registration client then users_moved (used_by state client) registration users else users
 
 -- own: the registrations that the claims of these clients activate, one after another
 abbrev pub steps_activated : State → ℕ → ℕ → Users → List ClientRow → List ℕ

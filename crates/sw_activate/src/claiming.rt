@@ -4,7 +4,7 @@ ghost use Rattle.std.specs.Prelude.{◌≡◌, ◌<◌, ◌+◌, ◌-◌, ◌^�
 ghost use Rattle.std.specs.List.{IsDistinct};
 ghost use Rattle.sw_activate.specs.Claiming.{activated_by_claims, claimed};
 ghost use Rattle.sw_activate.specs.Counting as counting;
-ghost use Rattle.sw_activate.specs.Counting.{Counts, clients_from, counted, emptied, moved, step_activated, step_users, steps_activated};
+ghost use Rattle.sw_activate.specs.Counting.{Counts, clients_from, counted, emptied, users_moved, step_activated, step_users, steps_activated};
 ghost use Rattle.sw_activate.specs.Names.{numbers_of};
 ghost use Rattle.sw_client.specs.Table as clients_of_table;
 ghost use Rattle.sw_client.specs.Table.{clients_of, is_open, users_of};
@@ -77,7 +77,7 @@ fn move_user(users: &mut Vec<usize>, from: Option<u32>, to: u32) -> Option<u32>
     requires few { counted users.old.items to < 2 ^ 64 - 1 }
     ensures emptied { result ≡ emptied (counted users.old.items) from }
     ensures users { (asked : ℕ) → counted users.new.items asked
-        ≡ moved from to (counted users.old.items) asked }
+        ≡ users_moved from to (counted users.old.items) asked }
     ensures len { vec_len users.new ≡ vec_len users.old }
 {
     let left = leave(users, from);

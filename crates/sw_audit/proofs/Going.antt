@@ -32,7 +32,7 @@ use Rattle.sw_audit.specs.declared.marks.Mark.{Mark}
 use Rattle.sw_audit.specs.declared.marks.Mark.TheVariants as marks
 use Rattle.sw_audit.specs.declared.verdicts.Verdict.{Verdict}
 use Rattle.sw_audit.specs.declared.verdicts.Verdict.TheVariants as verdict
-use Rattle.sw_audit.specs.Accepted.{HasEnded, IsTold, Says}
+use Rattle.sw_audit.specs.Accepted.{IsAcceptedEnd, IsTold, Says}
 use Rattle.sw_audit.specs.Continuing.{Continues, Decides, IsBarred, IsEnd, Opens, Reached, SameLeft, end_of}
 use Rattle.sw_audit.specs.Marks.{IsRead, front, host_mark, mark_by, mark_of, number_in}
 use Rattle.sw_audit.specs.Named.{AreSmall, IsNamed, named}
@@ -75,7 +75,7 @@ follows_alike recording b c state (x ∷ xs) same follows = (
 actions_alike : (recording : Recording) (b c : List Entry) → MadeAlike b c → next_action recording b ≡ next_action recording c
 actions_alike recording b c same = λ i lane. recorded_event recording lane (same lane i)
 
-ended_alike : (recording : Recording) (b c : List Entry) (state : State) (ending : End) → MadeAlike b c → HasEnded recording b state ending → HasEnded recording c state ending
+ended_alike : (recording : Recording) (b c : List Entry) (state : State) (ending : End) → MadeAlike b c → IsAcceptedEnd recording b state ending → IsAcceptedEnd recording c state ending
 ended_alike recording b c state end.Done same ended = record {
   lanes = λ lane. ap (λ (f : ℕ → Option Event). f lane) (sym (actions_alike recording b c same)) ∙ ended.lanes lane;
   jobs = ended.jobs;
@@ -180,7 +180,7 @@ module _ (recording : Recording) (before : List Entry) (state : State) (text : L
       (λ marked is name. (marked, is, name, is_small recording before state small x step follows marked is))
 
   first_of : (marked : Mark) (count : ℕ) (xs : List Entry) (ending : End) → IsRead text (Some marked) → EachFrom IsStep before state xs → EachFrom (IsFollowing recording) before state xs
-      → text ≡ flat_map line_of_entry xs ++ end_line ending → HasEnded recording (before ++ xs) (after_entries state xs) ending → length (before ++ xs) ≡ count
+      → text ≡ flat_map line_of_entry xs ++ end_line ending → IsAcceptedEnd recording (before ++ xs) (after_entries state xs) ending → length (before ++ xs) ≡ count
       → First recording before state text count marked
   first_of marked count [] ending read steps follows printed ended size = let none : Some marked ≡ None = read.ends ending printed in cc
   first_of marked count (x ∷ xs) ending read steps follows printed ended size =
@@ -200,7 +200,7 @@ module _ (recording : Recording) (before : List Entry) (state : State) (text : L
           steps = steps.1;
           follows = follows.1;
           printed = refl;
-          ended = subst (λ (all : List Entry). HasEnded recording all (after_entries (moved state x) xs) ending) (sym list) ended;
+          ended = subst (λ (all : List Entry). IsAcceptedEnd recording all (after_entries (moved state x) xs) ending) (sym list) ended;
           size = ap length list ∙ size;
         };
       }
@@ -255,7 +255,7 @@ module _ (recording : Recording) (before : List Entry) (state : State) (text : L
             printed =
                 is ∙ ap (λ (t : List ℕ). line_of_entry entry ++ t) goes.printed
                 ∙ sym (append_assoc (line_of_entry entry) (flat_map line_of_entry goes.entries) (end_line goes.ending));
-            ended = subst (λ (all : List Entry). HasEnded recording all (after_entries (moved state entry) goes.entries) goes.ending) list goes.ended;
+            ended = subst (λ (all : List Entry). IsAcceptedEnd recording all (after_entries (moved state entry) goes.entries) goes.ending) list goes.ended;
             size = ap length (sym list) ∙ goes.size;
           }
 
@@ -264,9 +264,9 @@ module _ (recording : Recording) (before : List Entry) (state : State) (text : L
 module _ (recording : Recording) (before : List Entry) (state : State) (text : List ℕ) (small : AreSmall recording state) (read : IsRead text None) where
   -- what has no mark is a last line
   is_last : (count : ℕ) (xs : List Entry) (ending : End) → EachFrom IsStep before state xs → EachFrom (IsFollowing recording) before state xs
-      → text ≡ flat_map line_of_entry xs ++ end_line ending → HasEnded recording (before ++ xs) (after_entries state xs) ending
-      → HasEnded recording before state ending × (text ≡ end_line ending)
-  is_last count [] ending steps follows printed ended = (subst (λ (all : List Entry). HasEnded recording all state ending) (append-nil before) ended, printed)
+      → text ≡ flat_map line_of_entry xs ++ end_line ending → IsAcceptedEnd recording (before ++ xs) (after_entries state xs) ending
+      → IsAcceptedEnd recording before state ending × (text ≡ end_line ending)
+  is_last count [] ending steps follows printed ended = (subst (λ (all : List Entry). IsAcceptedEnd recording all state ending) (append-nil before) ended, printed)
   is_last count (x ∷ xs) ending steps follows printed ended =
       let own = step_mark recording before state text small x steps.0 follows.0 in
       let whole = printed ∙ append_assoc (line_of_entry x) (flat_map line_of_entry xs) (end_line ending) in
@@ -290,7 +290,7 @@ this_end recording before state text come is printed = record {
   steps = tt;
   follows = tt;
   printed = printed;
-  ended = subst (λ (all : List Entry). HasEnded recording all state (end_of come)) (sym (append-nil before)) is.0;
+  ended = subst (λ (all : List Entry). IsAcceptedEnd recording all state (end_of come)) (sym (append-nil before)) is.0;
   size = ap length (append-nil before);
 }
 

@@ -32,7 +32,7 @@ use Rattle.sw_rules.specs.Told.{Outcome}
 use Rattle.sw_laws.specs.Coherent.{Coherent}
 use Rattle.sw_laws.proofs.CoherentLaw.{step-coherent}
 use Rattle.sw_laws.proofs.Restarts.{made_sound, restart-coherent}
-use Rattle.sw_audit.specs.Naming.{Fits, IsSameEntry, IsSameHistory, NamesOneHistory}
+use Rattle.sw_audit.specs.Naming.{IsNumberedBelow, IsSameEntry, IsSameHistory, NamesOneHistory}
 use Rattle.sw_audit.proofs.Bounds.{handler_fits, lane_fits, number_fits}
 use Rattle.sw_audit.proofs.Cuts.{cut, free, free-append}
 use Rattle.sw_audit.proofs.HostEvents.{call_form, host_form, same_host_event}
@@ -100,7 +100,7 @@ abbrev outcome : {before : List Entry} {old : State} {entry : Entry} → IsStep 
 outcome {before} {old} {entry} step_is = record { answer = entry.answer; told = record { state = moved old entry; notices = entry.notices; changes = step_is.step.0 } }
 
 -- the numbers of an entry's maker are below 2^64
-maker_fits : (recording : Recording) (before : List Entry) (state : State) (entry : Entry) → Coherent state → Fits recording state → IsStep before state entry → IsFollowing recording before state entry → WhoFits (who_of entry.event)
+maker_fits : (recording : Recording) (before : List Entry) (state : State) (entry : Entry) → Coherent state → IsNumberedBelow recording state → IsStep before state entry → IsFollowing recording before state entry → WhoFits (who_of entry.event)
 maker_fits recording before state entry sound fits s f = by (who_of entry.event) refl
   where
     by : (w : Who) → who_of entry.event ≡ w → WhoFits w
@@ -111,7 +111,7 @@ maker_fits recording before state entry sound fits s f = by (who_of entry.event)
         handler_fits recording state sound fits worker p number call.0 (outcome s) call.2
 
 -- entries of one mark that are steps of one state have one event
-same_event : (recording : Recording) (b c : List Entry) (state : State) (one other : Entry) → Coherent state → Fits recording state → MadeAlike b c → IsStep b state one → IsStep c state other
+same_event : (recording : Recording) (b c : List Entry) (state : State) (one other : Entry) → Coherent state → IsNumberedBelow recording state → MadeAlike b c → IsStep b state one → IsStep c state other
     → IsFollowing recording b state one → IsFollowing recording c state other → mark one.event ≡ mark other.event → one.event ≡ other.event
 same_event recording b c state one other sound fits alike s t r q is =
     let both = same_mark one.event other.event (maker_fits recording b state one sound fits s r) (maker_fits recording c state other sound fits t q) is in
@@ -186,7 +186,7 @@ made_further b c one other same alike lane =
 
 -- histories from one state with one text are one
 named : (recording : Recording) (t : List ℕ) (b c : List Entry) (state : State) (one other : List Entry) → Coherent state → MadeAlike b c
-    → EachFrom (λ before old entry. Fits recording old) b state one → EachFrom IsStep b state one → EachFrom IsStep c state other
+    → EachFrom (λ before old entry. IsNumberedBelow recording old) b state one → EachFrom IsStep b state one → EachFrom IsStep c state other
     → EachFrom (IsFollowing recording) b state one → EachFrom (IsFollowing recording) c state other
     → flat_map line_of_entry one ++ t ≡ flat_map line_of_entry other ++ t → IsSameHistory one other
 named recording t b c state [] [] sound alike fits s s' f f' is = tt

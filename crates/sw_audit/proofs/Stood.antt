@@ -1,6 +1,6 @@
 -- A host goes on with its recording.
 use Rattle.std.proofs.Common.{◌≡◌, ◌∙◌, true, List, [], ◌∷◌, ◌++◌, Option, Some, Result, Ok, Err, IfOk, IfSome, refl, sym, ap, subst}
-use Rattle.sw_audit.specs.Following.{IsEntered, IsLed, Stands}
+use Rattle.sw_audit.specs.Following.{IsEntered, IsLed, HasFollowed}
 use Rattle.sw_audit.specs.Taking.{IsFound}
 use Rattle.sw_audit.specs.declared.marks.Mark.{Mark}
 use Rattle.sw_audit.specs.Named.{IsNamed}
@@ -59,7 +59,7 @@ module _ (old : Hosted) (lanes left : List Left) (net : List FetchLine) (marked 
     own_maker : entry.who ≡ who_of happened
     own_maker = (enters.step []).maker ∙ ap who_of enters.event
 
-    pub names_it : (recording : Recording) (before : List Entry) (state : State) → Stands (record { core = old; lanes = lanes; net = net }) recording before state
+    pub names_it : (recording : Recording) (before : List Entry) (state : State) → HasFollowed (record { core = old; lanes = lanes; net = net }) recording before state
         → IsNamed recording before state marked entry
     names_it recording before state stands =
         let taken = takes recording before stands.ours stands.lines in
@@ -70,8 +70,8 @@ module _ (old : Hosted) (lanes left : List Left) (net : List FetchLine) (marked 
           following = taken.following entry enters.event own_maker;
         })
 
-    pub stands_then : (recording : Recording) (before : List Entry) (state : State) → Stands (record { core = old; lanes = lanes; net = net }) recording before state
-        → Stands (record { core = new; lanes = left; net = net }) recording (before ++ entry ∷ []) (moved state entry)
+    pub stands_then : (recording : Recording) (before : List Entry) (state : State) → HasFollowed (record { core = old; lanes = lanes; net = net }) recording before state
+        → HasFollowed (record { core = new; lanes = left; net = net }) recording (before ++ entry ∷ []) (moved state entry)
     stands_then recording before state stands = record {
       is_in = enters.left ∙ ap (λ (s : State). moved s entry) stands.is_in;
       ours = (takes recording before stands.ours stands.lines).lanes entry own_maker;
@@ -82,7 +82,7 @@ module _ (old : Hosted) (lanes left : List Left) (net : List FetchLine) (marked 
 
 pub first_stands : (core : Hosted) (lanes : List Left) (net : List FetchLine) (base : Kept) (recording : Recording) → state_of core ≡ restart base
     → AreLanesOf recording [] lanes → recording.fetches ≡ net → (opening : Entry) → IsOpening base opening
-    → Stands (record { core = core; lanes = lanes; net = net }) recording (opening ∷ []) (restart base)
+    → HasFollowed (record { core = core; lanes = lanes; net = net }) recording (opening ∷ []) (restart base)
 first_stands core lanes net base recording is ours lines opening opens = record {
   is_in = is;
   ours = stays recording [] lanes opening ours (ap is_lane opens.maker);

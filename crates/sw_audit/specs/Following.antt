@@ -18,7 +18,7 @@ pub record Following : Type 0 where
   pub net : List FetchLine
 
 -- own: it follows this recording after these entries, and its host is in this state
-pub record Stands (host : Following) (recording : Recording) (before : List Entry) (state : State) : Type 0 where
+pub record HasFollowed (host : Following) (recording : Recording) (before : List Entry) (state : State) : Type 0 where
   pub is_in : state_of host.core ≡ state
   pub ours : AreLanesOf recording before host.lanes
   pub lines : recording.fetches ≡ host.net

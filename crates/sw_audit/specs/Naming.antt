@@ -31,12 +31,12 @@ pub record AreFew (most : ℕ) (recording : Recording) (state : State) : Type 0 
   pub tasks : length state.tasks ≤ most
 
 -- the lanes of a recording and the rows of a state are numbered by 64 bits, as those in memory are (own)
-abbrev pub Fits : Recording → State → Type 0
-Fits recording state = AreFew (2 ^ 64) recording state
+abbrev pub IsNumberedBelow : Recording → State → Type 0
+IsNumberedBelow recording state = AreFew (2 ^ 64) recording state
 
 -- and so they are before each entry of a history but the first
 abbrev pub FitsAlong : Recording → Kept → List Entry → Type 0
-FitsAlong recording base history = EachLater (λ before state entry. Fits recording state) base history
+FitsAlong recording base history = EachLater (λ before state entry. IsNumberedBelow recording state) base history
 
 -- one transcript names one history, of two that one fits (own)
 abbrev pub NamesOneHistory : Type 0

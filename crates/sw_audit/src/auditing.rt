@@ -1,7 +1,7 @@
 //! Whether a text is the transcript of a recording.
 
 ghost use Rattle.std.specs.Prelude.{◌∷◌, [], IfOk};
-ghost use Rattle.sw_audit.specs.Following.{Stands};
+ghost use Rattle.sw_audit.specs.Following.{HasFollowed};
 ghost use Rattle.sw_audit.specs.Accepted.{Says};
 ghost use Rattle.sw_data.specs.declared.histories.Entry.{Entry};
 ghost use Rattle.sw_data.specs.declared.recordings.Recording.{Recording};
@@ -22,7 +22,7 @@ use sw_data::{NoMemory, Recording};
 fn said(alloc: Global, mut host: Host, transcript: &[u8]) -> Result<Verdict, NoMemory>
     ensures { (base : Kept) (recording : Recording) → IsMade base
         → ((opening : Entry) → IsOpening base opening
-        → Stands host recording (opening ∷ []) (restart base))
+        → HasFollowed host recording (opening ∷ []) (restart base))
         → IfOk result (Says base recording transcript.now) }
 {
     let verdict = check(alloc, &mut host, transcript);

@@ -1,7 +1,7 @@
 //! A host that follows a recording.
 
 ghost use Rattle.std.specs.Prelude.{◌≡◌, ◌∷◌, [], IfOk};
-ghost use Rattle.sw_audit.specs.Following.{Stands};
+ghost use Rattle.sw_audit.specs.Following.{HasFollowed};
 ghost use Rattle.sw_data.specs.declared.histories.Entry as entries;
 ghost use Rattle.sw_lane.specs.Recorded.{AreLanesOf};
 ghost use Rattle.sw_rules.specs.History.{IsOpening};
@@ -69,7 +69,7 @@ impl Host {
     pub fn restart(alloc: Global, base: Content, recording: Recording) -> Result<Host, NoMemory>
         requires { IsMade base }
         ensures { IfOk result (λ host. (opening : entries.Entry) → IsOpening base opening
-            → Stands host recording (opening ∷ []) (restart base)) }
+            → HasFollowed host recording (opening ∷ []) (restart base)) }
     {
         states_are_coherent();
         match set_out(alloc, recording) {
@@ -89,9 +89,9 @@ impl Host {
 }
 
 impl Machine for Host {
-    ghost use Rattle.sw_audit.specs.Following.{Stands};
+    ghost use Rattle.sw_audit.specs.Following.{HasFollowed};
 
-    ghost stands = { Stands };
+    ghost stands = { HasFollowed };
 
     fn opening(&self, alloc: Global) -> Result<Entry, NoMemory> {
         opening(alloc, &self.core)

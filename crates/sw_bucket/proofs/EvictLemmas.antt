@@ -16,7 +16,7 @@ use Rattle.sw_rules.proofs.HistoryLemmas.{EachFrom-snoc}
 use Rattle.sw_rules.specs.History.{Legal, Opens, after, after_entries, moved}
 use Rattle.sw_rules.specs.Restart.{restart}
 use Rattle.sw_rules.specs.State.{State}
-use Rattle.sw_store.specs.Stores.{IsQuiet, StoreState}
+use Rattle.sw_store.specs.Stores.{WaitsForNothing, StoreState}
 use Rattle.sw_turns.proofs.EndLemmas.{so_far_here}
 use Rattle.sw_turns.specs.Groups.{IsUnderWay}
 use Rattle.sw_turns.specs.Playing.{ComesNext}
@@ -80,7 +80,7 @@ module _ {D B : Type 0} (disk : disks.Ghosts D) (bound : bounds.Ghosts B) (now :
 
 -- what is kept was written anew, and the run is between two events all the same
 pub between_tended : {D B : Type 0} (disk : disks.Ghosts D) (bound : bounds.Ghosts B) (old now : D) (of : B) (course : Course D) (history : List Entry) (was store : StoreState)
-    → IsBetween disk bound old of course history was → IsUnderWay 1 course.way course.base history course.lanes store × IsQuiet store × IsAtWork disk course.start now course.base history store
+    → IsBetween disk bound old of course history was → IsUnderWay 1 course.way course.base history course.lanes store × WaitsForNothing store × IsAtWork disk course.start now course.base history store
     → IsBetween disk bound now of course history store
 between_tended disk bound old now of course history was store between tended = record {
   heeds = between.heeds;

@@ -26,7 +26,7 @@ use Rattle.sw_rules.specs.Picks.{first_enabled, first_task_event, next, next_act
 use Rattle.sw_rules.specs.State.{State}
 use Rattle.sw_rules.specs.Step.{enabled}
 use Rattle.sw_rules.specs.Tasks.{event_of, ready_tasks}
-use Rattle.sw_store.specs.Stores.{IsQuiet, StoreState}
+use Rattle.sw_store.specs.Stores.{WaitsForNothing, StoreState}
 use Rattle.sw_turns.proofs.EndLemmas.{ends_done, ends_stalled, so_far_here}
 use Rattle.sw_turns.specs.Groups.{IsUnderWay}
 use Rattle.sw_turns.specs.Playing.{ComesByPick, ComesNext, IsSoFar}
@@ -111,7 +111,7 @@ module _ {D B : Type 0} (disk : disks.Ghosts D) (bound : bounds.Ghosts B) (now :
 -- ---- the beginning
 
 -- a run begins with the restart, once that was noted
-pub begins : {D B : Type 0} (disk : disks.Ghosts D) (bound : bounds.Ghosts B) (now : D) (of : B) (origin : Origin D) (run : Run) (store : StoreState) (entry : Entry) → IsQuiet store
+pub begins : {D B : Type 0} (disk : disks.Ghosts D) (bound : bounds.Ghosts B) (now : D) (of : B) (origin : Origin D) (run : Run) (store : StoreState) (entry : Entry) → WaitsForNothing store
     → ((way : Way) → way.recording ≡ origin.recording → IsUnderWay 1 way origin.base run.history.items run.lanes store) → IsAtWork disk origin.start now origin.base run.history.items store
     → run.history.items ≡ entry ∷ [] → run.net ≡ origin.recording.fetches
     → (Legal origin.base (entry ∷ []) → after origin.base (entry ∷ []) ≡ state_of store.core → bound.notes of origin.base (entry ∷ []))

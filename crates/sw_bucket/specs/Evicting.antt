@@ -11,7 +11,7 @@ use Rattle.sw_disk.specs.declared.disk.Disk as disks
 use Rattle.sw_lane.specs.Left.{Left}
 use Rattle.sw_rules.specs.History.{EachFrom, after}
 use Rattle.sw_rules.specs.State.{State}
-use Rattle.sw_store.specs.Stores.{IsQuiet, StoreState}
+use Rattle.sw_store.specs.Stores.{WaitsForNothing, StoreState}
 use Rattle.sw_turns.specs.Groups.{IsUnderWay}
 use Rattle.sw_turns.specs.Surviving.{IsAtWork}
 use Rattle.sw_turns.specs.Ways.{Way}
@@ -35,7 +35,7 @@ pub record Course (D : Type 0) : Type 0 where
 pub record IsBetween {D B : Type 0} (disk : disks.Ghosts D) (bound : bounds.Ghosts B) (now : D) (of : B) (course : Course D) (history : List Entry) (store : StoreState) : Type 0 where
   pub heeds : Heeds (bound.forgets of) course.base course.way
   pub under_way : IsUnderWay 1 course.way course.base history course.lanes store
-  pub quiet : IsQuiet store
+  pub quiet : WaitsForNothing store
   pub at_work : IsAtWork disk course.start now course.base history store
   pub notes : bound.notes of course.base history
 

@@ -13,7 +13,7 @@ use Rattle.sw_disk.specs.declared.disk.Disk as disks
 use Rattle.sw_lane.specs.Left.{Left}
 use Rattle.sw_rules.specs.History.{after}
 use Rattle.sw_rules.specs.State.{State}
-use Rattle.sw_store.specs.Stores.{IsQuiet, StoreState}
+use Rattle.sw_store.specs.Stores.{WaitsForNothing, StoreState}
 use Rattle.sw_turns.specs.Groups.{IsUnderWay}
 use Rattle.sw_turns.specs.Surviving.{IsAtWork, latest}
 
@@ -27,7 +27,7 @@ StaysAhead disk old now base history longer Changed =
 -- own: an event was written behind a history: it is the last, nothing waits, and the disk keeps what the history makes of the base
 pub record IsWrittenOn {D : Type 0} (disk : disks.Ghosts D) (old now : D) (course : Course D) (history longer : List Entry) (store : StoreState) (changes : List ℕ) : Type 0 where
   pub under_way : IsUnderWay 1 course.way course.base longer course.lanes store
-  pub quiet : IsQuiet store
+  pub quiet : WaitsForNothing store
   pub at_work : IsAtWork disk course.start now course.base longer store
   pub ahead : StaysAhead disk old now course.base history longer (changes ≢ [])
 
@@ -50,7 +50,7 @@ MayForget forgets base history now =
 -- own: nothing waits all the same, or the run has ended
 abbrev pub HasTended : {T D : Type 0} → disks.Ghosts D → D → Course D → List Entry → StoreState → Result T BoundedEnd → Type 0
 HasTended disk now course history store (Ok value) =
-    IsUnderWay 1 course.way course.base history course.lanes store × IsQuiet store × IsAtWork disk course.start now course.base history store
+    IsUnderWay 1 course.way course.base history course.lanes store × WaitsForNothing store × IsAtWork disk course.start now course.base history store
 HasTended disk now course history store (Err ended) = IsCut disk now course history ended
 
 -- own: an event has happened, with changes or without; or the run has ended

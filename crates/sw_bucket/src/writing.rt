@@ -9,7 +9,7 @@ ghost use Rattle.sw_kept.specs.Keeping.{KeepsNow};
 ghost use Rattle.sw_lane.specs.Left.{Left};
 ghost use Rattle.sw_laws.specs.Coherent.{Coherent};
 ghost use Rattle.sw_rules.specs.Step.{changes_of, enabled};
-ghost use Rattle.sw_store.specs.Stores.{IsQuiet};
+ghost use Rattle.sw_store.specs.Stores.{WaitsForNothing};
 ghost use Rattle.sw_turns.specs.Groups.{IsUnderWay};
 ghost use Rattle.sw_turns.specs.Playing.{ComesNext};
 ghost use Rattle.sw_turns.specs.Surviving.{IsAtWork, kept_of, latest};
@@ -32,7 +32,7 @@ pub(crate) fn write<D: Disk>(
 ) -> Result<Bytes, BoundedEnd>
     requires coherent { Coherent (state_of store.old.core) }
     requires enabled { enabled (state_of store.old.core) event ≡ true }
-    requires quiet { IsQuiet store.old }
+    requires quiet { WaitsForNothing store.old }
     requires next { (course : Course D) × (before : List Left)
         × IsUnderWay 1 course.way course.base history.old.items before store.old
         × ComesNext 1 course.way course.base history.old.items before course.lanes
@@ -72,7 +72,7 @@ pub(crate) fn tended<D: Disk>(
     store: &mut Store,
     disk: &mut D,
 ) -> Result<(), BoundedEnd>
-    requires quiet { IsQuiet store.old }
+    requires quiet { WaitsForNothing store.old }
     requires next { (course : Course D) × (history : List entries.Entry)
         × IsUnderWay 1 course.way course.base history course.lanes store.old
         × KeepsNow store.old.twin (kept_of course.base history) D.Disk disk.old }

@@ -12,7 +12,7 @@ use Rattle.sw_caches.specs.Bytes.{cache_size, made_size, put_size, puts_size}
 use Rattle.sw_caches.specs.Entries.{pairs}
 use Rattle.sw_caches.specs.Plans.{carried, left_by}
 use Rattle.sw_caches.specs.Sums.{at_key, held}
-use Rattle.sw_caches.specs.Tables.{FitsTable, HasNames, IsCounted, Row, carried_row, carried_rows, index_size, kept_row}
+use Rattle.sw_caches.specs.Tables.{FitsTable, HasNames, CountsBytes, Row, carried_row, carried_rows, index_size, kept_row}
 use Rattle.sw_caches.proofs.BytesLemmas.{bytes_left}
 use Rattle.sw_caches.proofs.CountedLemmas.{counted_set, item_within, key_item, key_within, named_at, row_size, sizes_are}
 use Rattle.sw_caches.proofs.TableLemmas.{carried_at, row_at, set_stands, some_is}
@@ -67,7 +67,7 @@ module _ (rows : List Row) (plan : CachePlan) (fits : FitsTable plan (values row
       let come = fits.bytes ∙ ap (λ n. puts_size n added) (sym (ap (λ index. index.names) carried_on.2)) in
       omega (arith, less, joined, come)
 
-  module _ (sums : Sums) (counted : IsCounted rows sums) (before after : ℕ) (was : before ≡ index_size carried_on.0.1) (now : after ≡ made_size carried_on.0.1.names (carried plan.change carried_on.0.1.pairs)) where
+  module _ (sums : Sums) (counted : CountsBytes rows sums) (before after : ℕ) (was : before ≡ index_size carried_on.0.1) (now : after ≡ made_size carried_on.0.1.names (carried plan.change carried_on.0.1.pairs)) where
     named : HasNames carried_on.0
     named = named_at rows plan.place carried_on.0 counted.names carried_on.1
 
@@ -96,7 +96,7 @@ module _ (rows : List Row) (plan : CachePlan) (fits : FitsTable plan (values row
         omega (arith, room, all, total, more, was, now)
 
     pub counted_carried : (new : List Row) (done : Sums) → All HasNames new → map kept_row new ≡ carried_rows plan (map kept_row rows) → done.total + before ≡ sums.total + after
-        → ((other : List ℕ) → held done other + at_key carried_on.0.0.0 other before ≡ held sums other + at_key carried_on.0.0.0 other after) → IsCounted new done
+        → ((other : List ℕ) → held done other + at_key carried_on.0.0.0 other before ≡ held sums other + at_key carried_on.0.0.0 other after) → CountsBytes new done
     counted_carried new done all is total at =
         counted_set rows new sums done plan.place (kept_row carried_on.0) (carried_row plan (kept_row carried_on.0)) counted all kept_on (is ∙ carried_is) refl
         (let size = size_before in let sized = size_after in let room = has_room in omega (arith, room, size, sized))
@@ -108,7 +108,7 @@ module _ (rows : List Row) (plan : CachePlan) (fits : FitsTable plan (values row
         omega (arith, here, left, right))
 
 -- a key has no more bytes than all, as they are counted
-pub held_within : (rows : List Row) (sums : Sums) (key : List ℕ) → IsCounted rows sums → held sums key ≤ sums.total
+pub held_within : (rows : List Row) (sums : Sums) (key : List ℕ) → CountsBytes rows sums → held sums key ≤ sums.total
 held_within rows sums key counted =
     let less = key_within key (map kept_row rows) in
     let total = counted.total in

@@ -15,7 +15,7 @@ use Rattle.sw_list.specs.Named.{values}
 use Rattle.sw_caches.specs.declared.sums.Sums.{Sums}
 use Rattle.sw_caches.specs.Bytes.{bytes_of, cache_size, key_bytes, made_size}
 use Rattle.sw_caches.specs.Sums.{at_key, held}
-use Rattle.sw_caches.specs.Tables.{HasNames, IsCounted, IsNextBy, Row, index_size, kept_row, passing_from}
+use Rattle.sw_caches.specs.Tables.{HasNames, CountsBytes, IsNextBy, Row, index_size, kept_row, passing_from}
 
 -- the bytes of a row at its key alone
 abbrev key_size : List ℕ → KeptCache → ℕ
@@ -86,10 +86,10 @@ module _ (key : List ℕ) (test : KeptCache → Bool) (of : (row : KeptCache) �
       omega (arith, own, split)
 
   -- the counts after caches are taken out
-  pub counted_taken : (rows new : List Row) (before after : Sums) → IsCounted rows before → new ≡ filter (λ row. not (test (kept_row row))) rows → map kept_row new ≡ filter (λ row. not (test row)) (map kept_row rows)
+  pub counted_taken : (rows new : List Row) (before after : Sums) → CountsBytes rows before → new ≡ filter (λ row. not (test (kept_row row))) rows → map kept_row new ≡ filter (λ row. not (test row)) (map kept_row rows)
       → after.total + bytes_of (filter test (map kept_row rows)) ≡ before.total + 0
       → ((other : List ℕ) → held after other + at_key key other (bytes_of (filter test (map kept_row rows))) ≡ held before other + at_key key other 0)
-      → IsCounted new after
+      → CountsBytes new after
   counted_taken rows new before after counted left kept total at = record {
     names = subst (All HasNames) (sym left) (All-filter (λ row. not (test (kept_row row))) HasNames rows counted.names);
     few =
@@ -112,8 +112,8 @@ module _ (key : List ℕ) (test : KeptCache → Bool) (of : (row : KeptCache) �
   }
 
 -- the counts after a cache comes
-pub counted_put : (rows new : List Row) (before after : Sums) (row : Row) → IsCounted rows before → HasNames row → new ≡ rows ++ row ∷ [] → bytes_of (map kept_row rows) + cache_size (kept_row row) < 2 ^ 64
-    → after.total ≡ before.total + cache_size (kept_row row) → ((other : List ℕ) → held after other ≡ held before other + at_key row.0.0 other (cache_size (kept_row row))) → IsCounted new after
+pub counted_put : (rows new : List Row) (before after : Sums) (row : Row) → CountsBytes rows before → HasNames row → new ≡ rows ++ row ∷ [] → bytes_of (map kept_row rows) + cache_size (kept_row row) < 2 ^ 64
+    → after.total ≡ before.total + cache_size (kept_row row) → ((other : List ℕ) → held after other ≡ held before other + at_key row.0.0 other (cache_size (kept_row row))) → CountsBytes new after
 counted_put rows new before after row counted named is room total at = record {
   names = subst (All HasNames) (sym is) (All-push HasNames rows row counted.names named);
   few =
@@ -139,7 +139,7 @@ counted_put rows new before after row counted named is room total at = record {
     kept = ap (map kept_row) is ∙ map-append kept_row rows (row ∷ [])
 
 -- the counts where the rows stay
-pub counted_same : (rows new : List Row) (before after : Sums) → IsCounted rows before → new ≡ rows → after.total ≡ before.total → ((key : List ℕ) → held after key ≡ held before key) → IsCounted new after
+pub counted_same : (rows new : List Row) (before after : Sums) → CountsBytes rows before → new ≡ rows → after.total ≡ before.total → ((key : List ℕ) → held after key ≡ held before key) → CountsBytes new after
 counted_same rows new before after counted is total at = record {
   names = subst (All HasNames) (sym is) counted.names;
   few = subst (λ (list : List Row). bytes_of (map kept_row list) < 2 ^ 64) (sym is) counted.few;
@@ -148,7 +148,7 @@ counted_same rows new before after counted is total at = record {
 }
 
 -- the counts where what is kept stays
-pub counted_kept : (rows new : List Row) (sums : Sums) → IsCounted rows sums → All HasNames new → map kept_row new ≡ map kept_row rows → IsCounted new sums
+pub counted_kept : (rows new : List Row) (sums : Sums) → CountsBytes rows sums → All HasNames new → map kept_row new ≡ map kept_row rows → CountsBytes new sums
 counted_kept rows new sums counted named kept = record {
   names = named;
   few = let now = ap bytes_of kept in let few = counted.few in omega (arith, few, now);
@@ -172,9 +172,9 @@ item_within f xs place x is =
     omega (arith, less, here)
 
 -- the counts after the cache at a place is changed
-pub counted_set : (rows new : List Row) (before after : Sums) (place : ℕ) (old changed : KeptCache) → IsCounted rows before → All HasNames new → slice_get (map kept_row rows) place ≡ Some old → map kept_row new ≡ set (map kept_row rows) place changed
+pub counted_set : (rows new : List Row) (before after : Sums) (place : ℕ) (old changed : KeptCache) → CountsBytes rows before → All HasNames new → slice_get (map kept_row rows) place ≡ Some old → map kept_row new ≡ set (map kept_row rows) place changed
     → changed.key ≡ old.key → before.total + cache_size changed < 2 ^ 64 + cache_size old → after.total + cache_size old ≡ before.total + cache_size changed
-    → ((other : List ℕ) → held after other + at_key old.key other (cache_size old) ≡ held before other + at_key old.key other (cache_size changed)) → IsCounted new after
+    → ((other : List ℕ) → held after other + at_key old.key other (cache_size old) ≡ held before other + at_key old.key other (cache_size changed)) → CountsBytes new after
 counted_set rows new before after place old changed counted named stands kept key room total at = record {
   names = named;
   few =

@@ -19,7 +19,7 @@ use Rattle.sw_caches.specs.declared.fault.BatchFault.{BatchFault}
 use Rattle.sw_caches.specs.declared.table.CachePlan.{CachePlan}
 use Rattle.sw_caches.specs.Bytes.{puts_size}
 use Rattle.sw_caches.specs.Entries.{pairs}
-use Rattle.sw_caches.specs.Plans.{Fits, Indexed, IsThrown, carried}
+use Rattle.sw_caches.specs.Plans.{FitsCache, Indexed, IsThrown, carried}
 use Rattle.sw_caches.specs.Tables.{FitsTable, HasNames, IsBatch, IsBatchOf, IsRefused, IsRefusedOf, Row, carried_row, carried_rows, index_size, kept_row}
 
 none_some : {A : Type 0} (x : A) → None ≡ Some x → ⊥
@@ -205,7 +205,7 @@ module _ (rows : List Row) (place : ℕ) (pairs : Indexed) (is : slice_get (valu
   thrown_row ops (Ok plan) thrown = tt
   thrown_row ops (Err why) thrown = λ kept stands. subst (λ list. IsThrown why (batch list ops)) (row_read kept stands) thrown
 
-  pub fits_row : (new : Indexed) (total : ℕ) (result : Result CachePlan BatchFault) → IfOk result (λ plan. plan.place ≡ place) → IfOk result (λ plan. Fits plan.change new)
+  pub fits_row : (new : Indexed) (total : ℕ) (result : Result CachePlan BatchFault) → IfOk result (λ plan. plan.place ≡ place) → IfOk result (λ plan. FitsCache plan.change new)
       → new.names ≡ pairs.names → IfOk result (λ plan. plan.bytes ≡ puts_size pairs.names (added_pairs plan)) → sum_by index_size (values (with_value place new rows)) ≡ total → IfOk result (λ plan. total + plan.bytes < 2 ^ 64)
       → IfOk result (λ plan. FitsTable plan (values (with_value place new rows)))
   fits_row new total (Ok plan) at fits names bytes all room = record {

@@ -9,7 +9,7 @@ use Rattle.std.proofs.lemmas.Option.{get_or_from_slice_get, slice_get-get_or}
 use Rattle.sw_data.specs.declared.storage.KeptCache.{KeptCache}
 use Rattle.sw_caches.specs.Hits.{is_asked}
 use Rattle.sw_caches.proofs.TableLemmas.{none_left, one_left}
-use Rattle.sw_caches.specs.Tables.{IsNext, IsNextBy, Row, caches_from, kept_row, passing_from}
+use Rattle.sw_caches.specs.Tables.{IsNextCache, IsNextBy, Row, caches_from, kept_row, passing_from}
 
 module _ (test : KeptCache → Bool) where
   -- where the first that passes stands
@@ -87,7 +87,7 @@ module _ (test : KeptCache → Bool) where
       none_some n h = cc
 
 -- a key has a cache where there is a next one
-pub any_next : {A : Type 0} (key : List ℕ) (rows : List Row) (cache : A → KeptCache) (next : A → ℕ) (found : Option A) → MatchOption found (caches_from key 0 rows ≡ []) (λ item. IsNext key 0 rows (cache item) (next item))
+pub any_next : {A : Type 0} (key : List ℕ) (rows : List Row) (cache : A → KeptCache) (next : A → ℕ) (found : Option A) → MatchOption found (caches_from key 0 rows ≡ []) (λ item. IsNextCache key 0 rows (cache item) (next item))
     → is_some found ≡ list_any (λ row. bytes_eq row.key key) (map kept_row rows)
 any_next key rows cache next None left = sym (none_left (λ row. bytes_eq row.key key) (map kept_row rows) left)
 any_next key rows cache next (Some item) left = sym (one_left (λ row. bytes_eq row.key key) (map kept_row rows) (cache item) (caches_from key (next item) rows) left.caches)

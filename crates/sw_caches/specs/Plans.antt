@@ -58,7 +58,7 @@ pub record Indexed : Type 0 where
   pub names : ℕ
 
 -- a plan was made for this cache, and there is room for what it adds
-pub record Fits (plan : PairsPlan) (cache : Indexed) : Type 0 where
+pub record FitsCache (plan : PairsPlan) (cache : Indexed) : Type 0 where
   pub draft : IsDraft plan cache.slots
   pub first : plan.first ≡ cache.next
   pub room : length plan.added.items ≤ cache.spare

@@ -17,7 +17,7 @@ use Rattle.sw_list.specs.Named as named
 use Rattle.sw_list.specs.Named.{Label, Listing, values}
 use Rattle.sw_caches.specs.Bytes.{bytes_of, cache_size, key_bytes, made_size, names_size, puts_size}
 use Rattle.sw_caches.specs.Entries.{pairs}
-use Rattle.sw_caches.specs.Plans.{Fits, Indexed, IsThrown, carried}
+use Rattle.sw_caches.specs.Plans.{FitsCache, Indexed, IsThrown, carried}
 use Rattle.sw_caches.specs.Sums.{held}
 
 -- a cache that was just made (Service Workers, CacheStorage, "open()")
@@ -47,7 +47,7 @@ abbrev pub HasNames : Row → Type 0
 HasNames row = row.1.names ≡ names_size row.0.0 row.0.1
 
 -- the bytes of caches are counted, those of each key and those of all, which a sum has room for
-pub record IsCounted (rows : List Row) (sums : Sums) : Type 0 where
+pub record CountsBytes (rows : List Row) (sums : Sums) : Type 0 where
   pub names : All HasNames rows
   pub few : bytes_of (map kept_row rows) < 2 ^ 64
   pub total : sums.total ≡ bytes_of (map kept_row rows)
@@ -55,7 +55,7 @@ pub record IsCounted (rows : List Row) (sums : Sums) : Type 0 where
 
 -- a cache was made for this table, which has a place in the index for it, and room, also for its bytes
 pub record FitsNew (new : KeptCache) (caches : Table) : Type 0 where
-  pub row : named.Fits (record { key = new.key; name = new.name }) caches.listing
+  pub row : named.FitsListing (record { key = new.key; name = new.name }) caches.listing
   pub key : 0 < caches.spare
   pub bytes : bytes_of caches.rows + cache_size new < 2 ^ 64
 
@@ -79,7 +79,7 @@ index_size index = made_size index.names index.pairs
 pub record FitsTable (plan : CachePlan) (indexes : List Indexed) : Type 0 where
   pub index : Indexed
   pub stands : slice_get indexes plan.place ≡ Some index
-  pub fits : Fits plan.change index
+  pub fits : FitsCache plan.change index
   pub bytes : plan.bytes ≡ puts_size index.names (pairs plan.change.added.items)
   pub room : sum_by index_size indexes + plan.bytes < 2 ^ 64
 
@@ -120,8 +120,8 @@ abbrev pub caches_from : List ℕ → ℕ → List Row → List KeptCache
 caches_from key from rows = passing_from (λ row. bytes_eq row.key key) from rows
 
 -- the caches of a key from a place on are this one and those from the next place on
-abbrev pub IsNext : List ℕ → ℕ → List Row → KeptCache → ℕ → Type 0
-IsNext key from rows row next = IsNextBy (λ row. bytes_eq row.key key) from rows row next
+abbrev pub IsNextCache : List ℕ → ℕ → List Row → KeptCache → ℕ → Type 0
+IsNextCache key from rows row next = IsNextBy (λ row. bytes_eq row.key key) from rows row next
 
 -- the first place that matches in a cache, where it is asked: it has this name, or no name is given
 abbrev pub hit_in : Option (List ℕ) → Request → Options → KeptCache → Option ℕ

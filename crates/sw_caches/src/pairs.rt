@@ -9,7 +9,7 @@ ghost use Rattle.sw_rules.specs.Batch.{batch};
 ghost use Rattle.sw_list.specs.Marks.{KeepsBelow, KeepsSlots};
 ghost use Rattle.sw_caches.specs.Bytes.{made_size, puts_size};
 ghost use Rattle.sw_caches.specs.Entries.{marks, pairs};
-ghost use Rattle.sw_caches.specs.Plans.{Fits, IsDraft, IsThrown, carried};
+ghost use Rattle.sw_caches.specs.Plans.{FitsCache, IsDraft, IsThrown, carried};
 
 use crate::carry::{drop_deleted, drop_replaced};
 use crate::entries::{copy_pairs, first_of, into_pairs, marks_of, places_of, puts_size};
@@ -180,7 +180,7 @@ impl Pairs {
     pub(crate) fn plan(&mut self, alloc: Global, ops: Vec<Op>) -> Result<PairsPlan, BatchFault>
         ensures same { self.new.pairs ≡ self.old.pairs }
         ensures names { self.new.names ≡ self.old.names }
-        ensures fits { IfOk result (λ plan. Fits plan self.new) }
+        ensures fits { IfOk result (λ plan. FitsCache plan self.new) }
         ensures ok { IfOk result (λ plan.
             batch self.old.pairs ops.items ≡ Ok (carried plan self.old.pairs)) }
         ensures err { IfErr result (λ fault. IsThrown fault (batch self.old.pairs ops.items)) }
@@ -211,7 +211,7 @@ impl Pairs {
 
     // Carries a plan out, which adds so many bytes; it takes no memory.
     pub(crate) fn carry_out(&mut self, plan: PairsPlan, added_bytes: u64)
-        requires fits { Fits plan self.old }
+        requires fits { FitsCache plan self.old }
         requires bytes { added_bytes ≡ puts_size self.old.names (pairs plan.added.items) }
         requires room { made_size self.old.names self.old.pairs + added_bytes < 2 ^ 64 }
         ensures pairs { self.new.pairs ≡ carried plan self.old.pairs }

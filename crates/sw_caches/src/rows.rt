@@ -8,7 +8,7 @@ ghost use Rattle.sw_caches.specs.Bytes.{bytes_of, made_size};
 ghost use Rattle.sw_caches.specs.Hits.{is_asked};
 ghost use Rattle.sw_caches.specs.Plans.{carried};
 ghost use Rattle.sw_caches.specs.Tables as tables;
-ghost use Rattle.sw_caches.specs.Tables.{FitsTable, HasNames, IsNext, IsNextBy, caches_from, caches_of, carried_rows, index_size, kept_row, passing_from};
+ghost use Rattle.sw_caches.specs.Tables.{FitsTable, HasNames, IsNextCache, IsNextBy, caches_from, caches_of, carried_rows, index_size, kept_row, passing_from};
 
 use crate::pairs::Pairs;
 use crate::table::CachePlan;
@@ -23,7 +23,7 @@ pub(crate) fn next_cache<'a>(
     from: usize,
 ) -> Option<(&'a Row<Pairs>, usize)>
     ensures { MatchOption result (caches_from key.now from rows.now.rows ≡ [])
-        (λ found. IsNext key.now from rows.now.rows (kept_row (named_row found.0.now)) found.1) }
+        (λ found. IsNextCache key.now from rows.now.rows (kept_row (named_row found.0.now)) found.1) }
 {
     match rows.next_of(key, from) {
         Some(place) => Some((rows.row(place), place + 1)),

@@ -14,7 +14,7 @@ ghost use Rattle.std.specs.Option.{option_map_or};
 ghost use Rattle.sw_caches.specs.Bytes.{bytes_of, key_bytes, puts_size};
 ghost use Rattle.sw_caches.specs.Entries.{pairs};
 ghost use Rattle.sw_caches.specs.Hits.{found_answer};
-ghost use Rattle.sw_caches.specs.Plans.{Fits, IsThrown, carried};
+ghost use Rattle.sw_caches.specs.Plans.{FitsCache, IsThrown, carried};
 ghost use Rattle.sw_caches.specs.Tables.{FitsNew, FitsTable, IsBatch, IsRefused, asked_places, caches_of, carried_rows, empty_cache, hit_from, key_and_name};
 
 use crate::entries::puts_size;
@@ -42,13 +42,13 @@ pub struct Caches {
 
 impl Model for Caches {
     ghost use Rattle.indexmap.specs.IndexMap.{spare};
-    ghost use Rattle.sw_caches.specs.Tables.{IsCounted, Table, table};
+    ghost use Rattle.sw_caches.specs.Tables.{CountsBytes, Table, table};
 
     ghost Value = { Table };
 
     ghost view = { λ caches. table caches.rows (spare caches.sums.keys) };
 
-    ghost invariant = { λ caches. IsCounted caches.rows.rows caches.sums };
+    ghost invariant = { λ caches. CountsBytes caches.rows.rows caches.sums };
 }
 
 /// Where a match is: the place of the cache among those of its key, and the place of the pair.
@@ -125,7 +125,7 @@ fn plan_pairs(
     ensures same { cache.new.pairs ≡ cache.old.pairs }
     ensures names { cache.new.names ≡ cache.old.names }
     ensures place { IfOk result (λ plan. plan.place ≡ place) }
-    ensures fits { IfOk result (λ plan. Fits plan.change cache.new) }
+    ensures fits { IfOk result (λ plan. FitsCache plan.change cache.new) }
     ensures bytes { IfOk result (λ plan.
         plan.bytes ≡ puts_size cache.old.names (pairs plan.change.added.items)) }
     ensures room { IfOk result (λ plan. total + plan.bytes < 2 ^ 64) }

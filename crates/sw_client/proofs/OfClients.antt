@@ -11,7 +11,7 @@ use Rattle.sw_data.specs.declared.rows.ClientRow.{ClientRow}
 use Rattle.sw_rules.specs.Rows.{changed, is_client, is_number, without}
 use Rattle.sw_client.specs.declared.OpenClient.{OpenClient}
 use Rattle.sw_client.specs.Keyed.{keyed, IsKeyed}
-use Rattle.sw_client.specs.Table.{IsCounted, controlled_by, is_open, uncontrolled, users_of, uses}
+use Rattle.sw_client.specs.Table.{CountsUsers, controlled_by, is_open, uncontrolled, users_of, uses}
 use Rattle.sw_client.proofs.KeyedRows.{count_changed, count_least, count_others, count_pushed, count_removed, count_within, lookup_keyed, remove_keyed, set_keyed, some_keyed, values_keyed}
 
 abbrev pub Entries : Type 0
@@ -94,7 +94,7 @@ abbrev one_of : Option ℕ → ℕ → ℕ
 one_of used registration = if is_number used registration then 1 else 0
 
 pub now_counted : (es : Entries) (rows : List OpenClient) (counts : List ℕ) → es ≡ keyed number rows → IsDistinct nat_eq (keys_of es)
-    → ((registration : ℕ) → slice_index_or counts registration 0 ≡ users_of registration rows) → length rows < 2 ^ 32 → IsCounted es counts
+    → ((registration : ℕ) → slice_index_or counts registration 0 ≡ users_of registration rows) → length rows < 2 ^ 32 → CountsUsers es counts
 now_counted es rows counts is apart users few =
     let same : values_of es ≡ rows = ap values_of is ∙ values_keyed number rows in
     record {
@@ -103,7 +103,7 @@ now_counted es rows counts is apart users few =
       few = subst (λ (xs : List OpenClient). length xs < 2 ^ 32) (sym same) few;
     }
 
-lowered_by : (n : ℕ) (es : Entries) (counts : List ℕ) (x : OpenClient) (used : Option ℕ) → x.registration ≡ used → IsCounted es counts → lookup (nat_eq n) es ≡ Some x → IfSome used (λ r. 0 < slice_index_or counts r 0)
+lowered_by : (n : ℕ) (es : Entries) (counts : List ℕ) (x : OpenClient) (used : Option ℕ) → x.registration ≡ used → CountsUsers es counts → lookup (nat_eq n) es ≡ Some x → IfSome used (λ r. 0 < slice_index_or counts r 0)
 lowered_by n es counts x None is sound there = tt
 lowered_by n es counts x (Some r) is sound there =
     let found : find (is_open n) (values_of es) ≡ Some x = sym (found_by n es sound.keyed) ∙ there in
@@ -112,25 +112,25 @@ lowered_by n es counts x (Some r) is sound there =
     omega (arith, sound.users r, least, one)
 
 -- the registration that a client uses has a count that can be lowered
-pub lowered : (n : ℕ) (es : Entries) (counts : List ℕ) (x : OpenClient) → IsCounted es counts → lookup (nat_eq n) es ≡ Some x → IfSome x.registration (λ r. 0 < slice_index_or counts r 0)
+pub lowered : (n : ℕ) (es : Entries) (counts : List ℕ) (x : OpenClient) → CountsUsers es counts → lookup (nat_eq n) es ≡ Some x → IfSome x.registration (λ r. 0 < slice_index_or counts r 0)
 lowered n es counts x = lowered_by n es counts x x.registration refl
 
 -- the registration that a new client uses has a count that can be raised
-pub raised : (es : Entries) (counts : List ℕ) (known : ℕ) (used : Option ℕ) → IsCounted es counts → IfSome used (λ r. r < known) → length (values_of es) < 2 ^ 32 - 1
+pub raised : (es : Entries) (counts : List ℕ) (known : ℕ) (used : Option ℕ) → CountsUsers es counts → IfSome used (λ r. r < known) → length (values_of es) < 2 ^ 32 - 1
     → IfSome used (λ r. (r < known) × (slice_index_or counts r 0 < 2 ^ 32 - 1))
 raised es counts known None sound is few = tt
 raised es counts known (Some r) sound is few = (is, omega (arith, sound.users r, count_within number (uses r) (values_of es), few))
 
 -- and so has the one that a client is given
-pub raised_again : (n r : ℕ) (es : Entries) (counts : List ℕ) (x : OpenClient) → IsCounted es counts → lookup (nat_eq n) es ≡ Some x
+pub raised_again : (n r : ℕ) (es : Entries) (counts : List ℕ) (x : OpenClient) → CountsUsers es counts → lookup (nat_eq n) es ≡ Some x
     → slice_index_or counts r 0 - one_of x.registration r < 2 ^ 32 - 1
 raised_again n r es counts x sound there =
     let found : find (is_open n) (values_of es) ≡ Some x = sym (found_by n es sound.keyed) ∙ there in
     let other = count_others number (uses r) n (values_of es) x found in
     grind (arith, nat_tests, sound.users r, other, sound.few)
 
-pub added_counted : (new : OpenClient) (es after : Entries) (counts now : List ℕ) → IsCounted es counts → length (values_of es) < 2 ^ 32 - 1
-    → after ≡ es ++ (number new, new) ∷ [] → IsDistinct nat_eq (keys_of after) → ((r : ℕ) → slice_index_or now r 0 ≡ slice_index_or counts r 0 + one_of new.registration r) → IsCounted after now
+pub added_counted : (new : OpenClient) (es after : Entries) (counts now : List ℕ) → CountsUsers es counts → length (values_of es) < 2 ^ 32 - 1
+    → after ≡ es ++ (number new, new) ∷ [] → IsDistinct nat_eq (keys_of after) → ((r : ℕ) → slice_index_or now r 0 ≡ slice_index_or counts r 0 + one_of new.registration r) → CountsUsers after now
 added_counted new es after counts now sound few is apart more =
     now_counted after (values_of es ++ new ∷ []) now (is ∙ added new es sound.keyed) apart
     (λ r. omega (arith, more r, sound.users r, count_pushed number (uses r) (values_of es) new)) (omega (arith, few, length-append (values_of es) (new ∷ [])))
@@ -138,8 +138,8 @@ added_counted new es after counts now sound few is apart more =
 pub added_rows : (new : OpenClient) (es after : Entries) → after ≡ es ++ (number new, new) ∷ [] → values_of after ≡ values_of es ++ new ∷ []
 added_rows new es after is = ap values_of is ∙ map-append (λ (entry : ℕ × OpenClient). entry.1) es ((number new, new) ∷ [])
 
-pub removed_counted : (n : ℕ) (es after : Entries) (counts now : List ℕ) (x : OpenClient) → IsCounted es counts → lookup (nat_eq n) es ≡ Some x
-    → after ≡ remove_entry (nat_eq n) es → IsDistinct nat_eq (keys_of after) → ((r : ℕ) → slice_index_or now r 0 ≡ slice_index_or counts r 0 - one_of x.registration r) → IsCounted after now
+pub removed_counted : (n : ℕ) (es after : Entries) (counts now : List ℕ) (x : OpenClient) → CountsUsers es counts → lookup (nat_eq n) es ≡ Some x
+    → after ≡ remove_entry (nat_eq n) es → IsDistinct nat_eq (keys_of after) → ((r : ℕ) → slice_index_or now r 0 ≡ slice_index_or counts r 0 - one_of x.registration r) → CountsUsers after now
 removed_counted n es after counts now x sound there is apart less =
     let found : find (is_open n) (values_of es) ≡ Some x = sym (found_by n es sound.keyed) ∙ there in
     now_counted after (without (is_open n) (values_of es)) now (is ∙ removed n es sound.keyed) apart
@@ -148,9 +148,9 @@ removed_counted n es after counts now x sound there is apart less =
 pub removed_rows : (n : ℕ) (es after : Entries) → IsKeyed number es → after ≡ remove_entry (nat_eq n) es → values_of after ≡ without (is_open n) (values_of es)
 removed_rows n es after sound is = ap values_of (is ∙ removed n es sound) ∙ values_keyed number (without (is_open n) (values_of es))
 
-pub given_counted : (n : ℕ) (f : OpenClient → OpenClient) (es after : Entries) (counts now : List ℕ) (x : OpenClient) → ((row : OpenClient) → number (f row) ≡ number row) → IsCounted es counts → lookup (nat_eq n) es ≡ Some x
+pub given_counted : (n : ℕ) (f : OpenClient → OpenClient) (es after : Entries) (counts now : List ℕ) (x : OpenClient) → ((row : OpenClient) → number (f row) ≡ number row) → CountsUsers es counts → lookup (nat_eq n) es ≡ Some x
     → after ≡ set_value (nat_eq n) es (f x)
-    → ((r : ℕ) → slice_index_or now r 0 ≡ slice_index_or counts r 0 - one_of x.registration r + one_of (f x).registration r) → IsCounted after now
+    → ((r : ℕ) → slice_index_or now r 0 ≡ slice_index_or counts r 0 - one_of x.registration r + one_of (f x).registration r) → CountsUsers after now
 given_counted n f es after counts now x keeps sound there is shifted =
     let apart = subst (IsDistinct nat_eq) (sym (ap keys_of is ∙ keys-set_value (nat_eq n) es (f x))) sound.keyed.apart in
     let found : find (is_open n) (values_of es) ≡ Some x = sym (found_by n es sound.keyed) ∙ there in

@@ -9,7 +9,7 @@ use Rattle.sw_list.specs.Sequence.{with_value_at}
 use Rattle.sw_rules.specs.Rows.{changed}
 use Rattle.sw_client.specs.declared.OpenClient.{OpenClient}
 use Rattle.sw_client.specs.Keyed.{keyed}
-use Rattle.sw_client.specs.Table.{IsCounted, controlled_by, handed, users_of, uses}
+use Rattle.sw_client.specs.Table.{CountsUsers, controlled_by, handed, users_of, uses}
 use Rattle.sw_client.proofs.OfClients.{Entries, number, now_counted}
 
 -- the rows that pass among those up to a place, and the row there, are no more than all that pass
@@ -68,7 +68,7 @@ handed_users r w other (x ∷ xs) = grind (arith, nat_tests, handed_users r w ot
 pub handed_rows : (r w : ℕ) (es after : Entries) → after ≡ edited (handed r w) es → values_of after ≡ changed (uses r) (controlled_by (w, r)) (values_of es)
 handed_rows r w es after is = ap values_of is ∙ edited_values (handed r w) es
 
-pub handed_counted : (r w : ℕ) (es after : Entries) (counts : List ℕ) → IsCounted es counts → after ≡ edited (handed r w) es → IsCounted after counts
+pub handed_counted : (r w : ℕ) (es after : Entries) (counts : List ℕ) → CountsUsers es counts → after ≡ edited (handed r w) es → CountsUsers after counts
 handed_counted r w es after counts sound is =
     now_counted after (map (handed r w) (values_of es)) counts
     (is ∙ ap (edited (handed r w)) sound.keyed.rows ∙ edited_keyed (handed r w) number (values_of es) (handed_number r w))

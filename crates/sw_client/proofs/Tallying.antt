@@ -8,7 +8,7 @@ use Rattle.sw_list.proofs.Tallies.{any_passes, passing_more}
 use Rattle.sw_list.specs.Tally.{Tally, count_of}
 use Rattle.sw_rules.specs.Rows.{changed, without}
 use Rattle.sw_client.specs.declared.OpenClient.{OpenClient}
-use Rattle.sw_client.specs.Table.{AreTallied, IsCounted, IsKept, handed, is_of, is_open}
+use Rattle.sw_client.specs.Table.{AreTallied, CountsUsers, IsKept, handed, is_of, is_open}
 use Rattle.sw_client.proofs.KeyedRows.{count_changed, count_removed}
 use Rattle.sw_client.proofs.OfClients.{Entries, added_rows, apart_now, found_by, given_rows, number, removed_rows}
 use Rattle.sw_client.proofs.TakeOver.{edited, edited_values}
@@ -28,7 +28,7 @@ added_tallied new es after keys now tallied is more key =
     let rows = ap (λ (rows : List OpenClient). length (filter (is_of key) rows)) (added_rows new es after is) in
     omega (arith, more key, tallied key, rows, passing_more (is_of key) (values_of es) new)
 
-pub removed_tallied : (n : ℕ) (es after : Entries) (counts : List ℕ) (keys now : Tally) (x : OpenClient) → IsCounted es counts → AreTallied es keys → lookup (nat_eq n) es ≡ Some x
+pub removed_tallied : (n : ℕ) (es after : Entries) (counts : List ℕ) (keys now : Tally) (x : OpenClient) → CountsUsers es counts → AreTallied es keys → lookup (nat_eq n) es ≡ Some x
     → after ≡ remove_entry (nat_eq n) es → ((key : List ℕ) → count_of now key ≡ count_of keys key - (if is_of key x then 1 else 0)) → AreTallied after now
 removed_tallied n es after counts keys now x sound tallied there is less key =
     let rows = ap (λ (rows : List OpenClient). length (filter (is_of key) rows)) (removed_rows n es after sound.keyed is) in
@@ -36,7 +36,7 @@ removed_tallied n es after counts keys now x sound tallied there is less key =
 
 -- a client keeps its key
 pub given_tallied : (n : ℕ) (f : OpenClient → OpenClient) (es after : Entries) (counts : List ℕ) (keys : Tally) (x : OpenClient) → ((row : OpenClient) → number (f row) ≡ number row)
-    → ((row : OpenClient) → (f row).client.key ≡ row.client.key) → IsCounted es counts → AreTallied es keys → lookup (nat_eq n) es ≡ Some x
+    → ((row : OpenClient) → (f row).client.key ≡ row.client.key) → CountsUsers es counts → AreTallied es keys → lookup (nat_eq n) es ≡ Some x
     → after ≡ set_value (nat_eq n) es (f x) → AreTallied after keys
 given_tallied n f es after counts keys x same_number same_key sound tallied there is key =
     let rows = ap (λ (rows : List OpenClient). length (filter (is_of key) rows)) (given_rows n f es after x same_number sound.keyed there is) in

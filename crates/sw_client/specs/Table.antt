@@ -46,14 +46,14 @@ abbrev pub uncontrolled : OpenClient → OpenClient
 uncontrolled row = record { client = record row.client { controller = None }; registration = None }
 
 -- a row can be put into the table: no row has its number, its registration is known, and there is room
-pub record Fits (new : OpenClient) (table : Table) : Type 0 where
+pub record FitsClient (new : OpenClient) (table : Table) : Type 0 where
   pub number : list_any (is_client new.client.number) (clients_of table) ≡ false
   pub registration : IfSome new.registration (λ registration. registration < table.known)
   pub room : 0 < table.spare
   pub few : length table.rows < 2 ^ 32 - 1
 
 -- the rows stand at their numbers, and the count of each registration is that of its users
-pub record IsCounted (entries : List (ℕ × OpenClient)) (counts : List ℕ) : Type 0 where
+pub record CountsUsers (entries : List (ℕ × OpenClient)) (counts : List ℕ) : Type 0 where
   pub keyed : IsKeyed (λ row. row.client.number) entries
   pub users : (registration : ℕ) → slice_index_or counts registration 0 ≡ users_of registration (values_of entries)
   pub few : length (values_of entries) < 2 ^ 32
@@ -68,5 +68,5 @@ AreTallied entries keys = (key : List ℕ) → count_of keys key ≡ length (fil
 
 -- what is kept of the clients
 pub record IsKept (entries : List (ℕ × OpenClient)) (counts : List ℕ) (keys : Tally) : Type 0 where
-  pub counted : IsCounted entries counts
+  pub counted : CountsUsers entries counts
   pub tallied : AreTallied entries keys

@@ -8,7 +8,7 @@ ghost use Rattle.std.specs.Option.{option_and_then, option_copied, option_map, o
 ghost use Rattle.std.specs.Map.{values_of};
 ghost use Rattle.sw_data.specs.declared.answers.Notice.TheVariants as notice;
 ghost use Rattle.sw_rules.specs.Rows.{changed, is_client, without};
-ghost use Rattle.sw_client.specs.Table.{Fits, clients_of, controlled_by, handed, is_open, uncontrolled, users_of, uses};
+ghost use Rattle.sw_client.specs.Table.{FitsClient, clients_of, controlled_by, handed, is_open, uncontrolled, users_of, uses};
 
 mod counts;
 
@@ -316,7 +316,7 @@ impl Clients {
           };
           registration = option_map (λ c. c.1) controller;
         }) }
-        ensures fits { IfOk result (λ new. Fits new self.new) }
+        ensures fits { IfOk result (λ new. FitsClient new self.new) }
         ensures in_use { (result ≡ Err AddFault.InUse)
             ↔ (list_any (is_client number) (clients_of self.old) ≡ true) }
     {
@@ -344,7 +344,7 @@ impl Clients {
 
     /// Adds a row that was made, last. It takes no memory.
     pub fn add_put(&mut self, row: NewClient)
-        requires { Fits row self.old }
+        requires { FitsClient row self.old }
         ensures rows { self.new.rows ≡ self.old.rows ++ row ∷ [] }
         ensures known { self.new.known ≡ self.old.known }
         ensures room { self.old.spare ≤ self.new.spare + 1 }

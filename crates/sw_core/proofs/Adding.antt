@@ -23,7 +23,7 @@ use Rattle.sw_reg.specs.Edits.{new_registration}
 use Rattle.sw_reg.specs.Table as registrations
 use Rattle.sw_reg.specs.Table.{firsts, has_first, is_registration, registration_at, slot_of}
 use Rattle.sw_core.proofs.LastRows.{changed_last, found_last, seated_last}
-use Rattle.sw_core.specs.Restored.{Adds, IsRestored, quiet_rest}
+use Rattle.sw_core.specs.Restored.{Restores, IsRestored, quiet_rest}
 use Rattle.sw_core.specs.Rows.{chosen_worker, is_activated, raised, registration_row, seated, worker_row}
 use Rattle.sw_core.specs.declared.tables.Restored.{Restored}
 use Rattle.sw_rules.specs.Restart.{active_state, no_handlers, restored_registration, restored_worker, restored_workers, worker_after_restart}
@@ -258,7 +258,7 @@ module _ (old new : workers.Table) (from to : registrations.Table) (x : WorkerRo
   }
 
 module _ (rows : List KeptRegistration) (row : KeptRegistration) (worker : KeptWorker) (old new : Restored)
-    (was : IsRestored rows old) (adds : Adds row worker old new) (chosen : chosen_worker row ≡ Some worker)
+    (was : IsRestored rows old) (adds : Restores row worker old new) (chosen : chosen_worker row ≡ Some worker)
     (apart : AllByRecursion (λ x. meets_row x row ≡ false) rows) where
   abbrev n : ℕ
   n = length old.registrations.rows
@@ -481,7 +481,7 @@ pub added : (row : KeptRegistration) (worker : KeptWorker) (number : ℕ) (activ
     → new.clients.rows ≡ old.clients.rows → length old.registrations.rows < new.clients.known
     → ((n : ℕ) → preload_of new.preloads.rows n ≡ (if n == number then row.preload else preload_of old.preloads.rows n))
     → ((n : ℕ) → preload_value_of new.preloads.rows n ≡ (if n == number then row.preload_value else preload_value_of old.preloads.rows n))
-    → Adds row worker old new
+    → Restores row worker old new
 added row worker number activated old new mid own same are scopes of_workers made set of_clients known preload preload_value = record {
   scopes = scopes;
   workers =

@@ -10,7 +10,7 @@ use Rattle.sw_data.specs.declared.storage.Kept.{Kept}
 use Rattle.sw_data.specs.declared.storage.KeptRegistration.{KeptRegistration}
 use Rattle.sw_data.specs.declared.storage.KeptWorker.{KeptWorker}
 use Rattle.sw_core.proofs.Adding.{restored_more}
-use Rattle.sw_core.specs.Restored.{Adds, IsRestored, quiet_rest}
+use Rattle.sw_core.specs.Restored.{Restores, IsRestored, quiet_rest}
 use Rattle.sw_core.specs.Rows.{chosen_worker}
 use Rattle.sw_core.specs.declared.tables.Restored.{Restored}
 use Rattle.sw_rules.specs.Restart.{restart}
@@ -24,7 +24,7 @@ one_is_there None None is = absurd cc
 
 -- the tables with one registration more of the content
 pub one_restored : (content : Kept) → IsMade content → (rows rest : List KeptRegistration) (row : KeptRegistration) (old new : Restored) → rows ++ row ∷ rest ≡ content.registrations → IsRestored rows old
-    → ((worker : KeptWorker) → chosen_worker row ≡ Some worker → Adds row worker old new) → IsRestored (rows ++ row ∷ []) new
+    → ((worker : KeptWorker) → chosen_worker row ≡ Some worker → Restores row worker old new) → IsRestored (rows ++ row ∷ []) new
 one_restored content made rows rest row old new is was adds =
     let sound = made_sound content made in
     let one = all-last IsSoundRow rows row rest (subst (AllByRecursion IsSoundRow) (sym is) sound.rows.each) in

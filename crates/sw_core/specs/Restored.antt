@@ -28,7 +28,7 @@ quiet_rest of_preloads caches = record {
 }
 
 -- own: a kept registration with this worker is added to the tables
-pub record Adds (row : KeptRegistration) (worker : KeptWorker) (old new : Restored) : Type 0 where
+pub record Restores (row : KeptRegistration) (worker : KeptWorker) (old new : Restored) : Type 0 where
   pub scopes : (key scope : List ℕ) → maps new.map key scope
       ≡ with_row old.map (record { key = row.key; scope = row.scope; number = length old.registrations.rows }) key scope
   pub workers : new.workers ≡ record old.workers {

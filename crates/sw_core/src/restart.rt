@@ -2,7 +2,7 @@
 
 ghost use Rattle.std.specs.Prelude.{◌≡◌, [], Some, IfOk, OnOk};
 ghost use Rattle.sw_data.specs.declared.storage.KeptWorker.{KeptWorker};
-ghost use Rattle.sw_core.specs.Restored.{Adds, IsRestored, quiet_rest};
+ghost use Rattle.sw_core.specs.Restored.{Restores, IsRestored, quiet_rest};
 ghost use Rattle.sw_core.specs.Rows.{chosen_worker, is_activated};
 ghost use Rattle.sw_rules.specs.Restart.{restart};
 ghost use Rattle.sw_rules.specs.Storage.{IsMade};
@@ -49,7 +49,7 @@ fn restore(alloc: Global, row: KeptRegistration, tables: &mut Restored) -> Resul
     requires workers { ArePlaces (λ row. row.number) tables.old.workers.rows }
     requires registrations { ArePlaces (λ row. row.number) tables.old.registrations.rows }
     ensures added { OnOk result ((worker : KeptWorker) → chosen_worker row ≡ Some worker
-        → Adds row worker tables.old tables.new) }
+        → Restores row worker tables.old tables.new) }
     ensures caches { tables.new.caches ≡ tables.old.caches }
 {
     let number = add_registration(

@@ -6,19 +6,19 @@ use Rattle.std.proofs.lemmas.List.FromFn.{length-map-range_with_len, get_or-map-
 use Rattle.std.proofs.lemmas.Grind.{same_number_lists}
 use Rattle.std.proofs.lemmas.Bool.{cases_lt}
 use Rattle.sw_disk.specs.DiskRule.{written, Torn, PendingCut}
-use Rattle.sw_disk.specs.Doubts.{Fits, Leaves, marked, marks_of, Exactly}
+use Rattle.sw_disk.specs.Doubts.{HasCertain, Leaves, marked, marks_of, Exactly}
 use Rattle.sw_disk.specs.MemoryLaws.{fits_itself}
 use Rattle.sw_disk.proofs.Marks.{length-marked}
 
 -- what fits has a byte for each mark
-fits_long : (bytes : List ℕ) (marks : List Bool) (c : List ℕ) → Fits bytes marks c → length marks ≤ length c
+fits_long : (bytes : List ℕ) (marks : List Bool) (c : List ℕ) → HasCertain bytes marks c → length marks ≤ length c
 fits_long bytes [] c fits = omega arith
 fits_long [] (mark ∷ marks) c fits = absurd fits
 fits_long (byte ∷ bytes) (mark ∷ marks) [] fits = absurd fits
 fits_long (byte ∷ bytes) (mark ∷ marks) (x ∷ c) fits = omega (arith, fits_long bytes marks c fits.1)
 
 -- and where the mark is false it has what reads give
-fits_sure : (bytes : List ℕ) (marks : List Bool) (c : List ℕ) (k : ℕ) → Fits bytes marks c → get_or marks k true ≡ false → get_or c k 0 ≡ get_or bytes k 0
+fits_sure : (bytes : List ℕ) (marks : List Bool) (c : List ℕ) (k : ℕ) → HasCertain bytes marks c → get_or marks k true ≡ false → get_or c k 0 ≡ get_or bytes k 0
 fits_sure bytes [] c k fits sure = absurd (cc)
 fits_sure [] (mark ∷ marks) c k fits sure = absurd fits
 fits_sure (byte ∷ bytes) (mark ∷ marks) [] k fits sure = absurd fits
@@ -27,7 +27,7 @@ fits_sure (byte ∷ bytes) (mark ∷ marks) (x ∷ c) (suc k) fits sure = fits_s
 
 -- what has these two fits
 sure_fits : (bytes : List ℕ) (marks : List Bool) (c : List ℕ) → length marks ≤ length bytes → length marks ≤ length c
-    → ((k : ℕ) → k < length marks → get_or marks k true ≡ false → get_or c k 0 ≡ get_or bytes k 0) → Fits bytes marks c
+    → ((k : ℕ) → k < length marks → get_or marks k true ≡ false → get_or c k 0 ≡ get_or bytes k 0) → HasCertain bytes marks c
 sure_fits bytes [] c short long sure = tt
 sure_fits [] (mark ∷ marks) c short long sure = absurd (omega (arith, short))
 sure_fits (byte ∷ bytes) (mark ∷ marks) [] short long sure = absurd (omega (arith, long))
@@ -83,8 +83,8 @@ marks_short : (touched : Bool) (marks : List Bool) (bytes : List ℕ) → length
 marks_short false marks bytes short = omega (arith, length-replicate (length bytes) false)
 marks_short true marks bytes short = short
 
-left_fits : (touched : Bool) (marks : List Bool) (bytes d : List ℕ) → length marks ≤ length bytes → Leaves touched marks bytes d → Fits bytes (marks_of touched marks bytes) d
-left_fits false marks bytes d short left = subst (Fits bytes (replicate (length bytes) false)) (sym left) (fits_itself bytes _ (marks_short false marks bytes short))
+left_fits : (touched : Bool) (marks : List Bool) (bytes d : List ℕ) → length marks ≤ length bytes → Leaves touched marks bytes d → HasCertain bytes (marks_of touched marks bytes) d
+left_fits false marks bytes d short left = subst (HasCertain bytes (replicate (length bytes) false)) (sym left) (fits_itself bytes _ (marks_short false marks bytes short))
 left_fits true marks bytes d short left = left
 
 chosen : (mark : Bool) (x y : ℕ) → (mark ≡ false → y ≡ x) → (if mark then x else y) ≡ x
@@ -94,12 +94,12 @@ chosen false x y same = same refl
 -- a write, of which reads now give what a torn write may leave
 module _ (marks : List Bool) (bytes now : List ℕ) (at n : ℕ) (short : length marks ≤ length bytes) (torn : Torn (length bytes) at n bytes now) where
   -- what fits now was the same outside of the range, where nothing was in doubt
-  kept_outside : (c : List ℕ) → Fits now (marked at n marks) c → (k : ℕ) → k < length bytes → get_or marks k true ≡ false → (at ≤ k → at + n ≤ k) → get_or c k 0 ≡ get_or bytes k 0
+  kept_outside : (c : List ℕ) → HasCertain now (marked at n marks) c → (k : ℕ) → k < length bytes → get_or marks k true ≡ false → (at ≤ k → at + n ≤ k) → get_or c k 0 ≡ get_or bytes k 0
   kept_outside c fits k lt sure outside =
       fits_sure now (marked at n marks) c k fits ((marked_at at n marks k).1 (sure, outside)) ∙ torn_at (length bytes) at n bytes now torn k lt outside
 
   -- so it comes from what fitted, by a torn write
-  write_back : at ≤ length bytes → (c : List ℕ) → Fits now (marked at n marks) c → (d : List ℕ) × Fits bytes marks d × Torn (length bytes) at n d c
+  write_back : at ≤ length bytes → (c : List ℕ) → HasCertain now (marked at n marks) c → (d : List ℕ) × HasCertain bytes marks d × Torn (length bytes) at n d c
   write_back fits c left =
       let f : ℕ → ℕ = λ k. if get_or marks k true then get_or c k 0 else get_or bytes k 0 in
       let d = map f (range_with_len 0 (length c)) in
@@ -114,7 +114,7 @@ module _ (marks : List Bool) (bytes now : List ℕ) (at n : ℕ) (short : length
       )
 
   -- and what comes so from what fitted fits
-  write_forth : (c d : List ℕ) → Fits bytes marks d → Torn (length bytes) at n d c → Fits now (marked at n marks) c
+  write_forth : (c d : List ℕ) → HasCertain bytes marks d → Torn (length bytes) at n d c → HasCertain now (marked at n marks) c
   write_forth c d left step =
       sure_fits now (marked at n marks) c (omega (arith, short, length-marked at n marks, torn.no_shorter)) (omega (arith, short, fits_long bytes marks d left, length-marked at n marks, step.no_shorter))
       (λ k lt sure.
@@ -124,10 +124,10 @@ module _ (marks : List Bool) (bytes now : List ℕ) (at n : ℕ) (short : length
 
 -- a cut, of which reads now give the same front
 module _ (marks : List Bool) (bytes now : List ℕ) (len : ℕ) (short : length marks ≤ length bytes) (fits : len ≤ length bytes) (same : take len now ≡ take len bytes) where
-  kept_front : (c : List ℕ) → Fits now (take len marks) c → (k : ℕ) → k < len → get_or marks k true ≡ false → get_or c k 0 ≡ get_or bytes k 0
+  kept_front : (c : List ℕ) → HasCertain now (take len marks) c → (k : ℕ) → k < len → get_or marks k true ≡ false → get_or c k 0 ≡ get_or bytes k 0
   kept_front c left k lt sure = fits_sure now (take len marks) c k left (get_or-take len marks k true lt ∙ sure) ∙ front_at len k now bytes same lt
 
-  cut_back : (c : List ℕ) → Fits now (take len marks) c → (d : List ℕ) × Fits bytes marks d × PendingCut len d c
+  cut_back : (c : List ℕ) → HasCertain now (take len marks) c → (d : List ℕ) × HasCertain bytes marks d × PendingCut len d c
   cut_back c left =
       let rest = take (length marks - len) (drop len bytes) in
       let long : min len (length marks) ≤ length c = omega (arith, fits_long now (take len marks) c left, length-take len marks) in
@@ -138,7 +138,7 @@ module _ (marks : List Bool) (bytes now : List ℕ) (len : ℕ) (short : length 
         front_from_at len c (take len c ++ rest) (omega arith) (λ k lt within. grind (arith, places)),
       )
 
-  cut_forth : (c d : List ℕ) → Fits bytes marks d → PendingCut len d c → Fits now (take len marks) c
+  cut_forth : (c d : List ℕ) → HasCertain bytes marks d → PendingCut len d c → HasCertain now (take len marks) c
   cut_forth c d left step =
       sure_fits now (take len marks) c (omega (arith, length-take len marks, short, ap length same, length-take len now, length-take len bytes))
       (omega (arith, length-take len marks, fits_long bytes marks d left, ap length step, length-take len c, length-take len d))
@@ -158,7 +158,7 @@ same_torn_write at n old = record { before = refl; behind = refl; no_shorter = o
 
 -- a part that wasn't touched leaves what reads gave
 wrote_back : (touched : Bool) (marks : List Bool) (bytes now : List ℕ) (at n : ℕ) → length marks ≤ length bytes → at ≤ length bytes → Torn (length bytes) at n bytes now
-    → (c : List ℕ) → Fits now (marked at n (marks_of touched marks bytes)) c → (d : List ℕ) × Leaves touched marks bytes d × Torn (length bytes) at n d c
+    → (c : List ℕ) → HasCertain now (marked at n (marks_of touched marks bytes)) c → (d : List ℕ) × Leaves touched marks bytes d × Torn (length bytes) at n d c
 wrote_back true marks bytes now at n short fits torn c left = write_back marks bytes now at n short torn fits c left
 wrote_back false marks bytes now at n short fits torn c left =
     let none = replicate (length bytes) false in
@@ -170,7 +170,7 @@ wrote_back false marks bytes now at n short fits torn c left =
     )
 
 clipped_back : (touched : Bool) (marks : List Bool) (bytes now : List ℕ) (len : ℕ) → length marks ≤ length bytes → len ≤ length bytes → take len now ≡ take len bytes
-    → (c : List ℕ) → Fits now (take len (marks_of touched marks bytes)) c → (d : List ℕ) × Leaves touched marks bytes d × PendingCut len d c
+    → (c : List ℕ) → HasCertain now (take len (marks_of touched marks bytes)) c → (d : List ℕ) × Leaves touched marks bytes d × PendingCut len d c
 clipped_back true marks bytes now len short fits same c left = cut_back marks bytes now len short fits same c left
 clipped_back false marks bytes now len short fits same c left =
     let none = replicate (length bytes) false in
@@ -187,15 +187,15 @@ module _ (touched touched' : Bool) (marks marks' : List Bool) (bytes now : List 
   pub wrote : (at n : ℕ) → marks' ≡ marked at n (marks_of touched marks bytes) → at ≤ length bytes → Torn (length bytes) at n bytes now
       → Exactly (Torn (length bytes) at n) (Leaves touched marks bytes) (Leaves touched' marks' now)
   wrote at n are fits torn = subst (λ t. Exactly (Torn (length bytes) at n) (Leaves touched marks bytes) (Leaves t marks' now)) (sym is_touched) (record {
-    nothing_else = λ c left. wrote_back touched marks bytes now at n short fits torn c (subst (λ m. Fits now m c) are left);
-    each = λ c d left step. subst (λ m. Fits now m c) (sym are)
+    nothing_else = λ c left. wrote_back touched marks bytes now at n short fits torn c (subst (λ m. HasCertain now m c) are left);
+    each = λ c d left step. subst (λ m. HasCertain now m c) (sym are)
         (write_forth (marks_of touched marks bytes) bytes now at n (marks_short touched marks bytes short) torn c d (left_fits touched marks bytes d short left) step);
   })
 
   pub clipped : (len : ℕ) → marks' ≡ take len (marks_of touched marks bytes) → len ≤ length bytes → take len now ≡ take len bytes
       → Exactly (PendingCut len) (Leaves touched marks bytes) (Leaves touched' marks' now)
   clipped len are fits same = subst (λ t. Exactly (PendingCut len) (Leaves touched marks bytes) (Leaves t marks' now)) (sym is_touched) (record {
-    nothing_else = λ c left. clipped_back touched marks bytes now len short fits same c (subst (λ m. Fits now m c) are left);
-    each = λ c d left step. subst (λ m. Fits now m c) (sym are)
+    nothing_else = λ c left. clipped_back touched marks bytes now len short fits same c (subst (λ m. HasCertain now m c) are left);
+    each = λ c d left step. subst (λ m. HasCertain now m c) (sym are)
         (cut_forth (marks_of touched marks bytes) bytes now len (marks_short touched marks bytes short) fits same c d (left_fits touched marks bytes d short left) step);
   })

@@ -9,7 +9,7 @@ use Rattle.sw_disk.specs.DiskRule.{Within, OnPart, capped}
 use Rattle.sw_disk.specs.declared.part.Part.{Part}
 use Rattle.sw_disk.specs.declared.part.Part.TheVariants.{Root, Left, Right}
 use Rattle.sw_disk.specs.Doubts.{Exactly}
-use Rattle.sw_disk.specs.Memory.{HadLeft, MayLeave, Keeps, image_of}
+use Rattle.sw_disk.specs.Memory.{HadLeft, MayLeave, ForgetsNothing, image_of}
 use Rattle.sw_disk.specs.MemoryLaws.{leaves_image}
 use Rattle.sw_disk.specs.declared.memory.part.MemoryPart.{MemoryPart}
 use Rattle.sw_disk.specs.declared.part.Parts.{Parts}
@@ -30,7 +30,7 @@ had_left_pushed (p ∷ past) was t c P same = let rest = had_left_pushed past wa
 )
 
 -- a call that leaves alone what is past, and after which a crash may leave all that it might have left before
-pub same_kept : (old new : MemoryDisk) → new.history.past.items ≡ old.history.past.items → Within (MayLeave old.parts) (MayLeave new.parts) → Keeps old new
+pub same_kept : (old new : MemoryDisk) → new.history.past.items ≡ old.history.past.items → Within (MayLeave old.parts) (MayLeave new.parts) → ForgetsNothing old new
 same_kept old new same more t c le left = ⊎_elim (λ now. inl (more c now)) (λ had. inr (subst (λ past. HadLeft past t c) (sym same) had)) left
 
 -- no step at all is a step of a part, where it is one of its bytes

@@ -8,7 +8,7 @@ use Rattle.sw_disk.specs.Image.{get}
 use Rattle.sw_disk.specs.Memory.{PartLeaves, MayLeave, image_of}
 use Rattle.sw_disk.specs.declared.memory.part.MemoryPart.{MemoryPart}
 use Rattle.sw_disk.specs.declared.part.Parts.{Parts}
-use Rattle.sw_disk.specs.Doubts.{Fits, Leaves}
+use Rattle.sw_disk.specs.Doubts.{HasCertain, Leaves}
 
 later_drop : (marks : List Bool) → later_marks marks ≡ drop 1 marks
 later_drop [] = refl
@@ -50,7 +50,7 @@ module _ (marks : List Bool) (first now new picks rest : List ℕ) (i : ℕ) (wi
       ∙ (ap (λ l. picks_left l (drop (i + 1) first) (if in_doubt (drop i marks) then later_picks picks else picks)) (later_at i marks)
       ∙ ap (picks_left (drop (i + 1) marks) (drop (i + 1) first)) (sym used))
 
-picked_fits : (bytes : List ℕ) (marks : List Bool) (picks : List ℕ) → length marks ≤ length bytes → Fits bytes marks (picked marks bytes picks)
+picked_fits : (bytes : List ℕ) (marks : List Bool) (picks : List ℕ) → length marks ≤ length bytes → HasCertain bytes marks (picked marks bytes picks)
 picked_fits bytes [] picks short = tt
 picked_fits [] (mark ∷ marks) picks short = absurd (omega (arith, short))
 picked_fits (byte ∷ bytes) (true ∷ marks) picks short = (λ is. absurd (cc), picked_fits bytes marks (later_picks picks) (omega (arith, short)))

@@ -3,16 +3,16 @@ use Rattle.std.specs.Prelude.{◌≡◌, ℕ, zero, suc, List, [], ◌∷◌, Bo
 
 -- own: bytes that a crash may leave of a part that was written or cut since the last sync. There are as many as there
 -- are marks, or more, and each has its place's value where the mark says that it isn't in doubt.
-abbrev pub Fits : List ℕ → List Bool → List ℕ → Type 0
-Fits bytes [] c = Unit {0}
-Fits [] (mark ∷ marks) c = ⊥
-Fits (byte ∷ bytes) (mark ∷ marks) [] = ⊥
-Fits (byte ∷ bytes) (mark ∷ marks) (x ∷ c) = (mark ≡ false → x ≡ byte) × Fits bytes marks c
+abbrev pub HasCertain : List ℕ → List Bool → List ℕ → Type 0
+HasCertain bytes [] c = Unit {0}
+HasCertain [] (mark ∷ marks) c = ⊥
+HasCertain (byte ∷ bytes) (mark ∷ marks) [] = ⊥
+HasCertain (byte ∷ bytes) (mark ∷ marks) (x ∷ c) = (mark ≡ false → x ≡ byte) × HasCertain bytes marks c
 
 -- own: bytes that a crash may leave of a part, by whether it was touched since the last sync
 abbrev pub Leaves : Bool → List Bool → List ℕ → List ℕ → Type 0
 Leaves false marks bytes c = c ≡ bytes
-Leaves true marks bytes c = Fits bytes marks c
+Leaves true marks bytes c = HasCertain bytes marks c
 
 -- own: the marks with n places from one on in doubt besides
 abbrev pub marked : ℕ → ℕ → List Bool → List Bool

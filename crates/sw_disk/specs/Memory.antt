@@ -84,8 +84,8 @@ abbrev pub fails_next : CallKind → MemoryDisk → Bool
 fails_next kind disk = is_stopped disk.history.clock disk.stop || is_listed kind (count_of kind disk.counts) disk.failing.items
 
 -- own: nothing is forgotten of what a crash at some moment may have left
-abbrev pub Keeps : MemoryDisk → MemoryDisk → Type 0
-Keeps old new = (t : ℕ) (c : Image) → t ≤ old.history.clock → LeftSince old t c → LeftSince new t c
+abbrev pub ForgetsNothing : MemoryDisk → MemoryDisk → Type 0
+ForgetsNothing old new = (t : ℕ) (c : Image) → t ≤ old.history.clock → LeftSince old t c → LeftSince new t c
 
 -- own: a call of a kind was counted, and the calls that fail are the same
 pub record FollowsScript (kind : CallKind) (old new : MemoryDisk) : Type 0 where

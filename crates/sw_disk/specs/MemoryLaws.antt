@@ -7,7 +7,7 @@ use Rattle.sw_disk.specs.declared.part.Part.{Part}
 use Rattle.sw_disk.specs.declared.part.Part.TheVariants.{Root, Left, Right}
 use Rattle.sw_data.specs.Faults.{Rose}
 use Rattle.sw_disk.specs.Image.{Image, get}
-use Rattle.sw_disk.specs.Doubts.{Fits, Leaves}
+use Rattle.sw_disk.specs.Doubts.{HasCertain, Leaves}
 use Rattle.sw_disk.specs.Memory.{MayLeave, PartLeaves, HadLeft, image_of}
 use Rattle.sw_disk.specs.Lengths.{vec_small}
 use Rattle.sw_disk.specs.declared.memory.history.Past.{Past}
@@ -15,7 +15,7 @@ use Rattle.sw_disk.specs.declared.memory.part.MemoryPart.{MemoryPart}
 use Rattle.sw_disk.specs.declared.part.Parts.{Parts}
 
 -- what reads give fits the marks
-pub fits_itself : (bytes : List ℕ) (marks : List Bool) → length marks ≤ length bytes → Fits bytes marks bytes
+pub fits_itself : (bytes : List ℕ) (marks : List Bool) → length marks ≤ length bytes → HasCertain bytes marks bytes
 fits_itself bytes [] short = tt
 fits_itself [] (mark ∷ marks) short = absurd (not-suc-le-zero short)
 fits_itself (byte ∷ bytes) (mark ∷ marks) short = (λ is. refl, fits_itself bytes marks (le_of_suc-le-suc short))

@@ -233,7 +233,7 @@ impl Disk for MemoryDisk {
     ghost use Rattle.sw_disk.specs.DiskRule.{Elapses, HasCause, faults_after, ReadsAt};
     ghost use Rattle.sw_disk.specs.Meanings.{Tears, Clips};
     ghost use Rattle.sw_disk.specs.declared.memory.script.CallKind.TheVariants.{Len, Read, Write, Cut, Sync};
-    ghost use Rattle.sw_disk.specs.Memory.{memory, disk_image, CrashLeaves, LeavesExactly, LeftSince, Keeps, SameParts};
+    ghost use Rattle.sw_disk.specs.Memory.{memory, disk_image, CrashLeaves, LeavesExactly, LeftSince, ForgetsNothing, SameParts};
     ghost use Rattle.sw_disk.specs.Memory.{FollowsScript, clock_of, faults_of, fails_next};
     ghost use Rattle.sw_disk.specs.MemoryLaws.{leaves_image, current, image_small};
 
@@ -264,7 +264,7 @@ impl Disk for MemoryDisk {
         ensures cause { HasCause (faults_of self.old) (faults_of self.new) result }
         ensures counts_faults { faults_of self.new ≡ faults_after result (faults_of self.old) }
         ensures exact { Within (CrashLeaves self.old) (CrashLeaves self.new) }
-        ensures kept { Keeps self.old self.new }
+        ensures kept { ForgetsNothing self.old self.new }
         ensures listed { IsErr result ↔ IsTrue (fails_next Len self.old) }
         ensures script { FollowsScript Len self.old self.new }
     {
@@ -283,7 +283,7 @@ impl Disk for MemoryDisk {
         ensures cause { HasCause (faults_of self.old) (faults_of self.new) result }
         ensures counts_faults { faults_of self.new ≡ faults_after result (faults_of self.old) }
         ensures exact { Within (CrashLeaves self.old) (CrashLeaves self.new) }
-        ensures kept { Keeps self.old self.new }
+        ensures kept { ForgetsNothing self.old self.new }
         ensures listed { IsErr result ↔ IsTrue (fails_next Read self.old) }
         ensures script { FollowsScript Read self.old self.new }
     {
@@ -309,7 +309,7 @@ impl Disk for MemoryDisk {
         // It wanted memory before it began, or the range is in doubt.
         ensures failed { OnErr result (SameParts self.old self.new ⊎ LeavesExactly self.old self.new
             (TornWrite part at (length bytes.now) (disk_image self.old))) }
-        ensures kept { Keeps self.old self.new }
+        ensures kept { ForgetsNothing self.old self.new }
         ensures listed { IsTrue (fails_next Write self.old) → IsErr result }
         ensures script { FollowsScript Write self.old self.new }
     {
@@ -334,7 +334,7 @@ impl Disk for MemoryDisk {
         // It wanted memory before it began, or the length is in doubt.
         ensures failed { OnErr result (SameParts self.old self.new
             ⊎ LeavesExactly self.old self.new (OnPart part (PendingCut len))) }
-        ensures kept { Keeps self.old self.new }
+        ensures kept { ForgetsNothing self.old self.new }
         ensures listed { IsTrue (fails_next Cut self.old) → IsErr result }
         ensures script { FollowsScript Cut self.old self.new }
     {
@@ -351,7 +351,7 @@ impl Disk for MemoryDisk {
         ensures cause { HasCause (faults_of self.old) (faults_of self.new) result }
         ensures counts_faults { faults_of self.new ≡ faults_after result (faults_of self.old) }
         ensures failed { OnErr result (Within (CrashLeaves self.old) (CrashLeaves self.new)) }
-        ensures kept { Keeps self.old self.new }
+        ensures kept { ForgetsNothing self.old self.new }
         ensures listed { IsTrue (fails_next Sync self.old) → IsErr result }
         ensures script { FollowsScript Sync self.old self.new }
     {

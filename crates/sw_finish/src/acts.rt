@@ -37,7 +37,7 @@ use sw_worker::NewEvent;
 
 // A client is added last.
 fn add_client(host: &mut HostTables, new: NewClient)
-    requires fits { clients_table.Fits new host.old.clients }
+    requires fits { clients_table.FitsClient new host.old.clients }
     requires noted { IsNoted host.old.workers new }
     ensures state { state_of host.new
         ≡ (rules.add_client (state_of host.old) new.client).state }

@@ -15,7 +15,7 @@ use Rattle.sw_host.specs.declared.statuses.Status.{Status}
 use Rattle.sw_host.specs.declared.statuses.Status.TheVariants as status
 use Rattle.sw_host.specs.Runs.{EndsAs, last_of, status_of}
 use Rattle.sw_host.specs.Stands.{IsLeftAfter, IsReportOf, LeavesAfterBytes, LeavesWithoutMemory, RefusesDisk, Replays, ReplaysOn, ReportedAs}
-use Rattle.sw_journal.specs.Quiet.{IsQuiet}
+use Rattle.sw_journal.specs.Quiet.{LeavesAlone}
 use Rattle.sw_kept.specs.Stored.{Bad, Unformatted, stored}
 use Rattle.sw_pool.specs.Yards.{IsOriginOf, Origin, YardState, origin_of}
 use Rattle.sw_record.specs.Grammar.{recording_of}
@@ -140,8 +140,8 @@ by_report : (P : Status → List ℕ → Type 0) (report wanted : Report) → re
 by_report P report wanted is holds = subst (λ (r : Report). P r.status r.text) (sym is) holds
 
 refuses : {T D : Type 0} (disk : Ghosts D) (old new : D) (opened : Result T OpenError) (why : OpenError) (report : Report) → opened ≡ Err why
-    → (IsErrOf opened error.NotFormatted → IsQuiet disk old new × ForTold (disk.seen old) (λ image. stored image ≡ Unformatted))
-    → ((offset : ℕ) → IsErrOf opened (error.BadJournal offset) → IsQuiet disk old new × ForTold (disk.seen old) (λ image. stored image ≡ Bad offset))
+    → (IsErrOf opened error.NotFormatted → LeavesAlone disk old new × ForTold (disk.seen old) (λ image. stored image ≡ Unformatted))
+    → ((offset : ℕ) → IsErrOf opened (error.BadJournal offset) → LeavesAlone disk old new × ForTold (disk.seen old) (λ image. stored image ≡ Bad offset))
     → ((from needed : ℕ) → IsErrOf opened (error.Full from needed) → HasNoRoom disk new (2 ^ 32) from needed)
     → (IsErrOf opened error.DiskFault → Rose (disk.faults old) (disk.faults new))
     → IsUnopened disk old new
@@ -158,8 +158,8 @@ refuses disk old new opened (error.Full from needed) report was unformatted bad 
 
 -- the report of a disk that was not opened
 pub refused : {T D E : Type 0} (disk : Ghosts D) (old new : D) (Ends : Status → List ℕ → Type 0) (opened : Result T OpenError) (why : OpenError) (result : Result Report E) → opened ≡ Err why
-    → (IsErrOf opened error.NotFormatted → IsQuiet disk old new × ForTold (disk.seen old) (λ image. stored image ≡ Unformatted))
-    → ((offset : ℕ) → IsErrOf opened (error.BadJournal offset) → IsQuiet disk old new × ForTold (disk.seen old) (λ image. stored image ≡ Bad offset))
+    → (IsErrOf opened error.NotFormatted → LeavesAlone disk old new × ForTold (disk.seen old) (λ image. stored image ≡ Unformatted))
+    → ((offset : ℕ) → IsErrOf opened (error.BadJournal offset) → LeavesAlone disk old new × ForTold (disk.seen old) (λ image. stored image ≡ Bad offset))
     → ((from needed : ℕ) → IsErrOf opened (error.Full from needed) → HasNoRoom disk new (2 ^ 32) from needed)
     → (IsErrOf opened error.DiskFault → Rose (disk.faults old) (disk.faults new))
     → IsUnopened disk old new

@@ -8,7 +8,7 @@ use Rattle.sw_host.specs.declared.statuses.Status.{Status}
 use Rattle.sw_host.specs.declared.statuses.Status.TheVariants as status
 use Rattle.sw_host.specs.Runs.{status_of}
 use Rattle.sw_host.specs.Reading.{IsRead, RefusedAs}
-use Rattle.sw_host.specs.Stands.{HasEnded, RefusesDisk, ReplaysSource, ReportedAs, Stands}
+use Rattle.sw_host.specs.Stands.{HasRunTo, RefusesDisk, ReplaysSource, ReportedAs, Stands}
 use Rattle.sw_lock.specs.declared.pass.Spent.{Spent}
 use Rattle.sw_turns.specs.declared.ends.DriveEnd.{DriveEnd}
 use Rattle.sw_turns.specs.declared.ends.DriveEnd.TheVariants as drive_end
@@ -27,7 +27,7 @@ IsOfRun _ = ⊥
 module _ {D : Type 0} (disk : Ghosts D) (old new : D) (left : Option (List ℕ)) (text : List ℕ) where
   -- own: so many workers have run a recording to this status
   abbrev HasRun : ℕ → Status → Type 0
-  HasRun workers outcome = (ended : DriveEnd) × (outcome ≡ status_of ended) × HasEnded disk old new workers left ended text
+  HasRun workers outcome = (ended : DriveEnd) × (outcome ≡ status_of ended) × HasRunTo disk old new workers left ended text
 
   unrefused : (outcome : Status) → IsOfRun outcome → RefusesDisk disk old new outcome text → ⊥
   unrefused status.Done run refused = refused
@@ -68,7 +68,7 @@ module _ {D : Type 0} (disk : Ghosts D) (old new : D) (left : Option (List ℕ))
 
   -- ---- each end
 
-  done_by : (workers : ℕ) (ended : DriveEnd) → status.Done ≡ status_of ended → HasEnded disk old new workers left ended text → HasEnded disk old new workers left drive_end.Done text
+  done_by : (workers : ℕ) (ended : DriveEnd) → status.Done ≡ status_of ended → HasRunTo disk old new workers left ended text → HasRunTo disk old new workers left drive_end.Done text
   done_by workers drive_end.Done is run = run
   done_by workers (drive_end.Stalled lane) is run = absurd cc
   done_by workers (drive_end.DiskFault refused) is run = absurd cc
@@ -76,8 +76,8 @@ module _ {D : Type 0} (disk : Ghosts D) (old new : D) (left : Option (List ℕ))
   done_by workers drive_end.NoMemory is run = absurd cc
   done_by workers (drive_end.Spent spent) is run = absurd cc
 
-  stalled_by : (workers : ℕ) (ended : DriveEnd) → status.Stalled ≡ status_of ended → HasEnded disk old new workers left ended text
-      → (lane : ℕ) × HasEnded disk old new workers left (drive_end.Stalled lane) text
+  stalled_by : (workers : ℕ) (ended : DriveEnd) → status.Stalled ≡ status_of ended → HasRunTo disk old new workers left ended text
+      → (lane : ℕ) × HasRunTo disk old new workers left (drive_end.Stalled lane) text
   stalled_by workers drive_end.Done is run = absurd cc
   stalled_by workers (drive_end.Stalled lane) is run = (lane, run)
   stalled_by workers (drive_end.DiskFault refused) is run = absurd cc
@@ -85,15 +85,15 @@ module _ {D : Type 0} (disk : Ghosts D) (old new : D) (left : Option (List ℕ))
   stalled_by workers drive_end.NoMemory is run = absurd cc
   stalled_by workers (drive_end.Spent spent) is run = absurd cc
 
-  spent_by : (workers : ℕ) (spent : Spent) (ended : DriveEnd) → status.Spent spent ≡ status_of ended → HasEnded disk old new workers left ended text
-      → HasEnded disk old new workers left (drive_end.Spent spent) text
+  spent_by : (workers : ℕ) (spent : Spent) (ended : DriveEnd) → status.Spent spent ≡ status_of ended → HasRunTo disk old new workers left ended text
+      → HasRunTo disk old new workers left (drive_end.Spent spent) text
   spent_by workers spent drive_end.Done is run = absurd cc
   spent_by workers spent (drive_end.Stalled lane) is run = absurd cc
   spent_by workers spent (drive_end.DiskFault refused) is run = absurd cc
   spent_by workers spent (drive_end.Full happened from needed) is run = absurd cc
   spent_by workers spent drive_end.NoMemory is run = absurd cc
   spent_by workers spent (drive_end.Spent made) is run =
-      let same : made ≡ spent = cc in subst (λ (s : Spent). HasEnded disk old new workers left (drive_end.Spent s) text) same run
+      let same : made ≡ spent = cc in subst (λ (s : Spent). HasRunTo disk old new workers left (drive_end.Spent s) text) same run
 
   -- a recording was run where these words stand with this status
   ran : (before now : ℕ) (wanted : Command) (outcome known : Status) (workers : ℕ) → IsOfRun known → outcome ≡ known → wanted ≡ command.Replay workers
@@ -104,19 +104,19 @@ module _ {D : Type 0} (disk : Ghosts D) (old new : D) (left : Option (List ℕ))
       (subst (λ (s : Status). Stands disk old new left before now wanted s text) is stood))
 
   pub has_done : (before now : ℕ) (wanted : Command) (outcome : Status) (workers : ℕ) → outcome ≡ status.Done → wanted ≡ command.Replay workers
-      → Stands disk old new left before now wanted outcome text → HasEnded disk old new workers left drive_end.Done text
+      → Stands disk old new left before now wanted outcome text → HasRunTo disk old new workers left drive_end.Done text
   has_done before now wanted outcome workers is wants stood =
       let run = ran before now wanted outcome status.Done workers tt is wants stood in
       done_by workers run.0 run.1 run.2
 
   pub has_stalled : (before now : ℕ) (wanted : Command) (outcome : Status) (workers : ℕ) → outcome ≡ status.Stalled → wanted ≡ command.Replay workers
-      → Stands disk old new left before now wanted outcome text → (lane : ℕ) × HasEnded disk old new workers left (drive_end.Stalled lane) text
+      → Stands disk old new left before now wanted outcome text → (lane : ℕ) × HasRunTo disk old new workers left (drive_end.Stalled lane) text
   has_stalled before now wanted outcome workers is wants stood =
       let run = ran before now wanted outcome status.Stalled workers tt is wants stood in
       stalled_by workers run.0 run.1 run.2
 
   pub has_spent : (before now : ℕ) (wanted : Command) (outcome : Status) (workers : ℕ) (spent : Spent) → outcome ≡ status.Spent spent → wanted ≡ command.Replay workers
-      → Stands disk old new left before now wanted outcome text → HasEnded disk old new workers left (drive_end.Spent spent) text
+      → Stands disk old new left before now wanted outcome text → HasRunTo disk old new workers left (drive_end.Spent spent) text
   has_spent before now wanted outcome workers spent is wants stood =
       let run = ran before now wanted outcome (status.Spent spent) workers tt is wants stood in
       spent_by workers spent run.0 run.1 run.2

@@ -30,7 +30,7 @@ use Rattle.sw_readers.specs.declared.inputs.RosterRecording.{RosterRecording}
 use Rattle.sw_readers.specs.declared.inputs.WatchedRecording.{WatchedRecording}
 use Rattle.sw_journal.specs.Format.{format_of}
 use Rattle.sw_journal.specs.Init.{FromSecondCall, first_bytes}
-use Rattle.sw_journal.specs.Quiet.{IsQuiet}
+use Rattle.sw_journal.specs.Quiet.{LeavesAlone}
 use Rattle.sw_kept.specs.Stored.{Bad, HasKept, Unformatted, stored}
 use Rattle.sw_turns.specs.Ends.{Ended}
 use Rattle.sw_turns.specs.declared.ends.DriveEnd.{DriveEnd}
@@ -63,10 +63,10 @@ abbrev pub RefusesDisk : {D : Type 0} → Ghosts D → (old new : D) → Status 
 RefusesDisk disk old new status.DiskFault text =
     (text ≡ refusal_text status.DiskFault) × Rose (disk.faults old) (disk.faults new) × IsUnopened disk old new
 RefusesDisk disk old new status.NotFormatted text =
-    (text ≡ refusal_text status.NotFormatted) × IsQuiet disk old new
+    (text ≡ refusal_text status.NotFormatted) × LeavesAlone disk old new
     × ForTold (disk.seen old) (λ image. stored image ≡ Unformatted)
 RefusesDisk disk old new status.BadJournal text =
-    (offset : ℕ) × (text ≡ bad_journal_text offset) × IsQuiet disk old new
+    (offset : ℕ) × (text ≡ bad_journal_text offset) × LeavesAlone disk old new
     × ForTold (disk.seen old) (λ image. stored image ≡ Bad offset)
 RefusesDisk disk old new status.Full text =
     (text ≡ refusal_text status.Full) × IsUnopened disk old new
@@ -148,7 +148,7 @@ IsAlready disk old = ForTold (disk.seen old) (λ image. IsSome (format_of (get (
 -- own: a disk whose current part begins with the header of a format is left as it is
 abbrev pub IsLeftAlone : {D : Type 0} → Ghosts D → (old new : D) → Type 0
 IsLeftAlone disk old new =
-    ForTold (disk.seen old) (λ image. IsSome (format_of (get (current image) image)) → IsQuiet disk old new)
+    ForTold (disk.seen old) (λ image. IsSome (format_of (get (current image) image)) → LeavesAlone disk old new)
 
 -- own: what a crash leaves while a disk is formatted, whatever comes of that: at every moment the current part with its first
 -- bytes torn, or without a record, and the other parts as it might have left them before; and from the first sync that doesn't fail
@@ -163,7 +163,7 @@ Formats disk old new status.Done text = (text ≡ codes "formatted\n") × IsForm
 Formats disk old new status.DiskFault text =
     (text ≡ refusal_text status.DiskFault) × Rose (disk.faults old) (disk.faults new) × IsLeftAlone disk old new
 Formats disk old new status.AlreadyFormatted text =
-    (text ≡ refusal_text status.AlreadyFormatted) × IsQuiet disk old new × IsAlready disk old
+    (text ≡ refusal_text status.AlreadyFormatted) × LeavesAlone disk old new × IsAlready disk old
 Formats disk old new _ text = ⊥
 
 -- own: a disk that is read alone is refused with this status and text
@@ -183,7 +183,7 @@ Keeps disk old kept = IsMade kept × ForTold (disk.seen old) (HasKept kept)
 -- own: nothing is written, and what the disk keeps is reported with this status and text, or the disk is refused
 abbrev pub ReadsKept : {D : Type 0} → Ghosts D → (old new : D) → (Kept → Status → List ℕ → Type 0) → Status → List ℕ → Type 0
 ReadsKept disk old new Reports outcome text =
-    IsQuiet disk old new
+    LeavesAlone disk old new
     × (((kept : Kept) × Keeps disk old kept × Reports kept outcome text) ⊎ RefusesToRead disk old new outcome text)
 
 -- what is kept is shown
@@ -337,10 +337,10 @@ LeavesWithoutMemory disk old new left (command.Watch workers) =
     (new ≡ old) ⊎ ((bytes : List ℕ) × IsRead RECORDING_LIMIT left bytes × LeavesAfterLooks disk old new workers bytes)
 LeavesWithoutMemory disk old new left (command.Quota limit) =
     (new ≡ old) ⊎ ((bytes : List ℕ) × IsRead RECORDING_LIMIT left bytes × LeavesAfterBound disk old new limit bytes)
-LeavesWithoutMemory disk old new left command.Show = IsQuiet disk old new
+LeavesWithoutMemory disk old new left command.Show = LeavesAlone disk old new
 LeavesWithoutMemory disk old new left (command.Gen number size) = new ≡ old
 LeavesWithoutMemory disk old new left command.Imports = new ≡ old
-LeavesWithoutMemory disk old new left command.Audit = (new ≡ old) ⊎ IsQuiet disk old new
+LeavesWithoutMemory disk old new left command.Audit = (new ≡ old) ⊎ LeavesAlone disk old new
 LeavesWithoutMemory disk old new left command.Roster = new ≡ old
 LeavesWithoutMemory disk old new left command.Help = new ≡ old
 LeavesWithoutMemory disk old new left command.Version = new ≡ old
@@ -348,7 +348,7 @@ LeavesWithoutMemory disk old new left command.Unknown = new ≡ old
 
 -- own: the source's bytes are a recording, which so many workers ran on the disk to this end, and the text is the transcript of its
 -- history
-pub record HasEnded {D : Type 0} (disk : Ghosts D) (old new : D) (workers : ℕ) (left : Option (List ℕ)) (ended : DriveEnd) (text : List ℕ) : Type 0 where
+pub record HasRunTo {D : Type 0} (disk : Ghosts D) (old new : D) (workers : ℕ) (left : Option (List ℕ)) (ended : DriveEnd) (text : List ℕ) : Type 0 where
   pub bytes : List ℕ
   pub recording : Recording
   pub base : Kept

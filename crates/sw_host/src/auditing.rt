@@ -2,7 +2,7 @@
 
 ghost use Rattle.std.specs.Prelude.{◌≡◌, ◌⊎◌, IfOk, OnErr};
 ghost use Rattle.sw_host.specs.Stands.{Audits, AuditsParts, IsAudited, IsVerdict, ReadsKept};
-ghost use Rattle.sw_journal.specs.Quiet.{IsQuiet};
+ghost use Rattle.sw_journal.specs.Quiet.{LeavesAlone};
 ghost use Rattle.sw_rules.specs.Storage.{IsMade};
 
 use crate::report::{Report, refusal_of, refused};
@@ -53,7 +53,7 @@ fn audit_on<D: Disk>(
 ) -> Result<Report, NoMemory>
     ensures audits { IfOk result (λ report. ReadsKept D.Disk disk.old disk.new
         (IsAudited recording transcript.now) report.status report.text) }
-    ensures quiet { IsQuiet D.Disk disk.old disk.new }
+    ensures quiet { LeavesAlone D.Disk disk.old disk.new }
 {
     match kept_of(alloc, disk) {
         Ok(content) => audited(alloc, content, recording, transcript),
@@ -70,7 +70,7 @@ fn audit_parts<D: Disk>(
 ) -> Result<Report, NoMemory>
     ensures audits { IfOk result (λ report. AuditsParts D.Disk disk.old disk.new recorded.now
         transcript.now report.status report.text) }
-    ensures left { OnErr result ((disk.new ≡ disk.old) ⊎ IsQuiet D.Disk disk.old disk.new) }
+    ensures left { OnErr result ((disk.new ≡ disk.old) ⊎ LeavesAlone D.Disk disk.old disk.new) }
 {
     if recorded.len() as u64 > RECORDING_LIMIT {
         return refused(alloc, Status::TooLarge);
@@ -89,7 +89,7 @@ pub(crate) fn audit_bytes<D: Disk>(
 ) -> Result<Report, NoMemory>
     ensures audits { IfOk result (λ report.
         Audits D.Disk disk.old disk.new bytes.now report.status report.text) }
-    ensures left { OnErr result ((disk.new ≡ disk.old) ⊎ IsQuiet D.Disk disk.old disk.new) }
+    ensures left { OnErr result ((disk.new ≡ disk.old) ⊎ LeavesAlone D.Disk disk.old disk.new) }
 {
     match divided(bytes) {
         Some((recorded, transcript)) => audit_parts(alloc, recorded, transcript, disk),

@@ -2,7 +2,7 @@
 
 ghost use Rattle.std.specs.Prelude.{IfErr, IfOk, OnErr};
 ghost use Rattle.sw_host.specs.Stands.{Formats, IsLeftAlone, IsShown, Keeps, LeavesOthers, RefusesToRead, Shows};
-ghost use Rattle.sw_journal.specs.Quiet.{IsQuiet};
+ghost use Rattle.sw_journal.specs.Quiet.{LeavesAlone};
 
 use crate::report::{Report, bad_journal, refused};
 use crate::statuses::Status;
@@ -42,7 +42,7 @@ pub(crate) fn kept_of<D: Disk>(
     ensures keeps { IfOk result (Keeps D.Disk disk.old) }
     ensures refuses { IfErr result (λ unread. IfOk unread (λ report.
         RefusesToRead D.Disk disk.old disk.new report.status report.text)) }
-    ensures quiet { IsQuiet D.Disk disk.old disk.new }
+    ensures quiet { LeavesAlone D.Disk disk.old disk.new }
 {
     match open(alloc, disk, LIMIT) {
         Ok((_, content)) => Ok(content),
@@ -68,7 +68,7 @@ fn shown(alloc: Global, content: Content) -> Result<Report, NoMemory>
 pub fn show<D: Disk>(alloc: Global, disk: &mut D) -> Result<Report, NoMemory>
     ensures shows { IfOk result (λ report.
         Shows D.Disk disk.old disk.new report.status report.text) }
-    ensures quiet { OnErr result (IsQuiet D.Disk disk.old disk.new) }
+    ensures quiet { OnErr result (LeavesAlone D.Disk disk.old disk.new) }
 {
     match kept_of(alloc, disk) {
         Ok(content) => shown(alloc, content),

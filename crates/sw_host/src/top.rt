@@ -7,10 +7,10 @@ ghost use Rattle.sw_data.specs.Faults.{Rose};
 ghost use Rattle.sw_data.specs.Streams.{ConsumesSome};
 ghost use Rattle.sw_host.specs.declared.command.Command.TheVariants as command;
 ghost use Rattle.sw_host.specs.Reading.{ReadsThen};
-ghost use Rattle.sw_host.specs.Stands.{Audits, Bounds, Checks, HasEnded, HasEndedWithin, HasReadAll, LeavesAfterBytes, LeavesWithoutMemory, Plays, Replays, ReplaysSource, Stands, Watches};
+ghost use Rattle.sw_host.specs.Stands.{Audits, Bounds, Checks, HasRunTo, HasEndedWithin, HasReadAll, LeavesAfterBytes, LeavesWithoutMemory, Plays, Replays, ReplaysSource, Stands, Watches};
 ghost use Rattle.sw_host.specs.Texts.{large_source_text, refusal_text};
 ghost use Rattle.sw_host.specs.Words.{command_of, needs_disk, reads_source, source_limit};
-ghost use Rattle.sw_journal.specs.Quiet.{IsQuiet};
+ghost use Rattle.sw_journal.specs.Quiet.{LeavesAlone};
 ghost use Rattle.sw_io.specs.Taking.{Takes, TakesNothing, TakesPrefix};
 ghost use Rattle.sw_lock.specs.declared.pass.Spent.{Spent};
 ghost use Rattle.sw_turns.specs.declared.ends.DriveEnd.TheVariants as drive_end;
@@ -82,14 +82,14 @@ pub fn run<R: Threads + Wait + Sync, S: Source, K: Sink, D: Disk + Send, G: Gate
     // keeps at the end is the durable part of the state after the history.
     ensures done { result.status ≡ Status.Done
         → (workers : ℕ) → command_of words.now ≡ command.Replay workers → (text : List ℕ)
-        × HasEnded D.Disk disk result.disk workers (S.left source.old) drive_end.Done text
+        × HasRunTo D.Disk disk result.disk workers (S.left source.old) drive_end.Done text
         × Takes K.Sink sink.old sink.new text }
 
     // The same of a run after which nothing may happen, and a lane has actions left.
     ensures stalled { result.status ≡ Status.Stalled
         → (workers : ℕ) → command_of words.now ≡ command.Replay workers
         → (text : List ℕ) × (lane : ℕ)
-        × HasEnded D.Disk disk result.disk workers (S.left source.old) (drive_end.Stalled lane) text
+        × HasRunTo D.Disk disk result.disk workers (S.left source.old) (drive_end.Stalled lane) text
         × Takes K.Sink sink.old sink.new text }
 
     // The same, but for the end that the recording has come to and what the disk keeps then, of a run in which a worker has
@@ -97,7 +97,7 @@ pub fn run<R: Threads + Wait + Sync, S: Source, K: Sink, D: Disk + Send, G: Gate
     // clock of the disk at the start.
     ensures spent { (spent : Spent) → result.status ≡ Status.Spent spent
         → (workers : ℕ) → command_of words.now ≡ command.Replay workers → (text : List ℕ)
-        × HasEnded D.Disk disk result.disk workers (S.left source.old) (drive_end.Spent spent) text
+        × HasRunTo D.Disk disk result.disk workers (S.left source.old) (drive_end.Spent spent) text
         × Takes K.Sink sink.old sink.new text }
 
     // Each other status has its cause, and its text was written.
@@ -345,7 +345,7 @@ fn read_audit<S: Source, D: Disk>(
     ensures audits { IfOk result (λ report. ReadsThen SOURCE_LIMIT large_source_text
         (S.left source.old) (S.faults source.old) (S.faults source.new)
         (Audits D.Disk disk.old disk.new) (disk.new ≡ disk.old) report.status report.text) }
-    ensures left { OnErr result ((disk.new ≡ disk.old) ⊎ IsQuiet D.Disk disk.old disk.new) }
+    ensures left { OnErr result ((disk.new ≡ disk.old) ⊎ LeavesAlone D.Disk disk.old disk.new) }
     ensures reads { S.reads source.new ≤ S.reads source.old + (SOURCE_LIMIT + 2) }
     ensures consumed { ConsumesSome (S.left source.old) (S.left source.new) }
     ensures end { IfOk result (λ report. HasReadAll report.status → IsAtEnd (S.left source.new)) }

@@ -22,7 +22,7 @@ use Rattle.sw_rules.specs.Matching.{Scope}
 use Rattle.sw_rules.specs.Registering.{register_refusal}
 use Rattle.sw_rules.specs.Rows.{is_in_phase, is_first, is_job, is_waiting}
 use Rattle.sw_rules.specs.State.{Draws}
-use Rattle.sw_scope.specs.Scopes.{Fits, Scopes, maps}
+use Rattle.sw_scope.specs.Scopes.{FitsScope, Scopes, maps}
 use Rattle.sw_tables.specs.Lent.{Rest}
 use Rattle.sw_tables.specs.declared.refusal.NotNow.{NotNow}
 
@@ -90,7 +90,7 @@ HasItsNames registration job jobs rows =
 pub record IsNewRegistration (row : RegistrationRow) (scope : Scope) (job : Job) (map : Scopes) (of : registrations.Table) (of_clients : clients.Table) : Type 0 where
   pub fits : FitsRegistration row of
   pub new : row ≡ new_registration row.number job.key job.scope job.mode
-  pub mappable : Fits scope map
+  pub mappable : FitsScope scope map
   pub names : scope ≡ record { key = job.key; scope = job.scope; number = row.number }
   pub known : length of.rows < of_clients.known
 

@@ -7,12 +7,12 @@ use Rattle.sw_disk.specs.Image.{Image}
 use Rattle.sw_disk.specs.DiskRule.{ForTold, Only, Elapses}
 use Rattle.sw_disk.proofs.Images.{told_some, told_at}
 use Rattle.sw_disk.proofs.Moments.{both, weaker, all_since}
-use Rattle.sw_journal.specs.Quiet.{IsQuiet}
+use Rattle.sw_journal.specs.Quiet.{LeavesAlone}
 use Rattle.sw_journal.proofs.PartLemmas.{take_both}
 
 module _ {D : Type 0} (disk : Ghosts D) where
   -- calls that change nothing, one after another
-  pub quiet_then : (old mid new : D) → IsQuiet disk old mid → IsQuiet disk mid new → IsQuiet disk old new
+  pub quiet_then : (old mid new : D) → LeavesAlone disk old mid → LeavesAlone disk mid new → LeavesAlone disk old new
   quiet_then old mid new one two = record {
     same = two.same ∙ one.same;
     crash = λ c left. one.crash c (two.crash c left);
@@ -21,7 +21,7 @@ module _ {D : Type 0} (disk : Ghosts D) where
   }
 
   -- since a sync that answered Ok a crash has left nothing but what reads give, as long as nothing is changed
-  pub sure_since : (start synced end : D) → Elapses disk.clock disk.left_since disk.may_leave start synced → ForTold (disk.seen start) (λ image. Only image (disk.may_leave synced)) → IsQuiet disk synced end
+  pub sure_since : (start synced end : D) → Elapses disk.clock disk.left_since disk.may_leave start synced → ForTold (disk.seen start) (λ image. Only image (disk.may_leave synced)) → LeavesAlone disk synced end
       → ((c : Image) → disk.clock synced < 2 ^ 64 - 1 → disk.left_since synced (disk.clock synced) c → disk.may_leave synced c)
       → ForTold (disk.seen start) (λ image. disk.clock start + 1 < 2 ^ 64 - 1 → (c : Image) → disk.left_since end (disk.clock start + 1) c → c ≡ image)
   sure_since start synced end time durable quiet only_now =

@@ -7,7 +7,7 @@ ghost use Rattle.sw_disk.specs.DiskRule.{ForTold, OnPart, Puts, written, HasCaus
 ghost use Rattle.sw_disk.specs.Meanings.{Becomes, IsDurable, LeavesSteps};
 ghost use Rattle.sw_journal.specs.Format.{format_of};
 ghost use Rattle.sw_journal.specs.Init.{first_bytes, IsFormatted, IsBegun, IsFreshIn, SinceTwoCalls, FromSecondCall};
-ghost use Rattle.sw_journal.specs.Quiet.{IsQuiet};
+ghost use Rattle.sw_journal.specs.Quiet.{LeavesAlone};
 
 use crate::read::read_front;
 use crate::version::{HEADER_2, HEADER_LENGTH, Version};
@@ -31,9 +31,9 @@ pub fn init<D: Disk>(disk: &mut D, part: Part) -> Result<(), InitError>
     ensures already { IsErrOf result InitError.AlreadyFormatted
         → ForTold (D.seen disk.old) (λ image. IsSome (format_of (get part image))) }
     ensures untouched { IsErrOf result InitError.AlreadyFormatted
-        → IsQuiet D.Disk disk.old disk.new }
+        → LeavesAlone D.Disk disk.old disk.new }
     ensures left_alone { ForTold (D.seen disk.old)
-        (λ image. IsSome (format_of (get part image)) → IsQuiet D.Disk disk.old disk.new) }
+        (λ image. IsSome (format_of (get part image)) → LeavesAlone D.Disk disk.old disk.new) }
     ensures was_not { OnOk result
         (ForTold (D.seen disk.old) (λ image. format_of (get part image) ≡ None)) }
     ensures bytes { OnOk result

@@ -4,7 +4,7 @@ ghost use Rattle.std.specs.Prelude.{◌≡◌, ◌+◌, ◌-◌, ◌<◌, ◌≤
 ghost use Rattle.sw_disk.specs.Image.{get};
 ghost use Rattle.sw_disk.specs.DiskRule.{ForTold};
 ghost use Rattle.sw_data.specs.Faults.{Rose};
-ghost use Rattle.sw_journal.specs.Quiet.{IsQuiet};
+ghost use Rattle.sw_journal.specs.Quiet.{LeavesAlone};
 ghost use Rattle.sw_journal.specs.declared.read.ReadError.TheVariants.{NoMemory, DiskFault};
 
 use std::alloc::{AllocError, Global};
@@ -21,7 +21,7 @@ fn read_on<D: Disk>(disk: &mut D, part: Part, at: usize, bytes: &mut [u8]) -> Re
         (λ image. IfOk result (λ n. n ≤ length (get part image) - at)) }
     ensures some { ForTold (D.seen disk.old)
         (λ image. IfOk result (λ n. at < length bytes.old → n ≡ 0 → length (get part image) ≤ at)) }
-    ensures quiet { IsQuiet D.Disk disk.old disk.new }
+    ensures quiet { LeavesAlone D.Disk disk.old disk.new }
     ensures calls { D.clock disk.new ≤ D.clock disk.old + 1 }
     ensures fault { IsErr result → Rose (D.faults disk.old) (D.faults disk.new) }
 {
@@ -37,7 +37,7 @@ pub(crate) fn read_front<D: Disk>(
     ensures fits { IfOk result (λ n. n ≤ length bytes.new) }
     ensures front { ForTold (D.seen disk.old)
         (λ image. IfOk result (λ n. take n bytes.new ≡ take (length bytes.new) (get part image))) }
-    ensures quiet { IsQuiet D.Disk disk.old disk.new }
+    ensures quiet { LeavesAlone D.Disk disk.old disk.new }
     ensures calls { D.clock disk.new ≤ D.clock disk.old + length bytes.new }
     ensures fault { IsErr result → Rose (D.faults disk.old) (D.faults disk.new) }
 {
@@ -85,7 +85,7 @@ pub(crate) fn read_part<D: Disk>(
 ) -> Result<Vec<u8>, ReadError>
     ensures bytes { ForTold (D.seen disk.old)
         (λ image. IfOk result (λ bytes. bytes.items ≡ get part image)) }
-    ensures quiet { IsQuiet D.Disk disk.old disk.new }
+    ensures quiet { LeavesAlone D.Disk disk.old disk.new }
     ensures fault { IsErrOf result ReadError.DiskFault
         → Rose (D.faults disk.old) (D.faults disk.new) }
 {

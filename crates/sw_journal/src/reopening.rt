@@ -8,7 +8,7 @@ ghost use Rattle.sw_data.specs.Faults.{Rose};
 ghost use Rattle.sw_journal.specs.Content.{content, BadAt, Records};
 ghost use Rattle.sw_journal.specs.Content as parts;
 ghost use Rattle.sw_journal.specs.Journal.{StandsIn, StandsFor};
-ghost use Rattle.sw_journal.specs.Quiet.{IsQuiet};
+ghost use Rattle.sw_journal.specs.Quiet.{LeavesAlone};
 ghost use Rattle.sw_journal.specs.Reopening.{OnBadJournal};
 
 use crate::journal::Journal;
@@ -88,7 +88,7 @@ impl Journal {
         ensures stands { IfOk result (λ r. StandsFor r.0 D.Disk disk.new) }
 
         // Nothing is written. Unless the disk failed, what was read is sure.
-        ensures quiet { IsQuiet D.Disk disk.old disk.new }
+        ensures quiet { LeavesAlone D.Disk disk.old disk.new }
         ensures durable { (IsErrOf result ReopenError.DiskFault → ⊥) → IsDurable D.Disk disk.new }
         // It syncs first: what a crash since one call after the entry may have left is what reads give.
         ensures first { (IsErrOf result ReopenError.DiskFault → ⊥) → ForTold (D.seen disk.old)
@@ -122,7 +122,7 @@ impl Journal {
             ≡ BadAt offset before))) }
         ensures place { IfOk result (λ r. (r.0.part ≡ part) × (r.0.limit ≡ limit)) }
         ensures stands { IfOk result (λ r. StandsFor r.0 D.Disk disk.new) }
-        ensures quiet { IsQuiet D.Disk disk.old disk.new }
+        ensures quiet { LeavesAlone D.Disk disk.old disk.new }
         ensures durable { IsDurable D.Disk disk.new }
         ensures fault { IsErrOf result ReopenError.DiskFault
             → Rose (D.faults disk.old) (D.faults disk.new) }

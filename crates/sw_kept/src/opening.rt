@@ -5,7 +5,7 @@ ghost use Rattle.sw_data.specs.Faults.{Rose};
 ghost use Rattle.sw_disk.specs.DiskRule.{ForTold, capped};
 ghost use Rattle.sw_disk.specs.Image.{Image};
 ghost use Rattle.sw_disk.specs.Meanings.{IsDurable};
-ghost use Rattle.sw_journal.specs.Quiet.{IsQuiet};
+ghost use Rattle.sw_journal.specs.Quiet.{LeavesAlone};
 ghost use Rattle.sw_kept.specs.Keeping.{KeepsNow};
 ghost use Rattle.sw_kept.specs.Stored.{Bad, HasKept, Unformatted, stored};
 ghost use Rattle.sw_rules.specs.Storage.{IsMade};
@@ -67,7 +67,7 @@ pub fn open<D: Disk>(alloc: Global, disk: &mut D, limit: u64) -> Result<(Twin, C
 
     // Unless the first call is the one that failed, what reads give is sure, and a crash since one call after the entry
     // has left nothing else.
-    ensures quiet { IsQuiet D.Disk disk.old disk.new }
+    ensures quiet { LeavesAlone D.Disk disk.old disk.new }
     ensures first_call { capped (D.clock disk.old + 1) ≤ D.clock disk.new }
     ensures durable { (IsErrOf result OpenError.DiskFault
         → IsPastFirst D.Disk disk.old disk.new) → IsDurable D.Disk disk.new }

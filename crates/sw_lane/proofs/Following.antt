@@ -16,7 +16,7 @@ use Rattle.sw_data.specs.Events.{event_of_action, is_lane}
 use Rattle.sw_rules.specs.Picks.{first_enabled, is_of_lane, made_by, next_action}
 use Rattle.sw_rules.specs.State.{State}
 use Rattle.sw_rules.specs.Step.{enabled}
-use Rattle.sw_lane.specs.Left.{Left, action_of, begun, moved, taken}
+use Rattle.sw_lane.specs.Left.{Left, action_of, begun, next_taken, taken}
 use Rattle.sw_lane.specs.Picked.{event_left, ready_lane}
 use Rattle.sw_lane.specs.Recorded.{AreLanesOf, left_after}
 use Rattle.sw_lane.proofs.Finding.{find_given, front_of, set_here, set_same, set_there}
@@ -58,28 +58,28 @@ left_alike : (before after : List Entry) (number : ℕ) (actions : Option (List 
 left_alike before after number actions same =
     ap (λ (made : ℕ). option_map (λ (xs : List Action). record { at = made; actions = drop made xs }) actions) (sym same)
 
--- a lane of which one more was made has moved
+-- a lane of which one more was made has next_taken
 left_moved : (before after : List Entry) (number : ℕ) (actions : Option (List Action)) → made_by number after ≡ made_by number before + 1
-    → option_map moved (option_map (left_after before number) actions) ≡ option_map (left_after after number) actions
+    → option_map next_taken (option_map (left_after before number) actions) ≡ option_map (left_after after number) actions
 left_moved before after number None more = refl
 left_moved before after number (Some actions) more =
     ap (λ (xs : List Action). Some (record { at = made_by number before + 1; actions = xs })) (drop-drop 1 (made_by number before) actions)
     ∙ ap (λ (made : ℕ). Some (record { at = made; actions = drop made actions })) (sym more)
 
 taken_here : (lanes : List Left) (number : ℕ) (got : Option Left) → slice_get lanes number ≡ got
-    → slice_get (option_map_or (λ lane. set lanes number (moved lane)) got lanes) number ≡ option_map moved got
+    → slice_get (option_map_or (λ lane. set lanes number (next_taken lane)) got lanes) number ≡ option_map next_taken got
 taken_here lanes number None is = is
-taken_here lanes number (Some lane) is = set_here lanes number lane (moved lane) is
+taken_here lanes number (Some lane) is = set_here lanes number lane (next_taken lane) is
 
 taken_there : (lanes : List Left) (number other : ℕ) (got : Option Left) → (number ≡ other → ⊥)
-    → slice_get (option_map_or (λ lane. set lanes number (moved lane)) got lanes) other ≡ slice_get lanes other
+    → slice_get (option_map_or (λ lane. set lanes number (next_taken lane)) got lanes) other ≡ slice_get lanes other
 taken_there lanes number other None apart = refl
-taken_there lanes number other (Some lane) apart = set_there lanes number other (moved lane) apart
+taken_there lanes number other (Some lane) apart = set_there lanes number other (next_taken lane) apart
 
 taken_count : (lanes : List Left) (number : ℕ) (got : Option Left)
-    → length (option_map_or (λ lane. set lanes number (moved lane)) got lanes) ≡ length lanes
+    → length (option_map_or (λ lane. set lanes number (next_taken lane)) got lanes) ≡ length lanes
 taken_count lanes number None = refl
-taken_count lanes number (Some lane) = length-set lanes number (moved lane)
+taken_count lanes number (Some lane) = length-set lanes number (next_taken lane)
 
 -- before any entry the lanes stand at their beginning
 pub begins : (recording : Recording) (actions : List (List Action)) (lanes : List Left) → lanes ≡ map begun actions → recording.lanes ≡ actions → AreLanesOf recording [] lanes
@@ -104,7 +104,7 @@ stays recording history lanes entry ours free = record {
     of_none number (who.Lane lane at) is = absurd cc
     of_none number (who.Handler worker phase call) is = refl
 
--- an entry of a lane is its next action: that lane has moved
+-- an entry of a lane is its next action: that lane has next_taken
 pub goes_on : (recording : Recording) (history : List Entry) (lanes : List Left) (number : ℕ) (new : List Left) (entry : Entry) (at : ℕ) → new ≡ taken number lanes
     → AreLanesOf recording history lanes → entry.who ≡ who.Lane number at → AreLanesOf recording (history ++ entry ∷ []) new
 goes_on recording history lanes number new entry at moves ours is = rw moves (record {
@@ -121,7 +121,7 @@ goes_on recording history lanes number new entry at moves ours is = rw moves (re
         let here : number ≡ other = grind (arith, nat_tests, tested) in
         subst (λ (n : ℕ). slice_get (taken number lanes) n ≡ option_map (left_after (history ++ entry ∷ []) n) (slice_get recording.lanes n)) here
         (taken_here lanes number (slice_get lanes number) refl
-        ∙ ap (option_map moved) (ours.each number)
+        ∙ ap (option_map next_taken) (ours.each number)
         ∙ left_moved history (history ++ entry ∷ []) number (slice_get recording.lanes number)
         (made_more number history entry ∙ ap (λ (b : Bool). made_by number history + cond b 1 0) (mine number true (grind (arith, nat_tests)))))
     one other false tested =
@@ -133,16 +133,16 @@ goes_on recording history lanes number new entry at moves ours is = rw moves (re
 -- an action that is put back is where it was
 pub returned : (before lanes : List Left) (number : ℕ) (action : Action) (was new : Left) (got : Option Left) → slice_get before number ≡ got
     → taken number before ≡ lanes → action_of before number ≡ Some action → was ≡ get_or lanes number was
-    → ((left : Left) → moved left ≡ was → slice_get left.actions 0 ≡ Some action → new ≡ left) → set lanes number new ≡ before
+    → ((left : Left) → next_taken left ≡ was → slice_get left.actions 0 ≡ Some action → new ≡ left) → set lanes number new ≡ before
 returned before lanes number action was new None is took acts now back =
     let none : None ≡ Some action = sym (ap (option_and_then (λ (lane : Left). slice_get lane.actions 0)) is) ∙ acts in
     absurd cc
 returned before lanes number action was new (Some left) is took acts now back =
-    let are : lanes ≡ set before number (moved left) =
-    sym took ∙ ap (λ (o : Option Left). option_map_or (λ lane. set before number (moved lane)) o before) is in
-    let was_is : was ≡ moved left =
-    now ∙ ap (λ (all : List Left). get_or all number was) are ∙ get_or-set_same before number (moved left) was (slice_get_within before number left is) in
+    let are : lanes ≡ set before number (next_taken left) =
+    sym took ∙ ap (λ (o : Option Left). option_map_or (λ lane. set before number (next_taken lane)) o before) is in
+    let was_is : was ≡ next_taken left =
+    now ∙ ap (λ (all : List Left). get_or all number was) are ∙ get_or-set_same before number (next_taken left) was (slice_get_within before number left is) in
     let new_is : new ≡ left =
     back left (sym was_is) (sym (ap (option_and_then (λ (lane : Left). slice_get lane.actions 0)) is) ∙ acts) in
-    ap (λ (all : List Left). set all number new) are ∙ set-set before number (moved left) new
+    ap (λ (all : List Left). set all number new) are ∙ set-set before number (next_taken left) new
     ∙ ap (set before number) new_is ∙ set_same before number left is

@@ -14,8 +14,8 @@ abbrev pub begun : List Action → Left
 begun actions = record { at = 0; actions = actions }
 
 -- a lane whose next action was taken
-abbrev pub moved : Left → Left
-moved lane = record { at = lane.at + 1; actions = drop 1 lane.actions }
+abbrev pub next_taken : Left → Left
+next_taken lane = record { at = lane.at + 1; actions = drop 1 lane.actions }
 
 -- the numbers of the lanes
 abbrev pub numbers : List Left → List ℕ
@@ -31,4 +31,4 @@ action_of lanes number = option_and_then (λ lane. slice_get lane.actions 0) (sl
 
 -- the lanes after the next action of one was taken
 abbrev pub taken : ℕ → List Left → List Left
-taken number lanes = option_map_or (λ lane. set lanes number (moved lane)) (slice_get lanes number) lanes
+taken number lanes = option_map_or (λ lane. set lanes number (next_taken lane)) (slice_get lanes number) lanes

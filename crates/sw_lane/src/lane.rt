@@ -1,7 +1,7 @@
 //! One lane.
 
 ghost use Rattle.std.specs.Prelude.{◌≡◌, ◌^◌, ◌<◌, ◌+◌, true, length, is_some, Some, option_map, slice_get, IfSome};
-ghost use Rattle.sw_lane.specs.Left.{Left, begun, moved};
+ghost use Rattle.sw_lane.specs.Left.{Left, begun, next_taken};
 
 use std::collections::VecDeque;
 use std::marker::Model;
@@ -61,7 +61,7 @@ impl Lane {
     pub(crate) fn take(&mut self) -> Action
         requires { is_some (slice_get self.old.actions 0) ≡ true }
         ensures action { slice_get self.old.actions 0 ≡ Some result }
-        ensures moved { self.new ≡ moved self.old }
+        ensures moved { self.new ≡ next_taken self.old }
     {
         match self.left.pop_front() {
             Some(action) => {
@@ -74,9 +74,9 @@ impl Lane {
 
     // Puts back the action that was taken last; it takes no memory.
     pub(crate) fn put_back(&mut self, action: Action)
-        requires { (before : Left) × (moved before ≡ self.old)
+        requires { (before : Left) × (next_taken before ≡ self.old)
             × (slice_get before.actions 0 ≡ Some action) }
-        ensures { (before : Left) → moved before ≡ self.old
+        ensures { (before : Left) → next_taken before ≡ self.old
             → slice_get before.actions 0 ≡ Some action → self.new ≡ before }
     {
         self.at -= 1;

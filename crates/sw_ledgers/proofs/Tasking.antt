@@ -11,7 +11,7 @@ use Rattle.sw_ledgers.specs.declared.tasks.TaskRow.{TaskRow}
 use Rattle.sw_list.proofs.Placing.{flags_set}
 use Rattle.sw_list.proofs.Tallies.{any_passes, passing_more, passing_set}
 use Rattle.sw_list.specs.Tally.{Tally, count_of}
-use Rattle.sw_ledgers.specs.Tasks.{AreKept, AreTallied, IsKept, IsNew, has_task, is_unsettled, is_unsettled_of, row_of}
+use Rattle.sw_ledgers.specs.Tasks.{AreKept, AreTallied, TellsUnsettled, IsNew, has_task, is_unsettled, is_unsettled_of, row_of}
 use Rattle.sw_rules.proofs.Places.{changed_here, found_here, found_none, more_at_places, place_within, set_at_places}
 
 abbrev number : TaskRow → ℕ
@@ -57,7 +57,7 @@ numbers_are_places tasks kept = numbered_from 0 tasks (λ i d below. let is = ke
 
 -- ---- the addAlls that have not settled
 
-pub many_flags : (tasks : List TaskRow) (flags : List Bool) (keys : Tally) → IsKept tasks flags keys → length flags ≡ length tasks
+pub many_flags : (tasks : List TaskRow) (flags : List Bool) (keys : Tally) → TellsUnsettled tasks flags keys → length flags ≡ length tasks
 many_flags tasks flags keys kept = sym (ap length kept.unsettled) ∙ length-map tasks is_unsettled
 
 unsettled_of : (tasks : List TaskRow) → option_map row_of (find is_unsettled tasks) ≡ find (λ (row : AddAll). is_none row.settled) (map row_of tasks)
@@ -79,9 +79,9 @@ any_of key tasks keys tallied = ap (nat_lt 0) (tallied key) ∙ (any_passes (is_
     of_rows [] = refl
     of_rows (task ∷ rest) = grind (arith, of_rows rest)
 
-pub none_kept : (tasks : List TaskRow) (flags : List Bool) (keys : Tally) → tasks ≡ [] → flags ≡ [] → ((key : List ℕ) → count_of keys key ≡ 0) → IsKept tasks flags keys
+pub none_kept : (tasks : List TaskRow) (flags : List Bool) (keys : Tally) → tasks ≡ [] → flags ≡ [] → ((key : List ℕ) → count_of keys key ≡ 0) → TellsUnsettled tasks flags keys
 none_kept tasks flags keys no_tasks no_flags none =
-    subst (λ (rows : List TaskRow). IsKept rows flags keys) (sym no_tasks)
+    subst (λ (rows : List TaskRow). TellsUnsettled rows flags keys) (sym no_tasks)
     (record {
       rows = record { places = λ i d below. absurd (omega (arith, below)); many = omega arith };
       unsettled = sym no_flags;
@@ -100,9 +100,9 @@ tallied_more tasks new key keys now tallied is more asked =
     λ i. if is_none (is.unsettled i) && bytes_eq (sym is.same i) asked then 1 else 0 in
     omega (arith, more asked, tallied asked, passing_more (is_unsettled_of asked) tasks new, one)
 
-pub kept_more : (tasks : List TaskRow) (flags : List Bool) (keys now : Tally) (new : TaskRow) (key : List ℕ) → IsKept tasks flags keys → IsNew new key
+pub kept_more : (tasks : List TaskRow) (flags : List Bool) (keys now : Tally) (new : TaskRow) (key : List ℕ) → TellsUnsettled tasks flags keys → IsNew new key
     → number new ≡ length tasks → ((asked : List ℕ) → count_of now asked ≡ count_of keys asked + (if bytes_eq key asked then 1 else 0))
-    → IsKept (tasks ++ new ∷ []) (flags ++ true ∷ []) now
+    → TellsUnsettled (tasks ++ new ∷ []) (flags ++ true ∷ []) now
 kept_more tasks flags keys now new key kept fresh is more = record {
   rows = record {
     places = more_at_places (λ place task. number task ≡ place) tasks new kept.rows.places is;
@@ -141,9 +141,9 @@ pub passing_here : (test : AddAll → Bool) (tasks : List TaskRow) (n : ℕ) (d 
     → test (row_of (slice_index_or tasks n d)) ≡ true
 passing_here test tasks n d kept below has = sym (ap (λ (row : Option AddAll). option_map_or test row false) (row_here tasks n d kept below)) ∙ has
 
-pub kept_settled : (value : Settlement) (tasks : List TaskRow) (flags : List Bool) (keys now : Tally) (n : ℕ) (d new : TaskRow) → IsKept tasks flags keys → n < length tasks
+pub kept_settled : (value : Settlement) (tasks : List TaskRow) (flags : List Bool) (keys now : Tally) (n : ℕ) (d new : TaskRow) → TellsUnsettled tasks flags keys → n < length tasks
     → new ≡ with_value value (slice_index_or tasks n d) → is_unsettled (slice_index_or tasks n d) ≡ true
-    → ((key : List ℕ) → count_of now key ≡ count_of keys key - (if bytes_eq new.key key then 1 else 0)) → IsKept (slice_set tasks n new) (slice_set flags n false) now
+    → ((key : List ℕ) → count_of now key ≡ count_of keys key - (if bytes_eq new.key key then 1 else 0)) → TellsUnsettled (slice_set tasks n new) (slice_set flags n false) now
 kept_settled value tasks flags keys now n d new kept below is was less = record {
   rows = record {
     places = set_at_places (λ place task. number task ≡ place) tasks n new kept.rows.places below (ap number is ∙ kept.rows.places n d below);

@@ -49,7 +49,7 @@ abbrev pub AreTallied : List TaskRow → Tally → Type 0
 AreTallied tasks keys = (key : List ℕ) → count_of keys key ≡ length (filter (is_unsettled_of key) tasks)
 
 -- besides, the flags tell which addAlls have not settled, and the tally has their keys
-pub record IsKept (tasks : List TaskRow) (flags : List Bool) (keys : Tally) : Type 0 where
+pub record TellsUnsettled (tasks : List TaskRow) (flags : List Bool) (keys : Tally) : Type 0 where
   pub rows : AreKept tasks
   pub unsettled : map is_unsettled tasks ≡ flags
   pub tallied : AreTallied tasks keys

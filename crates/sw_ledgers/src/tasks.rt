@@ -38,7 +38,7 @@ pub struct Tasks {
 impl Model for Tasks {
     ghost use Rattle.std.specs.Prelude.{◌-◌, map, min};
     ghost use Rattle.std.specs.Vec.{vec_len, vec_capacity};
-    ghost use Rattle.sw_ledgers.specs.Tasks.{IsKept, Table, row_of};
+    ghost use Rattle.sw_ledgers.specs.Tasks.{TellsUnsettled, Table, row_of};
 
     ghost Value = { Table };
 
@@ -48,7 +48,7 @@ impl Model for Tasks {
           tasks.keys.spare;
     } };
 
-    ghost invariant = { λ tasks. IsKept tasks.rows.items tasks.unsettled.flags tasks.keys };
+    ghost invariant = { λ tasks. TellsUnsettled tasks.rows.items tasks.unsettled.flags tasks.keys };
 }
 
 /// A finished row of an addAll, which isn't in the table yet.

@@ -8,7 +8,7 @@ use Rattle.std.proofs.lemmas.Bool.{cases_eq, cases_lt}
 use Rattle.std.proofs.lemmas.Bool.Decides.{nat_tests}
 use Rattle.std.proofs.lemmas.List.{drop-append-le, drop-set-add, drop-set-lt, drop_all, drop_more, get_or-drop, get_or-set_other, get_or-set_same, get_or-take, get_or_append_left, get_or_push, get_or_read, length-append, length-drop, length-set, length-take, take-append-le, take-set-le, take_all}
 use Rattle.std.proofs.lemmas.List.Sums.{count_by-le-length, sum_by-cons, sum_by-set, sum_by_push}
-use Rattle.sw_list.specs.KeptFlags.{IsKept, set_in}
+use Rattle.sw_list.specs.KeptFlags.{CountsBlocks, set_in}
 use Rattle.sw_list.proofs.Placing.{placed_within, split_from}
 
 abbrev is_set : Bool → Bool
@@ -81,13 +81,13 @@ one_most true = omega arith
 one_most false = omega arith
 
 -- one more can be counted
-pub countable : (flags : List Bool) (counts : List ℕ) (block count : ℕ) (flag : Bool) → IsKept flags counts → block < length counts
+pub countable : (flags : List Bool) (counts : List ℕ) (block count : ℕ) (flag : Bool) → CountsBlocks flags counts → block < length counts
     → count ≡ get_or counts block count → count + from_bool flag < 2 ^ 16
 countable flags counts block count flag kept inside is =
     omega (arith, one_most flag, few flags block, kept.counted block inside, get_or_read counts block count inside is 0)
 
 -- a flag that is set is counted
-pub was_counted : (flags : List Bool) (counts : List ℕ) (place count : ℕ) (was : Bool) → IsKept flags counts → place < length flags
+pub was_counted : (flags : List Bool) (counts : List ℕ) (place count : ℕ) (was : Bool) → CountsBlocks flags counts → place < length flags
     → was ≡ get_or flags place was → count ≡ get_or counts (place / 256) count → from_bool was ≤ count
 was_counted flags counts place count was kept inside was_is is =
     let block_inside : place / 256 < length counts = omega (arith, kept.enough) in
@@ -103,9 +103,9 @@ one_changed counts here new wanted inside is others block within = elim (cases_e
   | inr other ↦ get_or-set_other counts here block new 0 other ∙ others block (omega (arith, within, length-set counts here new)) other
 ]
 
-pub kept_set : (flags : List Bool) (counts : List ℕ) (place count : ℕ) (flag was : Bool) → IsKept flags counts → place < length flags
+pub kept_set : (flags : List Bool) (counts : List ℕ) (place count : ℕ) (flag was : Bool) → CountsBlocks flags counts → place < length flags
     → was ≡ get_or flags place was → count ≡ get_or counts (place / 256) count
-    → IsKept (set flags place flag) (set counts (place / 256) (count + from_bool flag - from_bool was))
+    → CountsBlocks (set flags place flag) (set counts (place / 256) (count + from_bool flag - from_bool was))
 kept_set flags counts place count flag was kept inside was_is is =
     let new = count + from_bool flag - from_bool was in
     let begun : place / 256 < length counts = omega (arith, kept.enough, inside) in
@@ -120,8 +120,8 @@ kept_set flags counts place count flag was kept inside was_is is =
     }
 
 -- a flag more, in a block that has begun
-pub kept_more : (flags : List Bool) (counts : List ℕ) (last count : ℕ) (flag : Bool) → IsKept flags counts → last ≡ length flags / 256
-    → last < length counts → count ≡ get_or counts last count → IsKept (flags ++ flag ∷ []) (set counts last (count + from_bool flag))
+pub kept_more : (flags : List Bool) (counts : List ℕ) (last count : ℕ) (flag : Bool) → CountsBlocks flags counts → last ≡ length flags / 256
+    → last < length counts → count ≡ get_or counts last count → CountsBlocks (flags ++ flag ∷ []) (set counts last (count + from_bool flag))
 kept_more flags counts last count flag kept is_last begun is =
     let new = count + from_bool flag in
     let here : new ≡ set_in (flags ++ flag ∷ []) last =
@@ -134,8 +134,8 @@ kept_more flags counts last count flag kept is_last begun is =
     }
 
 -- a flag more, which begins a block
-pub kept_begun : (flags : List Bool) (counts : List ℕ) (flag : Bool) → IsKept flags counts → length counts ≤ length flags / 256
-    → IsKept (flags ++ flag ∷ []) (counts ++ from_bool flag ∷ [])
+pub kept_begun : (flags : List Bool) (counts : List ℕ) (flag : Bool) → CountsBlocks flags counts → length counts ≤ length flags / 256
+    → CountsBlocks (flags ++ flag ∷ []) (counts ++ from_bool flag ∷ [])
 kept_begun flags counts flag kept full = record {
   enough = omega (arith, kept.enough, length-append flags (flag ∷ []), length-append counts (from_bool flag ∷ []));
   no_more = omega (arith, kept.no_more, length-append flags (flag ∷ []), length-append counts (from_bool flag ∷ []));
@@ -182,7 +182,7 @@ some_in : (flags : List Bool) (block : ℕ) → 0 < set_in flags block → (plac
 unfolding set_in
 some_in flags block some = some_of (take 256 (drop (256 * block) flags)) (256 * block) some
 
-module _ (flags : List Bool) (counts : List ℕ) (kept : IsKept flags counts) where
+module _ (flags : List Bool) (counts : List ℕ) (kept : CountsBlocks flags counts) where
   -- the first flag that is set at or behind a block, by the counts
   abbrev Told : ℕ → Type 0
   Told block = position_from is_set (256 * block) (drop (256 * block) flags)

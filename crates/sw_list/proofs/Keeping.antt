@@ -10,7 +10,7 @@ use Rattle.std.proofs.lemmas.List.Quantifiers.{all_pairs_push}
 use Rattle.sw_list.specs.declared.holes.Hole.{Hole}
 use Rattle.sw_list.specs.declared.slots.Slot.{Slot}
 use Rattle.sw_list.specs.Holes.{with_hole}
-use Rattle.sw_list.specs.Kept.{IsKept, spare_of}
+use Rattle.sw_list.specs.Kept.{IsSpaced, spare_of}
 use Rattle.sw_list.specs.Slots.{HasNumber, holes_of, rows_of, with_value_in}
 use Rattle.sw_list.proofs.Lists.{pairs_first, pairs_more, pairs_rest, position_found}
 use Rattle.sw_list.proofs.Places.{IsAt, added_holes, cases_slot, emptied_holes, read, set_value, sum, written_holes}
@@ -82,8 +82,8 @@ module _ {V : Type 0} where
 
   -- ---- what is kept
 
-  pub kept_added : (slots : List (Slot V)) (holes : List Hole) (capacity next : ℕ) (value : V) → 512 ≤ capacity → IsKept slots holes capacity next
-      → IsKept (slots ++ record { number = next; value = Some value } ∷ []) holes capacity (next + 1)
+  pub kept_added : (slots : List (Slot V)) (holes : List Hole) (capacity next : ℕ) (value : V) → 512 ≤ capacity → IsSpaced slots holes capacity next
+      → IsSpaced (slots ++ record { number = next; value = Some value } ∷ []) holes capacity (next + 1)
   kept_added slots holes capacity next value room kept =
       let slot : Slot V = record { number = next; value = Some value } in
       record {
@@ -94,8 +94,8 @@ module _ {V : Type 0} where
         room = λ some. room;
       }
 
-  pub kept_written : (slots : List (Slot V)) (holes : List Hole) (capacity next i k j : ℕ) (value : V) → IsAt slots i k j → IsKept slots holes capacity next
-      → IsKept (with_value_in j (Some value) slots) holes capacity next
+  pub kept_written : (slots : List (Slot V)) (holes : List Hole) (capacity next i k j : ℕ) (value : V) → IsAt slots i k j → IsSpaced slots holes capacity next
+      → IsSpaced (with_value_in j (Some value) slots) holes capacity next
   kept_written slots holes capacity next i k j value at kept = record {
     rising = written_rising j (Some value) slots kept.rising;
     below = written_all (λ n. n < next) j (Some value) slots kept.below;

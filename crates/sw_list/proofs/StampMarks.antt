@@ -13,7 +13,7 @@ use Rattle.std.proofs.lemmas.Map.Keys.{IsDistinct-from_apart, IsDistinct-push, a
 use Rattle.std.proofs.lemmas.Map.Made.{is_some-lookup}
 use Rattle.indexmap.proofs.MapLemmas.{Found-position, index-first, remove_entry-first}
 use Rattle.indexmap.proofs.RemoveLemmas.{own_first}
-use Rattle.sw_list.specs.Stamped.{IsKept}
+use Rattle.sw_list.specs.Stamped.{IsStamped}
 
 abbrev Marks : Type 0
 Marks = List (ℕ × ℕ)
@@ -24,8 +24,8 @@ place_here entries i n x apart at = index-first (nat_eq n) entries i (own_first 
 
 -- ---- one more
 
-pub kept_more : (marks old new : Marks) (n next : ℕ) → IsKept marks old next → lookup (nat_eq n) marks ≡ None
-    → ((q : ℕ) → lookup (nat_eq q) new ≡ cond (nat_eq n q) (Some next) (lookup (nat_eq q) old)) → IsKept (marks ++ (n, next) ∷ []) new (next + 1)
+pub kept_more : (marks old new : Marks) (n next : ℕ) → IsStamped marks old next → lookup (nat_eq n) marks ≡ None
+    → ((q : ℕ) → lookup (nat_eq q) new ≡ cond (nat_eq n q) (Some next) (lookup (nat_eq q) old)) → IsStamped (marks ++ (n, next) ∷ []) new (next + 1)
 kept_more marks old new n next kept fresh says = record {
   rising = all_pairs_push (λ left right. left.1 < right.1) marks (n, next) kept.rising kept.below;
   below = All-push (λ mark. mark.1 < next + 1) marks (n, next) (λ k d l. (let was = kept.below k d l in omega arith)) (omega arith);
@@ -57,8 +57,8 @@ All_left P xs i within all k d l =
 pub removed : {X : Type 0} (entries : List (ℕ × X)) (n i : ℕ) → position (nat_eq n) (keys_of entries) ≡ Some i → remove entries i ≡ remove_entry (nat_eq n) entries
 removed entries n i at = sym (remove_entry-first (nat_eq n) entries i (Found-position (nat_eq n) entries i at).first)
 
-pub kept_less : (marks old new : Marks) (n i next : ℕ) → IsKept marks old next → position (nat_eq n) (keys_of marks) ≡ Some i
-    → ((q : ℕ) → lookup (nat_eq q) new ≡ cond (nat_eq n q) None (lookup (nat_eq q) old)) → IsKept (remove marks i) new next
+pub kept_less : (marks old new : Marks) (n i next : ℕ) → IsStamped marks old next → position (nat_eq n) (keys_of marks) ≡ Some i
+    → ((q : ℕ) → lookup (nat_eq q) new ≡ cond (nat_eq n q) None (lookup (nat_eq q) old)) → IsStamped (remove marks i) new next
 kept_less marks old new n i next kept at says =
     let within = (Found-position (nat_eq n) marks i at).within in
     record {

@@ -12,7 +12,7 @@ use Rattle.std.proofs.lemmas.Map.Keys.{IsDistinct-from_apart}
 use Rattle.std.proofs.lemmas.Map.Made.{is_some-lookup}
 use Rattle.std.proofs.lemmas.Option.{same_Some, slice_get-map}
 use Rattle.indexmap.proofs.MapLemmas.{Found-position, Missing-position, absent_from_lookup, index-absent}
-use Rattle.sw_list.specs.Stamped.{IsKept, entries_of, entry_of, mark_of, marks_of}
+use Rattle.sw_list.specs.Stamped.{IsStamped, entries_of, entry_of, mark_of, marks_of}
 use Rattle.sw_list.specs.Numbers as list
 use Rattle.sw_list.specs.Sequence.{with_value_at}
 use Rattle.sw_list.specs.declared.ordered.Row.{Row}
@@ -50,7 +50,7 @@ module _ {V : Type 0} where
   some_row None n s is = absurd cc
   some_row (Some row) n s is = (row.1, (let same : mark_of row ≡ (n, s) = same_Some _ (n, s) is in ap (λ (mark : ℕ × ℕ). Some (mark.1, row.1)) same))
 
-  pub place_found : (rows : List (ℕ × Row V)) (index : List (ℕ × ℕ)) (next n s : ℕ) → IsKept (marks_of rows) index next → lookup (nat_eq n) index ≡ Some s
+  pub place_found : (rows : List (ℕ × Row V)) (index : List (ℕ × ℕ)) (next n s : ℕ) → IsStamped (marks_of rows) index next → lookup (nat_eq n) index ≡ Some s
       → position (nat_eq s) (keys_of rows) ≡ position (nat_eq n) (keys_of (entries_of rows))
   place_found rows index next n s kept is =
       let place = place_from_lookup (nat_eq n) (marks_of rows) s (sym (kept.found n) ∙ is) in
@@ -66,7 +66,7 @@ module _ {V : Type 0} where
   no_entry : (rows : List (ℕ × Row V)) (n : ℕ) → lookup (nat_eq n) (marks_of rows) ≡ None → lookup (nat_eq n) (entries_of rows) ≡ None
   no_entry rows n none = none_alike _ _ (same_found rows n) none
 
-  pub place_none : (rows : List (ℕ × Row V)) (index : List (ℕ × ℕ)) (next n : ℕ) → IsKept (marks_of rows) index next → lookup (nat_eq n) index ≡ None
+  pub place_none : (rows : List (ℕ × Row V)) (index : List (ℕ × ℕ)) (next n : ℕ) → IsStamped (marks_of rows) index next → lookup (nat_eq n) index ≡ None
       → None ≡ position (nat_eq n) (keys_of (entries_of rows))
   place_none rows index next n kept is =
       sym (index-absent (nat_eq n) (entries_of rows) (absent_from_lookup (nat_eq n) (entries_of rows) (no_entry rows n (sym (kept.found n) ∙ is))))
@@ -103,21 +103,21 @@ module _ {V : Type 0} where
 
   -- ---- one more and one less
 
-  pub apart_entries : (rows : List (ℕ × Row V)) (index : List (ℕ × ℕ)) (next : ℕ) → IsKept (marks_of rows) index next → IsDistinct nat_eq (keys_of (entries_of rows))
+  pub apart_entries : (rows : List (ℕ × Row V)) (index : List (ℕ × ℕ)) (next : ℕ) → IsStamped (marks_of rows) index next → IsDistinct nat_eq (keys_of (entries_of rows))
   apart_entries rows index next kept = subst (IsDistinct nat_eq) (same_numbers rows) kept.apart
 
-  pub added_kept : (rows after : List (ℕ × Row V)) (old new : List (ℕ × ℕ)) (n next : ℕ) (value : V) → IsKept (marks_of rows) old next → lookup (nat_eq n) (entries_of rows) ≡ None
+  pub added_kept : (rows after : List (ℕ × Row V)) (old new : List (ℕ × ℕ)) (n next : ℕ) (value : V) → IsStamped (marks_of rows) old next → lookup (nat_eq n) (entries_of rows) ≡ None
       → ((q : ℕ) → lookup (nat_eq q) new ≡ cond (nat_eq n q) (Some next) (lookup (nat_eq q) old)) → after ≡ rows ++ (next, record { number = n; value = value }) ∷ []
-      → IsKept (marks_of after) new (next + 1)
+      → IsStamped (marks_of after) new (next + 1)
   added_kept rows after old new n next value kept fresh says is =
       let row : ℕ × Row V = (next, record { number = n; value = value }) in
-      subst (λ (marks : List (ℕ × ℕ)). IsKept marks new (next + 1)) (sym (ap marks_of is ∙ map-append mark_of rows (row ∷ [])))
+      subst (λ (marks : List (ℕ × ℕ)). IsStamped marks new (next + 1)) (sym (ap marks_of is ∙ map-append mark_of rows (row ∷ [])))
       (kept_more (marks_of rows) old new n next kept (no_mark rows n fresh) says)
 
-  pub removed_kept : (rows after : List (ℕ × Row V)) (old new : List (ℕ × ℕ)) (n i next : ℕ) → IsKept (marks_of rows) old next → Some i ≡ position (nat_eq n) (keys_of (entries_of rows))
-      → ((q : ℕ) → lookup (nat_eq q) new ≡ cond (nat_eq n q) None (lookup (nat_eq q) old)) → after ≡ remove rows i → IsKept (marks_of after) new next
+  pub removed_kept : (rows after : List (ℕ × Row V)) (old new : List (ℕ × ℕ)) (n i next : ℕ) → IsStamped (marks_of rows) old next → Some i ≡ position (nat_eq n) (keys_of (entries_of rows))
+      → ((q : ℕ) → lookup (nat_eq q) new ≡ cond (nat_eq n q) None (lookup (nat_eq q) old)) → after ≡ remove rows i → IsStamped (marks_of after) new next
   removed_kept rows after old new n i next kept at says is =
-      subst (λ (marks : List (ℕ × ℕ)). IsKept marks new next) (sym (ap marks_of is ∙ map_remove mark_of rows i))
+      subst (λ (marks : List (ℕ × ℕ)). IsStamped marks new next) (sym (ap marks_of is ∙ map_remove mark_of rows i))
       (kept_less (marks_of rows) old new n i next kept (ap (position (nat_eq n)) (same_numbers rows) ∙ sym at) says)
 
   pub removed_entries : (rows after : List (ℕ × Row V)) (n i : ℕ) → Some i ≡ position (nat_eq n) (keys_of (entries_of rows)) → after ≡ remove rows i

@@ -10,7 +10,7 @@ abbrev pub spare_of : ℕ → ℕ → ℕ → ℕ
 spare_of capacity free next = cond (nat_le 512 capacity) (min free (2 ^ 64 - 1 - next)) 0
 
 -- the numbers rise and are below the next one, the holes are those of the slots, and there is room for one more
-pub record IsKept {V : Type 0} (slots : List (Slot V)) (holes : List Hole) (capacity next : ℕ) : Type 0 where
+pub record IsSpaced {V : Type 0} (slots : List (Slot V)) (holes : List Hole) (capacity next : ℕ) : Type 0 where
   pub rising : AllPairs (λ left right. left.number < right.number) slots
   pub below : All (λ slot. slot.number < next) slots
   pub told : holes ≡ holes_of 0 0 slots

@@ -87,7 +87,7 @@ pub record Listing (V : Type 0) : Type 0 where
   pub spare : ℕ
 
 -- a row was made for this listing, and there is room for it
-pub record Fits {V : Type 0} (new : Made) (listing : Listing V) : Type 0 where
+pub record FitsListing {V : Type 0} (new : Made) (listing : Listing V) : Type 0 where
   pub ahead : listing.ahead ≡ Some new
   pub room : 0 < listing.spare
   pub few : length listing.rows + 1 < 2 ^ 32

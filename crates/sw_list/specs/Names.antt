@@ -96,5 +96,5 @@ pub record IsLeast (has : ℕ → Bool) (after n : ℕ) : Type 0 where
   pub least : (m : ℕ) → after < m → m < n → has m ≡ false
 
 -- the least number above another one, where there is one
-abbrev pub IsNext : (ℕ → Bool) → ℕ → Option ℕ → Type 0
-IsNext has after next = MatchOption next ((m : ℕ) → after < m → has m ≡ false) (IsLeast has after)
+abbrev pub IsNextNumber : (ℕ → Bool) → ℕ → Option ℕ → Type 0
+IsNextNumber has after next = MatchOption next ((m : ℕ) → after < m → has m ≡ false) (IsLeast has after)

@@ -21,7 +21,7 @@ abbrev pub marks_of : {V : Type 0} → List (ℕ × Row V) → List (ℕ × ℕ)
 marks_of rows = map mark_of rows
 
 -- the stamps rise and are below the next one, no number stands twice, and the index finds the stamp of each number
-pub record IsKept (marks index : List (ℕ × ℕ)) (next : ℕ) : Type 0 where
+pub record IsStamped (marks index : List (ℕ × ℕ)) (next : ℕ) : Type 0 where
   pub rising : AllPairs (λ left right. left.1 < right.1) marks
   pub below : All (λ mark. mark.1 < next) marks
   pub apart : IsDistinct nat_eq (keys_of marks)

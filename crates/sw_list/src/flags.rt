@@ -20,7 +20,7 @@ pub struct Flags {
 impl Model for Flags {
     ghost use Rattle.std.specs.Prelude.{◌-◌, ◌*◌, min};
     ghost use Rattle.std.specs.Vec.{vec_len, vec_capacity};
-    ghost use Rattle.sw_list.specs.KeptFlags.{IsKept};
+    ghost use Rattle.sw_list.specs.KeptFlags.{CountsBlocks};
     ghost use Rattle.sw_list.specs.Marked.{Marked};
 
     ghost Value = { Marked };
@@ -30,7 +30,7 @@ impl Model for Flags {
       spare = min (vec_capacity f.flags) (256 * vec_capacity f.counts) - vec_len f.flags;
     } };
 
-    ghost invariant = { λ f. IsKept f.flags.items f.counts.items };
+    ghost invariant = { λ f. CountsBlocks f.flags.items f.counts.items };
 }
 
 impl Flags {

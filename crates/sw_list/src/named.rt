@@ -3,7 +3,7 @@
 ghost use Rattle.std.specs.Prelude.{◌≡◌, ◌<◌, ◌+◌, ◌^◌, ◌++◌, ◌∷◌, [], None, Some, IfOk, OnOk, not, filter, length, drop, position, option_copied, option_map, slice_get};
 ghost use Rattle.std.specs.Borrow.{sem};
 ghost use Rattle.std.specs.Option.{IfSome};
-ghost use Rattle.sw_list.specs.Named.{Fits, HasLate, KeepsEarly, is_asked, is_at, is_of, made_marks, named_row, named_rows, values};
+ghost use Rattle.sw_list.specs.Named.{FitsListing, HasLate, KeepsEarly, is_asked, is_at, is_of, made_marks, named_row, named_rows, values};
 
 use crate::Numbered;
 use crate::names::{Keys, drop_number, put_number};
@@ -124,7 +124,7 @@ impl<V> Named<V> {
         ensures same { self.new.rows ≡ self.old.rows }
         ensures key { IfOk result (λ new. new.key ≡ key) }
         ensures name { IfOk result (λ new. new.name ≡ name) }
-        ensures fits { IfOk result (λ new. Fits new self.new) }
+        ensures fits { IfOk result (λ new. FitsListing new self.new) }
     {
         if self.rows.len() >= ROWS_LIMIT {
             return Err(NoMemory);
@@ -137,7 +137,7 @@ impl<V> Named<V> {
 
     /// Adds a value at the end, in a place that was made for it; it takes no memory.
     pub fn put(&mut self, new: NewRow, value: V)
-        requires { Fits new self.old }
+        requires { FitsListing new self.old }
         ensures { self.new.rows ≡ self.old.rows ++ ((new.key, new.name), value) ∷ [] }
     {
         let NewRow { key, name } = new;

@@ -1,7 +1,7 @@
 //! The numbers of rows, by key and by name.
 
 ghost use Rattle.std.specs.Prelude.{◌≡◌, ℕ, List, Option, cond, false, true, nat_eq, option_copied, IsTrue, OnErr, OnOk};
-ghost use Rattle.sw_list.specs.Names.{IsNext, KeepsIn, KeepsKey, KeepsName, PutsIn, PutsKey, PutsName, keys_have, map_has, names_have, set_has};
+ghost use Rattle.sw_list.specs.Names.{IsNextNumber, KeepsIn, KeepsKey, KeepsName, PutsIn, PutsKey, PutsName, keys_have, map_has, names_have, set_has};
 
 use indexmap::IndexMap;
 use std::alloc::Global;
@@ -22,7 +22,7 @@ pub(crate) type Keys = IndexMap<Text, Names>;
 
 // The least number above another one; it takes no memory.
 fn next_in(numbers: &BTreeSet<u64>, after: u64) -> Option<u64>
-    ensures { IsNext (set_has numbers.now) after result }
+    ensures { IsNextNumber (set_has numbers.now) after result }
 {
     let range = (Bound::Excluded(after), Bound::Unbounded);
     match numbers.range(range).next() {
@@ -90,7 +90,7 @@ impl Names {
 
     // The least number of a name, or of all where none is given, above another one; it takes no memory.
     fn next(&self, name: Option<&Text>, after: u64) -> Option<u64>
-        ensures { IsNext (names_have self.now (option_copied name.entry)) after result }
+        ensures { IsNextNumber (names_have self.now (option_copied name.entry)) after result }
     {
         match name {
             Some(name) => match self.by_name.get(name) {
@@ -123,7 +123,7 @@ impl Names {
 
 // The least number of a key, or of a key and a name, above another one; it takes no memory.
 pub(crate) fn next_number(keys: &Keys, key: &Text, name: Option<&Text>, after: u64) -> Option<u64>
-    ensures { IsNext (keys_have keys.now.entries key.now (option_copied name.entry)) after result }
+    ensures { IsNextNumber (keys_have keys.now.entries key.now (option_copied name.entry)) after result }
 {
     match keys.get(key) {
         Some(names) => names.next(name, after),

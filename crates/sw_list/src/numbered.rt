@@ -29,7 +29,7 @@ impl<V> Model for Numbered<V> {
     ghost use Rattle.std.specs.Prelude.{◌-◌};
     ghost use Rattle.std.specs.Vec.{vec_len, vec_capacity};
     ghost use Rattle.sw_list.specs.Numbers.{Numbers};
-    ghost use Rattle.sw_list.specs.Kept.{IsKept, spare_of};
+    ghost use Rattle.sw_list.specs.Kept.{IsSpaced, spare_of};
     ghost use Rattle.sw_list.specs.Slots.{rows_of};
 
     ghost Value = { Numbers V };
@@ -40,7 +40,7 @@ impl<V> Model for Numbered<V> {
       spare = spare_of (vec_capacity n.holes) (vec_capacity n.slots - vec_len n.slots) n.next;
     } };
 
-    ghost invariant = { λ n. IsKept n.slots.items n.holes.items (vec_capacity n.holes) n.next };
+    ghost invariant = { λ n. IsSpaced n.slots.items n.holes.items (vec_capacity n.holes) n.next };
 }
 
 impl<V> Numbered<V> {

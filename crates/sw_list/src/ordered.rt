@@ -34,7 +34,7 @@ impl<V> Model for Ordered<V> {
     ghost use Rattle.std.specs.Prelude.{min};
     ghost use Rattle.indexmap.specs.IndexMap.{spare};
     ghost use Rattle.sw_list.specs.Sequence.{Sequence};
-    ghost use Rattle.sw_list.specs.Stamped.{IsKept, entries_of, marks_of};
+    ghost use Rattle.sw_list.specs.Stamped.{IsStamped, entries_of, marks_of};
 
     ghost Value = { Sequence V };
 
@@ -43,7 +43,7 @@ impl<V> Model for Ordered<V> {
       spare = min (spare o.stamps) o.rows.spare;
     } };
 
-    ghost invariant = { λ o. IsKept (marks_of o.rows.rows) o.stamps.entries o.rows.next };
+    ghost invariant = { λ o. IsStamped (marks_of o.rows.rows) o.stamps.entries o.rows.next };
 }
 
 impl<V> Ordered<V> {

@@ -14,7 +14,7 @@ ghost use Rattle.sw_disk.specs.Files.{has_file};
 ghost use Rattle.sw_disk.specs.declared.part.Part.{Part};
 ghost use Rattle.sw_host.specs.declared.command.Command.TheVariants as command;
 ghost use Rattle.sw_host.specs.declared.statuses.Status.{Status};
-ghost use Rattle.sw_host.specs.Stands.{HasEnded, HasEndedWithin, HasReadAll, LeavesWithoutMemory, Stands};
+ghost use Rattle.sw_host.specs.Stands.{HasRunTo, HasEndedWithin, HasReadAll, LeavesWithoutMemory, Stands};
 ghost use Rattle.sw_host.specs.Texts.{code_of};
 ghost use Rattle.sw_host.specs.Words.{command_of, needs_disk, reads_source, source_limit};
 ghost use Rattle.sw_io.specs.Taking.{Takes, TakesNothing, TakesPrefix};
@@ -48,17 +48,17 @@ fn ended<R: Threads + Wait + Sync, S: Source, K: Sink, D: Disk + Send, G: Gate +
 ) -> (ExitCode, D)
     ensures done { exit_status result.0 ≡ 0
         → (workers : ℕ) → command_of words.now ≡ command.Replay workers → (text : List ℕ)
-        × HasEnded D.Disk disk result.1 workers (S.left source.old) drive_end.Done text
+        × HasRunTo D.Disk disk result.1 workers (S.left source.old) drive_end.Done text
         × Takes K.Sink sink.old sink.new text }
     ensures stalled { exit_status result.0 ≡ 9
         → (workers : ℕ) → command_of words.now ≡ command.Replay workers
         → (text : List ℕ) × (lane : ℕ)
-        × HasEnded D.Disk disk result.1 workers (S.left source.old) (drive_end.Stalled lane) text
+        × HasRunTo D.Disk disk result.1 workers (S.left source.old) (drive_end.Stalled lane) text
         × Takes K.Sink sink.old sink.new text }
     ensures spent { exit_status result.0 ≡ 13
         → (workers : ℕ) → command_of words.now ≡ command.Replay workers
         → (text : List ℕ) × (spent : Spent)
-        × HasEnded D.Disk disk result.1 workers (S.left source.old) (drive_end.Spent spent) text
+        × HasRunTo D.Disk disk result.1 workers (S.left source.old) (drive_end.Spent spent) text
         × Takes K.Sink sink.old sink.new text }
     ensures done_within { exit_status result.0 ≡ 0
         → (limit : ℕ) → command_of words.now ≡ command.Quota limit → (text : List ℕ)

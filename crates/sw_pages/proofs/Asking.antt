@@ -18,7 +18,7 @@ use Rattle.sw_rules.specs.Rows.{client_row, newest_worker}
 use Rattle.sw_rules.specs.State.{State, Registration, Worker}
 use Rattle.sw_rules.specs.Told.{Outcome, answered, followed, type_error}
 use Rattle.sw_pages.specs.Acts.{outcome_of}
-use Rattle.sw_pages.specs.Jobs.{IsNext, asked_job, comes_to, rejects_with, schedules, scoped_job, scripted_job, with_cause}
+use Rattle.sw_pages.specs.Jobs.{IsNextJob, asked_job, comes_to, rejects_with, schedules, scoped_job, scripted_job, with_cause}
 
 -- ---- a registration
 
@@ -71,15 +71,15 @@ module _ (state : State) (who : Who) (asked : Registering) (client : ClientRow) 
 
 -- its job has the next number
 module _ (jobs : List JobRow) (client : ClientRow) (asked : Registering) where
-  next_scoped : (script : List ℕ) (found : Result (List ℕ) Cause) → IsNext jobs (scoped_job (length jobs) client asked script found)
+  next_scoped : (script : List ℕ) (found : Result (List ℕ) Cause) → IsNextJob jobs (scoped_job (length jobs) client asked script found)
   next_scoped script (Ok scope) = refl
   next_scoped script (Err why) = refl
 
-  next_scripted : (found : Result (List ℕ) Cause) → IsNext jobs (scripted_job (length jobs) client asked found)
+  next_scripted : (found : Result (List ℕ) Cause) → IsNextJob jobs (scripted_job (length jobs) client asked found)
   next_scripted (Ok script) = next_scoped script (with_cause (scope_address asked.scope script client.url))
   next_scripted (Err why) = refl
 
-  pub next_asked : IsNext jobs (asked_job (length jobs) client asked)
+  pub next_asked : IsNextJob jobs (asked_job (length jobs) client asked)
   next_asked = next_scripted (with_cause (script_address asked.script client.url))
 
 -- ---- an update

@@ -20,7 +20,7 @@ use Rattle.sw_worker.specs.Table.{event_at, worker_at}
 abbrev pub FitsPage : PageAct → workers.Table → registrations.Table → clients.Table → queues.Table → Type 0
 FitsPage act.Nothing of_workers of_registrations of_clients of_jobs = Unit {0}
 FitsPage (act.Open new) of_workers of_registrations of_clients of_jobs =
-    clients.Fits new of_clients × IsNoted of_workers new
+    clients.FitsClient new of_clients × IsNoted of_workers new
 FitsPage (act.Close client) of_workers of_registrations of_clients of_jobs =
     is_some (find (is_client client) (clients_of of_clients)) ≡ true
 FitsPage (act.Schedule row) of_workers of_registrations of_clients of_jobs = queues.FitsJob row of_jobs

@@ -46,9 +46,9 @@ comes_to jobs (Ok job) = schedules jobs job
 comes_to jobs (Err worked) = worked
 
 -- own: the job has the next number; without one nothing is done
-abbrev pub IsNext : List JobRow → Result Job Worked → Type 0
-IsNext jobs (Ok job) = job.number ≡ length jobs
-IsNext jobs (Err worked) = worked.act ≡ act.Nothing
+abbrev pub IsNextJob : List JobRow → Result Job Worked → Type 0
+IsNextJob jobs (Ok job) = job.number ≡ length jobs
+IsNextJob jobs (Err worked) = worked.act ≡ act.Nothing
 
 -- own: a fault, which the promise of the action gets
 abbrev pub rejects_with : Fault → Worked

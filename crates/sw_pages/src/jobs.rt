@@ -4,7 +4,7 @@ ghost use Rattle.std.specs.Prelude.{◌≡◌, length, IfOk, Some, None, option_
 ghost use Rattle.sw_data.specs.Addresses.{scope_address, script_address, without_fragment};
 ghost use Rattle.sw_pages.specs.Acts.{Gives};
 ghost use Rattle.sw_pages.specs.Fits.{FitsHost};
-ghost use Rattle.sw_pages.specs.Jobs.{IsNext, asked_job, comes_to, job_answer, register_job, schedules, unregister_job, update_job, with_cause};
+ghost use Rattle.sw_pages.specs.Jobs.{IsNextJob, asked_job, comes_to, job_answer, register_job, schedules, unregister_job, update_job, with_cause};
 ghost use Rattle.sw_rules.specs.Registering as rules;
 ghost use Rattle.sw_rules.specs.Rows.{named_scope};
 ghost use Rattle.sw_rules.specs.Told.{type_error};
@@ -198,7 +198,7 @@ fn register_asked(
     alloc: Global,
     asked: &Registering,
 ) -> Result<Result<Job, Worked>, NoMemory>
-    ensures next { IfOk result (IsNext host.now.queues.rows) }
+    ensures next { IfOk result (IsNextJob host.now.queues.rows) }
     ensures gives { IfOk result (λ job. Gives (λ state who. rules.register state who asked.now)
         (comes_to host.now.queues.rows job) host.now) }
 {
@@ -218,7 +218,7 @@ pub fn update_named(
     row: Option<&RegistrationRow>,
     referrer: &Text,
 ) -> Result<Result<Job, Worked>, NoMemory>
-    ensures next { IfOk result (IsNext host.now.queues.rows) }
+    ensures next { IfOk result (IsNextJob host.now.queues.rows) }
     ensures gives { IfOk result (λ job. Gives (λ state who. rules.update_named state who
         (option_map (shown_of host.now) (option_copied row.entry)) referrer.now)
         (comes_to host.now.queues.rows job) host.now) }
@@ -240,7 +240,7 @@ fn update_asked(
     alloc: Global,
     of: &ClientScope,
 ) -> Result<Result<Job, Worked>, NoMemory>
-    ensures next { IfOk result (IsNext host.now.queues.rows) }
+    ensures next { IfOk result (IsNextJob host.now.queues.rows) }
     ensures gives { IfOk result (λ job. Gives (λ state who. rules.update state who of.now)
         (comes_to host.now.queues.rows job) host.now) }
 {
@@ -260,7 +260,7 @@ fn soft_update_named(
     alloc: Global,
     row: Option<&RegistrationRow>,
 ) -> Result<Result<Job, Worked>, NoMemory>
-    ensures next { IfOk result (IsNext host.now.queues.rows) }
+    ensures next { IfOk result (IsNextJob host.now.queues.rows) }
     ensures gives { IfOk result (λ job. Gives (λ state who. rules.soft_update_named state
         (option_map (shown_of host.now) (option_copied row.entry)))
         (comes_to host.now.queues.rows job) host.now) }
@@ -281,7 +281,7 @@ fn soft_update_asked(
     alloc: Global,
     of: &ClientScope,
 ) -> Result<Result<Job, Worked>, NoMemory>
-    ensures next { IfOk result (IsNext host.now.queues.rows) }
+    ensures next { IfOk result (IsNextJob host.now.queues.rows) }
     ensures gives { IfOk result (λ job. Gives (λ state who. rules.soft_update state of.now)
         (comes_to host.now.queues.rows job) host.now) }
 {
@@ -302,7 +302,7 @@ fn unregister_asked(
     alloc: Global,
     of: &ClientScope,
 ) -> Result<Result<Job, Worked>, NoMemory>
-    ensures next { IfOk result (IsNext host.now.queues.rows) }
+    ensures next { IfOk result (IsNextJob host.now.queues.rows) }
     ensures gives { IfOk result (λ job. Gives (λ state who. rules.unregister state who of.now)
         (comes_to host.now.queues.rows job) host.now) }
 {
@@ -358,7 +358,7 @@ pub fn schedule_asked(
     alloc: Global,
     asked: Result<Job, Worked>,
 ) -> Result<Worked, NoMemory>
-    requires { IsNext host.old.queues.rows asked }
+    requires { IsNextJob host.old.queues.rows asked }
     ensures same { SameRows host.old host.new }
     ensures fits { IfOk result (λ worked. FitsHost worked host.new) }
     ensures worked { IfOk result (λ worked. worked ≡ comes_to host.old.queues.rows asked) }

@@ -7,8 +7,8 @@ use Rattle.sw_pool.specs.declared.ends.Brief.{Brief}
 use Rattle.sw_pool.specs.declared.ends.Brief.TheVariants as brief
 use Rattle.sw_pool.specs.declared.ends.Turned.{Turned}
 use Rattle.sw_pool.specs.declared.ends.Turned.TheVariants as turned
-use Rattle.sw_pool.specs.Yards.{HasStepped, HasStopped, IsEndSeen, Origin, Stands, YardState, brief_of, shown}
-use Rattle.sw_turns.specs.Ends.{IsKept}
+use Rattle.sw_pool.specs.Yards.{HasStepped, HasStopped, IsEndSeen, Origin, IsYardOf, YardState, brief_of, shown}
+use Rattle.sw_turns.specs.Ends.{IsTurnEnd}
 use Rattle.sw_turns.specs.declared.ends.DriveEnd.{DriveEnd}
 use Rattle.sw_turns.specs.declared.ends.DriveEnd.TheVariants as drive_end
 use Rattle.sw_turns.specs.declared.ends.Turn.{Turn}
@@ -21,7 +21,7 @@ unended (turn.Fetch flown fetches) said is = absurd cc
 unended turn.Idle said is = absurd cc
 
 -- an end that is kept isn't want of turns
-unspent : (ended : DriveEnd) → IsKept ended → brief_of ended ≡ brief.Spent → ⊥
+unspent : (ended : DriveEnd) → IsTurnEnd ended → brief_of ended ≡ brief.Spent → ⊥
 unspent drive_end.Done kept is = absurd cc
 unspent (drive_end.Stalled lane) kept is = absurd cc
 unspent (drive_end.DiskFault refused) kept is = absurd cc
@@ -73,7 +73,7 @@ module _ {D : Type 0} (disk : Ghosts D) (left after : YardState D) (said : Brief
 
   stop_never_spent : said ≡ brief.Spent → ⊥
   stop_never_spent is =
-      unspent stop_end (subst (λ (end : Option DriveEnd). Stands disk after.disk after.origin after.progress end) stop_kept stop.stands.stands).1 (sym stop_said ∙ is)
+      unspent stop_end (subst (λ (end : Option DriveEnd). IsYardOf disk after.disk after.origin after.progress end) stop_kept stop.stands.stands).1 (sym stop_said ∙ is)
 
   stop_seen : (origin : Origin D) (history : List Entry) → left.origin ≡ origin → history ≡ left.progress.history.items → IsEndSeen disk origin history said
   stop_seen origin history base saw = record {

@@ -1,7 +1,7 @@
 -- What is known of the host where no end is kept, or one that leaves it as its history does.
 use Rattle.std.proofs.Common.{◌≡◌, Option, Some, None, true, length, sym}
 use Rattle.sw_disk.specs.declared.disk.Disk.{Ghosts}
-use Rattle.sw_pool.specs.Yards.{Origin, Stands, is_known}
+use Rattle.sw_pool.specs.Yards.{Origin, IsYardOf, is_known}
 use Rattle.sw_reg.specs.Table as registrations
 use Rattle.sw_rules.specs.History.{Legal, after}
 use Rattle.sw_scope.specs.Scopes.{Scopes}
@@ -14,7 +14,7 @@ use Rattle.sw_turns.specs.declared.progress.Progress.{Progress}
 use Rattle.sw_state.specs.Hosted.{Hosted, rest_of, state_of}
 
 -- the history is legal, and leaves the state of the host
-pub known : {D : Type 0} (disk : Ghosts D) (now : D) (origin : Origin D) (progress : Progress) (end : Option DriveEnd) → Stands disk now origin progress end → is_known end ≡ true
+pub known : {D : Type 0} (disk : Ghosts D) (now : D) (origin : Origin D) (progress : Progress) (end : Option DriveEnd) → IsYardOf disk now origin progress end → is_known end ≡ true
     → Legal origin.base progress.history.items × (after origin.base progress.history.items ≡ state_of progress.store.core)
 known disk now origin progress None going is =
     let so_far = so_far_here (length progress.flights.items) (recorded_way origin.recording) origin.base progress.history.items progress.lanes progress.store going.under_way going.quiet.staged in

@@ -2,9 +2,9 @@
 use Rattle.std.proofs.Common.{◌≡◌, ℕ, Option, Some, None, length, subst}
 use Rattle.std.specs.Prelude.{unwrap_or}
 use Rattle.sw_disk.specs.declared.disk.Disk.{Ghosts}
-use Rattle.sw_pool.specs.Yards.{IsUnended, IsUnkept, IsWorked, Origin, Stands}
+use Rattle.sw_pool.specs.Yards.{IsUnended, IsUnkept, IsWorked, Origin, IsYardOf}
 use Rattle.sw_turns.proofs.EndLemmas.{ends_short, ends_spent}
-use Rattle.sw_turns.specs.Ends.{Ended, IsKept}
+use Rattle.sw_turns.specs.Ends.{Ended, IsTurnEnd}
 use Rattle.sw_turns.specs.declared.ends.DriveEnd.{DriveEnd}
 use Rattle.sw_turns.specs.declared.ends.DriveEnd.TheVariants as drive_end
 use Rattle.sw_turns.specs.declared.progress.Progress.{Progress}
@@ -16,7 +16,7 @@ module _ {D : Type 0} (disk : Ghosts D) (origin : Origin D) (now : D) (progress 
   counted ended run = subst (λ (workers : ℕ). Ended disk origin.start now workers origin.recording origin.base progress.history.items ended) passes run
 
   -- an end that is kept is not that of a pass that is spent
-  unended : (ended : DriveEnd) → IsKept ended → IsUnended disk origin now progress ended
+  unended : (ended : DriveEnd) → IsTurnEnd ended → IsUnended disk origin now progress ended
   unended drive_end.Done kept = tt
   unended (drive_end.Stalled lane) kept = tt
   unended (drive_end.DiskFault refused) kept = tt
@@ -24,7 +24,7 @@ module _ {D : Type 0} (disk : Ghosts D) (origin : Origin D) (now : D) (progress 
   unended drive_end.NoMemory kept = tt
   unended (drive_end.Spent spent) kept = absurd kept
 
-  pub worked : (kept : Option DriveEnd) (otherwise : DriveEnd) → Stands disk now origin progress kept → IsUnkept (disk.clock origin.start) otherwise
+  pub worked : (kept : Option DriveEnd) (otherwise : DriveEnd) → IsYardOf disk now origin progress kept → IsUnkept (disk.clock origin.start) otherwise
       → IsWorked disk origin now progress (unwrap_or kept otherwise)
   worked (Some ended) otherwise stands unkept = (stands.0, unended ended stands.1)
   worked None drive_end.NoMemory going unkept =
@@ -37,6 +37,6 @@ module _ {D : Type 0} (disk : Ghosts D) (origin : Origin D) (now : D) (progress 
   worked None (drive_end.Full happened from needed) going unkept = absurd unkept
 
   -- a value that is stopped stands
-  pub stopped : (kept : Option DriveEnd) → Stands disk now origin progress kept → Stands disk now origin progress (Some (unwrap_or kept drive_end.NoMemory))
+  pub stopped : (kept : Option DriveEnd) → IsYardOf disk now origin progress kept → IsYardOf disk now origin progress (Some (unwrap_or kept drive_end.NoMemory))
   stopped (Some ended) stands = stands
   stopped None going = ((counted drive_end.NoMemory (ends_short disk origin.start now origin.recording origin.base progress going), tt), tt)

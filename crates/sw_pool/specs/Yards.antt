@@ -11,7 +11,7 @@ use Rattle.sw_pool.specs.declared.ends.Brief.TheVariants as brief
 use Rattle.sw_pool.specs.declared.ends.Nothing.{Nothing}
 use Rattle.sw_pool.specs.declared.ends.Turned.{Turned}
 use Rattle.sw_pool.specs.declared.ends.Turned.TheVariants as turned
-use Rattle.sw_turns.specs.Ends.{Ended, IsKept}
+use Rattle.sw_turns.specs.Ends.{Ended, IsTurnEnd}
 use Rattle.sw_turns.specs.Settling.{IsOneRecord}
 use Rattle.sw_turns.specs.Turns.{IsAtRest, IsGoing, IsOneGroup, IsTurn}
 use Rattle.sw_turns.specs.declared.ends.DriveEnd.{DriveEnd}
@@ -72,15 +72,15 @@ abbrev pub IsWorked : {D : Type 0} → Ghosts D → Origin D → D → Progress 
 IsWorked disk origin now progress ended = HasWorked disk origin now progress ended × IsUnended disk origin now progress ended
 
 -- own: the recording is under way, or the run has ended so
-abbrev pub Stands : {D : Type 0} → Ghosts D → D → Origin D → Progress → Option DriveEnd → Type 0
-Stands disk now origin progress None = IsGoing disk origin.start now origin.recording origin.base progress
-Stands disk now origin progress (Some ended) =
-    HasWorked disk origin now progress ended × IsKept ended
+abbrev pub IsYardOf : {D : Type 0} → Ghosts D → D → Origin D → Progress → Option DriveEnd → Type 0
+IsYardOf disk now origin progress None = IsGoing disk origin.start now origin.recording origin.base progress
+IsYardOf disk now origin progress (Some ended) =
+    HasWorked disk origin now progress ended × IsTurnEnd ended
 
 -- own: each pass may have a fetch in flight, and what is kept of the run stands
 pub record IsYard {D : Type 0} (disk : Ghosts D) (yard : YardState D) : Type 0 where
   pub passes : length yard.progress.flights.items ≡ yard.origin.passes
-  pub stands : Stands disk yard.disk yard.origin yard.progress yard.end
+  pub stands : IsYardOf disk yard.disk yard.origin yard.progress yard.end
 
 -- an end without its events
 abbrev pub brief_of : DriveEnd → Brief
@@ -102,7 +102,7 @@ shown turn.Idle = turned.Idle
 pub record HasStepped {D : Type 0} (disk : Ghosts D) (before : YardState D) (pass : ℕ) (after : YardState D) (out : Turned) : Type 0 where
   pub stands : IsYard disk after
   pub origin : after.origin ≡ before.origin
-  pub kept : (ended : DriveEnd) → after.end ≡ Some ended → IsKept ended
+  pub kept : (ended : DriveEnd) → after.end ≡ Some ended → IsTurnEnd ended
   pub over : (ended : DriveEnd) → before.end ≡ Some ended → (after ≡ before) × (out ≡ turned.Ended (brief_of ended))
   pub ends : (ended : DriveEnd) → before.end ≡ None → after.end ≡ Some ended → out ≡ turned.Ended (brief_of ended)
   pub turns : before.end ≡ None → after.end ≡ None

@@ -2,7 +2,7 @@
 
 ghost use Rattle.std.specs.Prelude.{◌≡◌, ◌<◌, None, Some, length, unwrap_or};
 ghost use Rattle.sw_lock.specs.Entries.{ThenOwn};
-ghost use Rattle.sw_pool.specs.Yards.{HasStepped, Stands, brief_of, is_known};
+ghost use Rattle.sw_pool.specs.Yards.{HasStepped, IsYardOf, brief_of, is_known};
 ghost use Rattle.sw_turns.specs.Turns.{IsGoing};
 ghost use Rattle.sw_turns.specs.declared.ends.DriveEnd.TheVariants as drive_end;
 
@@ -124,7 +124,7 @@ impl<D: Disk> Yard<D> {
         ensures disk { result.0 ≡ self.disk }
         ensures progress { result.1 ≡ self.progress }
         ensures end { result.2 ≡ self.end }
-        ensures stands { Stands D.Disk result.0 self.origin result.1 result.2 }
+        ensures stands { IsYardOf D.Disk result.0 self.origin result.1 result.2 }
         ensures passes { length result.1.flights.items ≡ self.origin.passes }
     {
         let Yard {

@@ -7,7 +7,7 @@ use Rattle.sw_work.proofs.Working.{if_some_map}
 use Rattle.sw_data.specs.declared.rows.JobKind.{JobKind}
 use Rattle.sw_data.specs.declared.rows.JobRow.{JobRow}
 use Rattle.sw_data.specs.declared.storage.Change.{Change}
-use Rattle.sw_prepare.specs.Telling.{Tells}
+use Rattle.sw_prepare.specs.Telling.{HasChanges}
 use Rattle.sw_install.specs.Runs.{IsOfKind}
 use Rattle.sw_prepare.specs.Held.{held, held_by}
 use Rattle.sw_rules.specs.Calls.{note_call}
@@ -35,7 +35,7 @@ told (Some outcome) Meant P enabled means tells = tells outcome means
 told None Meant P enabled means tells = absurd cc
 
 -- where nothing is durable, no changes tell it
-pub tells_none : (comes : Option Outcome) (items : List Change) → items ≡ [] → IfSome comes (λ outcome. outcome.told.changes ≡ []) → Tells comes items
+pub tells_none : (comes : Option Outcome) (items : List Change) → items ≡ [] → IfSome comes (λ outcome. outcome.told.changes ≡ []) → HasChanges comes items
 tells_none None items none is = tt
 tells_none (Some outcome) items none is = none ∙ sym is
 

@@ -18,7 +18,7 @@ use Rattle.sw_data.specs.declared.workers.Slot.TheVariants as slot
 use Rattle.sw_data.specs.declared.workers.WorkerState.{WorkerState}
 use Rattle.sw_data.specs.declared.workers.WorkerState.TheVariants as worker_state
 use Rattle.sw_prepare.specs.OfJobs.{end_changes, failure_changes, gone_changes, has_failed, install_changes, waiting_changes, worker_changes, worker_of_job}
-use Rattle.sw_prepare.specs.Telling.{Tells}
+use Rattle.sw_prepare.specs.Telling.{HasChanges}
 use Rattle.sw_install.proofs.Enabled.{both, if_some}
 use Rattle.sw_install.specs.Underway.{GoesItsWay, IsMade, IsUnderWay}
 use Rattle.sw_reg.specs.Table as registrations
@@ -222,11 +222,11 @@ module _ (scopes : Scopes) (of_workers : workers.Table) (of : registrations.Tabl
       ∙ (ap (λ (o : Option JobRow). worker_changes state job (option_and_then (job_worker state) o) n) is
       ∙ ap (λ (o : Option Worker). worker_changes state job o n) made))
 
-  pub install_told : Tells (installed state job) (install_changes state job)
+  pub install_told : HasChanges (installed state job) (install_changes state job)
   install_told = by (find (is_job job) jobs) refl
     where
       handled : (row : JobRow) (n : ℕ) (worker : Worker) → find (is_job job) jobs ≡ Some row → is_in_phase is_installing row ≡ true → row.registration ≡ Some n → job_worker state row ≡ Some worker
-          → (h : Option Handler) → ended_handler state is_install worker ≡ h → Tells (option_map (install_ended state row n worker) h) (install_changes state job)
+          → (h : Option Handler) → ended_handler state is_install worker ≡ h → HasChanges (option_map (install_ended state row n worker) h) (install_changes state job)
       handled row n worker is installing of_it made None over = tt
       handled row n worker is installing of_it made (Some handler) over =
           let runs : worker.handler ≡ Some handler = ended_is state worker handler (at_number row.worker made) over in
@@ -241,21 +241,21 @@ module _ (scopes : Scopes) (of_workers : workers.Table) (of : registrations.Tabl
               ap (worker_row state) (found_number (λ (x : Worker). x.number) w state.workers worker there) ∙ there
 
       worked : (row : JobRow) (n : ℕ) → find (is_job job) jobs ≡ Some row → is_in_phase is_installing row ≡ true → row.registration ≡ Some n → (w : Option Worker) → job_worker state row ≡ w
-          → Tells (option_and_then (λ (worker : Worker). option_map (install_ended state row n worker) (ended_handler state is_install worker)) w) (install_changes state job)
+          → HasChanges (option_and_then (λ (worker : Worker). option_map (install_ended state row n worker) (ended_handler state is_install worker)) w) (install_changes state job)
       worked row n is installing of_it None made = tt
       worked row n is installing of_it (Some worker) made = handled row n worker is installing of_it made (ended_handler state is_install worker) refl
 
       registered : (row : JobRow) → find (is_job job) jobs ≡ Some row → is_in_phase is_installing row ≡ true → (r : Option ℕ) → row.registration ≡ r
-          → Tells (option_and_then (λ (n : ℕ). option_and_then (λ (worker : Worker). option_map (install_ended state row n worker) (ended_handler state is_install worker)) (job_worker state row)) r) (install_changes state job)
+          → HasChanges (option_and_then (λ (n : ℕ). option_and_then (λ (worker : Worker). option_map (install_ended state row n worker) (ended_handler state is_install worker)) (job_worker state row)) r) (install_changes state job)
       registered row is installing None of_it = tt
       registered row is installing (Some n) of_it = worked row n is installing of_it (job_worker state row) refl
 
       phased : (row : JobRow) → find (is_job job) jobs ≡ Some row → (b : Bool) → is_in_phase is_installing row ≡ b
-          → Tells (option_and_then (λ (r : JobRow). option_and_then (λ (n : ℕ). option_and_then (λ (worker : Worker). option_map (install_ended state r n worker) (ended_handler state is_install worker)) (job_worker state r)) r.registration) (if b then Some row else None)) (install_changes state job)
+          → HasChanges (option_and_then (λ (r : JobRow). option_and_then (λ (n : ℕ). option_and_then (λ (worker : Worker). option_map (install_ended state r n worker) (ended_handler state is_install worker)) (job_worker state r)) r.registration) (if b then Some row else None)) (install_changes state job)
       phased row is false installing = tt
       phased row is true installing = registered row is installing row.registration refl
 
       by : (o : Option JobRow) → find (is_job job) jobs ≡ o
-          → Tells (option_and_then (λ (r : JobRow). option_and_then (λ (n : ℕ). option_and_then (λ (worker : Worker). option_map (install_ended state r n worker) (ended_handler state is_install worker)) (job_worker state r)) r.registration) (option_and_then (λ (r : JobRow). if is_in_phase is_installing r then Some r else None) o)) (install_changes state job)
+          → HasChanges (option_and_then (λ (r : JobRow). option_and_then (λ (n : ℕ). option_and_then (λ (worker : Worker). option_map (install_ended state r n worker) (ended_handler state is_install worker)) (job_worker state r)) r.registration) (option_and_then (λ (r : JobRow). if is_in_phase is_installing r then Some r else None) o)) (install_changes state job)
       by None is = tt
       by (Some row) is = phased row is (is_in_phase is_installing row) refl

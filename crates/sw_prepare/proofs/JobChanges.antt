@@ -24,7 +24,7 @@ use Rattle.sw_data.specs.declared.storage.Change.TheVariants as change
 use Rattle.sw_data.specs.declared.workers.Slot.TheVariants as slot
 use Rattle.sw_data.specs.Addresses.{same_origin}
 use Rattle.sw_prepare.specs.OfJobs.{evaluation_changes, fetch_changes, gone_changes, mode_changes, new_mode, unregister_changes, unregistered, worker_of_job}
-use Rattle.sw_prepare.specs.Telling.{Tells}
+use Rattle.sw_prepare.specs.Telling.{HasChanges}
 use Rattle.sw_prepare.proofs.ActivationChanges.{clears_quietly}
 use Rattle.sw_install.proofs.Enabled.{if_some, some_if}
 use Rattle.sw_install.proofs.FetchEnds.{rejected, script_changed, unchanged}
@@ -141,7 +141,7 @@ module _ (scopes : Scopes) (of_workers : workers.Table) (of : registrations.Tabl
     numbered (Some row) = refl
 
     pub run_told : (job : ℕ) (refusal : Option Fault) → IfSome (find (is_job job) jobs) (λ (row : JobRow). (row.job.what ≡ job_kind.Unregister) × (refusal ≡ unregister_refusal row.job))
-        → Tells (run lent_state job) (unregister_changes lent_state (unregistered refusal job scopes jobs))
+        → HasChanges (run lent_state job) (unregister_changes lent_state (unregistered refusal job scopes jobs))
     run_told job refusal = by (find (is_job job) jobs)
       where
         is_of : (row : JobRow) → row.job.what ≡ job_kind.Unregister → run_job lent_state row.job ≡ run_unregister lent_state row.job
@@ -159,12 +159,12 @@ module _ (scopes : Scopes) (of_workers : workers.Table) (of : registrations.Tabl
             ap (λ (o : Option Fault). unregister_changes lent_state (if is_some o then None else maps scopes job.key job.scope)) is
 
         by : (o : Option JobRow) → IfSome o (λ (row : JobRow). (row.job.what ≡ job_kind.Unregister) × (refusal ≡ unregister_refusal row.job))
-            → Tells (elim o [ None ↦ None | Some row ↦ if may_run lent_state row then Some (run_job lent_state row.job) else None ])
+            → HasChanges (elim o [ None ↦ None | Some row ↦ if may_run lent_state row then Some (run_job lent_state row.job) else None ])
             (unregister_changes lent_state (if is_some refusal then None else option_and_then (λ (row : JobRow). maps scopes row.job.key row.job.scope) o))
         by None asked = tt
         by (Some row) asked = runs (may_run lent_state row)
           where
-            runs : (b : Bool) → Tells (if b then Some (run_job lent_state row.job) else None)
+            runs : (b : Bool) → HasChanges (if b then Some (run_job lent_state row.job) else None)
                 (unregister_changes lent_state (if is_some refusal then None else maps scopes row.job.key row.job.scope))
             runs false = tt
             runs true =
@@ -190,14 +190,14 @@ mode_of state job n row is of =
     ∙ ap (λ (o : Option ℕ). mode_changes state (option_map (λ registration. (registration, row.job.mode)) o)) of
 
 pub fetch_told : (state : State) (job : ℕ) (line : Option FetchLine) (given : FetchOutcome) (made : Option WorkerRow) → ComesTo given made state job line
-    → Tells (fetched state job line) (fetch_changes given state job)
+    → HasChanges (fetched state job line) (fetch_changes given state job)
 fetch_told state job line given made = by (job_row state job) refl
   where
     IsSo : Option JobRow → Type 0
     IsSo o = IfSome (option_and_then (λ (row : JobRow). if is_in_phase is_fetching row then Some row else None) o) (λ (row : JobRow). IfSome row.registration (IsOutcome given made state row (fetched_of line)))
 
     comes_to : (row : JobRow) (n : ℕ) → job_row state job ≡ Some row → is_in_phase is_fetching row ≡ true → row.registration ≡ Some n → (g : FetchOutcome)
-        → g ≡ fetch_outcome state row n (fetched_of line) → Tells (fetched state job line) (fetch_changes g state job)
+        → g ≡ fetch_outcome state row n (fetched_of line) → HasChanges (fetched state job line) (fetch_changes g state job)
     comes_to row n is fetches of (outcome.Rejected why) comes =
         some_if (λ (o : Outcome). [] ≡ o.told.changes) (fetched state job line) _ (rejected state job n row line is fetches of why comes) (sym (rejected_quietly state job n why))
     comes_to row n is fetches of outcome.Unchanged comes =
@@ -208,7 +208,7 @@ fetch_told state job line given made = by (job_row state job) refl
         some_if (λ (o : Outcome). [] ≡ o.told.changes) (fetched state job line) _ new.2 (sym (made_quietly state row n new.0))
 
     registered : (row : JobRow) → job_row state job ≡ Some row → is_in_phase is_fetching row ≡ true → (r : Option ℕ) → row.registration ≡ r
-        → IfSome r (IsOutcome given made state row (fetched_of line)) → Tells (option_map (fetch_ended state row (fetched_of line)) r) (fetch_changes given state job)
+        → IfSome r (IsOutcome given made state row (fetched_of line)) → HasChanges (option_map (fetch_ended state row (fetched_of line)) r) (fetch_changes given state job)
     registered row is fetches None of comes = tt
     registered row is fetches (Some n) of comes = said
       where
@@ -222,12 +222,12 @@ fetch_told state job line given made = by (job_row state job) refl
         said = if_some (λ (o : Outcome). fetch_changes given state job ≡ o.told.changes) (fetched state job line) (fetch_ended state row (fetched_of line) n) whole (comes_to row n is fetches of given comes.comes)
 
     fetching : (row : JobRow) → job_row state job ≡ Some row → (b : Bool) → is_in_phase is_fetching row ≡ b → IfSome (if b then Some row else None) (λ (r : JobRow). IfSome r.registration (IsOutcome given made state r (fetched_of line)))
-        → Tells (option_and_then (λ (r : JobRow). option_map (fetch_ended state r (fetched_of line)) r.registration) (if b then Some row else None)) (fetch_changes given state job)
+        → HasChanges (option_and_then (λ (r : JobRow). option_map (fetch_ended state r (fetched_of line)) r.registration) (if b then Some row else None)) (fetch_changes given state job)
     fetching row is false fetches comes = tt
     fetching row is true fetches comes = registered row is fetches row.registration refl comes
 
     by : (o : Option JobRow) → job_row state job ≡ o → IsSo o
-        → Tells (option_and_then (λ (row : JobRow). option_map (fetch_ended state row (fetched_of line)) row.registration) (option_and_then (λ (row : JobRow). if is_in_phase is_fetching row then Some row else None) o)) (fetch_changes given state job)
+        → HasChanges (option_and_then (λ (row : JobRow). option_map (fetch_ended state row (fetched_of line)) row.registration) (option_and_then (λ (row : JobRow). if is_in_phase is_fetching row then Some row else None) o)) (fetch_changes given state job)
     by None is comes = tt
     by (Some row) is comes = fetching row is (is_in_phase is_fetching row) refl comes
 
@@ -241,7 +241,7 @@ install_told : (state : State) (job : Job) (n worker : ℕ) → (install state j
 unfolding install begin_install remember become start_handler settle tell_update followed
 install_told state job n worker = append-nil (set_mode state n job.mode).changes
 
-pub evaluation_told : (state : State) (job : ℕ) → Tells (evaluated state job) (evaluation_changes state job)
+pub evaluation_told : (state : State) (job : ℕ) → HasChanges (evaluated state job) (evaluation_changes state job)
 evaluation_told state job = by (job_row state job) refl
   where
     comes_to : JobRow → ℕ → Worker → Bool → Outcome
@@ -255,7 +255,7 @@ evaluation_told state job = by (job_row state job) refl
     thrown row n worker false is of = mode_of state job n row is of ∙ sym (install_told state row.job n worker.number)
 
     made : (row : JobRow) (n : ℕ) → job_row state job ≡ Some row → row.registration ≡ Some n → (w : Option Worker) → job_worker state row ≡ w
-        → Tells (option_map (evaluated_worker state row.job n) w) (evaluation_changes state job)
+        → HasChanges (option_map (evaluated_worker state row.job n) w) (evaluation_changes state job)
     made row n is of None by = tt
     made row n is of (Some worker) by =
         ap (λ (o : Option JobRow). if option_map_or (λ (w : Worker). w.handlers.throws) (option_and_then (job_worker state) o) false then [] else mode_changes state (new_mode job state.jobs)) is
@@ -263,17 +263,17 @@ evaluation_told state job = by (job_row state job) refl
         ∙ thrown row n worker worker.handlers.throws is of)
 
     registered : (row : JobRow) → job_row state job ≡ Some row → (r : Option ℕ) → row.registration ≡ r
-        → Tells (option_and_then (λ n. option_map (evaluated_worker state row.job n) (job_worker state row)) r) (evaluation_changes state job)
+        → HasChanges (option_and_then (λ n. option_map (evaluated_worker state row.job n) (job_worker state row)) r) (evaluation_changes state job)
     registered row is None of = tt
     registered row is (Some n) of = made row n is of (job_worker state row) refl
 
     evaluating : (row : JobRow) → job_row state job ≡ Some row → (b : Bool)
-        → Tells (option_and_then (λ (r : JobRow). option_and_then (λ n. option_map (evaluated_worker state r.job n) (job_worker state r)) r.registration) (if b then Some row else None)) (evaluation_changes state job)
+        → HasChanges (option_and_then (λ (r : JobRow). option_and_then (λ n. option_map (evaluated_worker state r.job n) (job_worker state r)) r.registration) (if b then Some row else None)) (evaluation_changes state job)
     evaluating row is false = tt
     evaluating row is true = registered row is row.registration refl
 
     by : (o : Option JobRow) → job_row state job ≡ o
-        → Tells (option_and_then (λ (r : JobRow). option_and_then (λ n. option_map (evaluated_worker state r.job n) (job_worker state r)) r.registration) (option_and_then (λ (r : JobRow). if is_in_phase is_evaluating r then Some r else None) o)) (evaluation_changes state job)
+        → HasChanges (option_and_then (λ (r : JobRow). option_and_then (λ n. option_map (evaluated_worker state r.job n) (job_worker state r)) r.registration) (option_and_then (λ (r : JobRow). if is_in_phase is_evaluating r then Some r else None) o)) (evaluation_changes state job)
     by None is = tt
     by (Some row) is = evaluating row is (is_in_phase is_evaluating row)
 

@@ -9,7 +9,7 @@ ghost use Rattle.sw_data.specs.declared.rows.JobKind.TheVariants as job_kind;
 ghost use Rattle.sw_data.specs.declared.rows.WorkerRow.{WorkerRow};
 ghost use Rattle.sw_data.specs.declared.storage.Change.TheVariants as change;
 ghost use Rattle.sw_prepare.specs.OfJobs.{end_changes, failure_changes, has_failed, is_first_install, is_unchanged, mode_changes, new_mode, registration_of_job, throws, unregistered, waiting_changes, worker_changes, worker_of_job};
-ghost use Rattle.sw_prepare.specs.Telling.{Tells};
+ghost use Rattle.sw_prepare.specs.Telling.{HasChanges};
 ghost use Rattle.sw_install.specs.Fetches.{ComesTo};
 ghost use Rattle.sw_install.specs.Underway.{IsUnderWay};
 ghost use Rattle.sw_reg.specs.Table as registrations_of;
@@ -59,7 +59,7 @@ pub(crate) fn unregister_changes(
     requires job { IfSome (find (is_job job) queues.now.rows) (λ row.
         (row.job.what ≡ job_kind.Unregister) × (refusal ≡ unregister_refusal row.job)) }
     ensures { (of_workers : workers_of.Table) (of_clients : clients_of.Table) (rest : Rest)
-        → HasSlots of_workers registrations.now → IfOk result (λ changes. Tells (registering.run
+        → HasSlots of_workers registrations.now → IfOk result (λ changes. HasChanges (registering.run
         (lent map.now of_workers registrations.now of_clients (with_jobs queues.now.rows rest))
         job) changes.items) }
 {
@@ -123,7 +123,7 @@ pub(crate) fn fetched_changes(
         → ComesTo outcome.now made
         (lent map.now of_workers registrations.now of_clients (with_jobs queues.now.rows rest))
         job line
-        → IfOk result (λ changes. Tells (rules.fetched
+        → IfOk result (λ changes. HasChanges (rules.fetched
         (lent map.now of_workers registrations.now of_clients (with_jobs queues.now.rows rest))
         job line) changes.items) }
 {
@@ -179,7 +179,7 @@ pub(crate) fn evaluated_changes(
 ) -> Result<Vec<Change>, NoMemory>
     requires { HasSlots workers.now registrations.now }
     ensures { (of_clients : clients_of.Table) (rest : Rest)
-        → IfOk result (λ changes. Tells (rules.evaluated
+        → IfOk result (λ changes. HasChanges (rules.evaluated
         (lent map.now workers.now registrations.now of_clients (with_jobs queues.now.rows rest))
         job) changes.items) }
 {
@@ -351,7 +351,7 @@ pub(crate) fn installed_changes(
     requires slots { HasSlots workers.now registrations.now }
     requires goes { IsUnderWay job queues.now.rows workers.now registrations.now }
     ensures { (of_clients : clients_of.Table) (rest : Rest)
-        → IfOk result (λ changes. Tells (rules.installed
+        → IfOk result (λ changes. HasChanges (rules.installed
         (lent map.now workers.now registrations.now of_clients (with_jobs queues.now.rows rest))
         job) changes.items) }
 {

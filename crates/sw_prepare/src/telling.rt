@@ -7,7 +7,7 @@ ghost use Rattle.sw_work.specs.Planned.{Fits};
 ghost use Rattle.sw_data.specs.declared.events.Event.{Event};
 ghost use Rattle.sw_data.specs.declared.recordings.FetchLine.{FetchLine};
 ghost use Rattle.sw_data.specs.declared.rows.WorkerRow.{WorkerRow};
-ghost use Rattle.sw_prepare.specs.Telling.{Tells};
+ghost use Rattle.sw_prepare.specs.Telling.{HasChanges};
 ghost use Rattle.sw_install.specs.Fetches.{ComesTo};
 ghost use Rattle.sw_laws.specs.Coherent.{Coherent};
 ghost use Rattle.sw_pages.specs.Acts as pages;
@@ -192,7 +192,7 @@ fn no_changes(host: &HostTables, alloc: Global, job: u32) -> Result<Vec<Change>,
     requires { IfSome (find (is_job job) host.now.queues.rows)
         (λ row. is_unregister row.job.what ≡ false) }
     ensures { IfOk result (λ changes.
-        Tells (registering.run (state_of host.now) job) changes.items) }
+        HasChanges (registering.run (state_of host.now) job) changes.items) }
 {
     register_has_no_changes();
     Ok(Vec::new(alloc))
@@ -207,7 +207,7 @@ fn unregister_changes(
 ) -> Result<Vec<Change>, NoMemory>
     requires { IsUnregister job refusal host.now.queues.rows }
     ensures { IfOk result (λ changes.
-        Tells (registering.run (state_of host.now) job) changes.items) }
+        HasChanges (registering.run (state_of host.now) job) changes.items) }
 {
     jobs::unregister_changes(
         alloc,
@@ -229,7 +229,7 @@ fn fetched_changes(
     ensures { (line : Option FetchLine) (made : Option WorkerRow)
         → ComesTo outcome.now made (state_of host.now) job line
         → IfOk result (λ changes.
-        Tells (installing.fetched (state_of host.now) job line) changes.items) }
+        HasChanges (installing.fetched (state_of host.now) job line) changes.items) }
 {
     jobs::fetched_changes(
         alloc,
@@ -244,7 +244,7 @@ fn fetched_changes(
 // The durable changes where a job's script was evaluated.
 fn evaluated_changes(host: &HostTables, alloc: Global, job: u32) -> Result<Vec<Change>, NoMemory>
     ensures { IfOk result (λ changes.
-        Tells (installing.evaluated (state_of host.now) job) changes.items) }
+        HasChanges (installing.evaluated (state_of host.now) job) changes.items) }
 {
     jobs::evaluated_changes(
         alloc,
@@ -261,7 +261,7 @@ fn evaluated_changes(host: &HostTables, alloc: Global, job: u32) -> Result<Vec<C
 fn installed_changes(host: &HostTables, alloc: Global, job: u32) -> Result<Vec<Change>, NoMemory>
     requires { Coherent (state_of host.now) }
     ensures { IfOk result (λ changes.
-        Tells (installing.installed (state_of host.now) job) changes.items) }
+        HasChanges (installing.installed (state_of host.now) job) changes.items) }
 {
     jobs::installed_changes(
         alloc,
@@ -280,7 +280,7 @@ fn try_activate_changes(
     registration: u32,
 ) -> Result<Vec<Change>, NoMemory>
     ensures { IfOk result (λ changes.
-        Tells (activating.tryactivate (state_of host.now) registration) changes.items) }
+        HasChanges (activating.tryactivate (state_of host.now) registration) changes.items) }
 {
     activating::try_activate_changes(
         alloc,
@@ -297,7 +297,7 @@ fn try_activate_changes(
 fn activated_changes(host: &HostTables, alloc: Global, worker: u32) -> Result<Vec<Change>, NoMemory>
     requires { Coherent (state_of host.now) }
     ensures { IfOk result (λ changes.
-        Tells (activating.activated (state_of host.now) worker) changes.items) }
+        HasChanges (activating.activated (state_of host.now) worker) changes.items) }
 {
     activating::activated_changes(
         alloc,

@@ -6,7 +6,7 @@ use Rattle.std.specs.Map.{lookup, set_value}
 use Rattle.std.proofs.lemmas.Bool.Decides.{nat_tests}
 use Rattle.slab.specs.Slab.{Slab, get}
 use Rattle.sw_queue.specs.Lines.{by_name, line_in}
-use Rattle.sw_queue.specs.Links.{Adds, AreLinked, ByKey, ByScope, IsLine, Name, IsNodeOf, line_of, numbers_from, numbers_of, seen, with_last}
+use Rattle.sw_queue.specs.Links.{AddsNode, AreLinked, ByKey, ByScope, IsLine, Name, IsNodeOf, line_of, numbers_from, numbers_of, seen, with_last}
 use Rattle.sw_queue.specs.declared.line.Line.{Line}
 use Rattle.sw_queue.specs.declared.line.Node.{Node}
 use Rattle.sw_queue.proofs.Linking.{last_there, leads_more, met_last}
@@ -15,7 +15,7 @@ use Rattle.sw_queue.proofs.Placing.{line_stays, own_line, placed, placed_count, 
 
 module _ (nodes others : Slab Node) (lines : ByKey) (are : AreLinked nodes lines) (key scope : List ℕ) (scopes : ByScope) (line : Line)
     (of_key : lookup (bytes_eq key) lines ≡ Some scopes) (of_scope : lookup (bytes_eq scope) scopes ≡ Some line)
-    (number : ℕ) (adds : Adds nodes others line number) where
+    (number : ℕ) (adds : AddsNode nodes others line number) where
   -- the new place belongs to the line
   abbrev owns : ℕ → Name
   owns place = if place == nodes.vacant_key then (key, scope) else are.owner place
@@ -146,7 +146,7 @@ module _ {K : Type 0} (bytes : K → List ℕ) (key scope : List ℕ) (entries :
     (are : AreLinked nodes (by_name bytes entries)) (found : lookup (λ k. bytes_eq key (bytes k)) entries ≡ Some scopes)
     (room : 0 < (line_in (seen nodes (by_name bytes entries)) key scope).spare)
     (written : (line : Line) → lookup (bytes_eq scope) scopes ≡ Some line → new ≡ set_value (bytes_eq scope) scopes (with_last nodes.vacant_key line))
-    (adds : (line : Line) → lookup (bytes_eq scope) scopes ≡ Some line → Adds nodes others line number) where
+    (adds : (line : Line) → lookup (bytes_eq scope) scopes ≡ Some line → AddsNode nodes others line number) where
   here : (line : Line) × (lookup (bytes_eq scope) scopes ≡ Some line)
   here =
       let there = room_seen nodes (by_name bytes entries) key scope room in (

@@ -4,7 +4,7 @@ use Rattle.std.specs.Prelude.{◌&&◌, bytes_eq, is_none, not}
 use Rattle.std.specs.List.{list_all}
 use Rattle.sw_data.specs.declared.rows.JobRow.{JobRow}
 use Rattle.sw_rules.specs.Rows.{is_done, is_number, is_unfinished, queue}
-use Rattle.sw_queue.specs.Kept.{AreFrom, IsKept, is_led_before, number}
+use Rattle.sw_queue.specs.Kept.{AreFrom, IsQueued, is_led_before, number}
 use Rattle.sw_queue.specs.Lines.{Keyed, line_in}
 
 -- the two are of one job and have joined one
@@ -76,8 +76,8 @@ from_alike first [] (other ∷ others) alike are = absurd alike
 from_alike first (row ∷ rows) [] alike are = absurd alike
 
 -- rows of the same jobs keep all but the queues
-pub kept_but_queues : (rows others : List JobRow) (lists : List (List ℕ)) (lines after : Keyed) → AreBy IsSame rows others → IsKept rows lists lines
-    → ((key scope : List ℕ) → (line_in after key scope).numbers ≡ map number (queue key scope others)) → IsKept others lists after
+pub kept_but_queues : (rows others : List JobRow) (lists : List (List ℕ)) (lines after : Keyed) → AreBy IsSame rows others → IsQueued rows lists lines
+    → ((key scope : List ℕ) → (line_in after key scope).numbers ≡ map number (queue key scope others)) → IsQueued others lists after
 kept_but_queues rows others lists lines after alike kept queues = record {
   numbers = from_alike 0 rows others alike kept.numbers;
   count = kept.count ∙ sym (length_alike IsSame rows others alike);
@@ -96,7 +96,7 @@ same_rows (row ∷ rows) (other ∷ others) alike = (alike.0.same, same_rows row
 same_rows [] (other ∷ others) alike = absurd alike
 same_rows (row ∷ rows) [] alike = absurd alike
 
-pub kept_alike : (rows others : List JobRow) (lists : List (List ℕ)) (lines : Keyed) → AreBy IsAlike rows others → IsKept rows lists lines → IsKept others lists lines
+pub kept_alike : (rows others : List JobRow) (lists : List (List ℕ)) (lines : Keyed) → AreBy IsAlike rows others → IsQueued rows lists lines → IsQueued others lists lines
 kept_alike rows others lists lines alike kept =
     kept_but_queues rows others lists lines lines (same_rows rows others alike) kept
     (λ key scope.

@@ -12,7 +12,7 @@ use Rattle.sw_data.specs.declared.rows.Job.{Job}
 use Rattle.sw_data.specs.declared.rows.JobRow.{JobRow}
 use Rattle.sw_rules.specs.Jobs.{gets_value}
 use Rattle.sw_rules.specs.Rows.{changed, first_job, is_first, is_job, is_number, is_unfinished}
-use Rattle.sw_queue.specs.Kept.{AreFrom, IsKept, number}
+use Rattle.sw_queue.specs.Kept.{AreFrom, IsQueued, number}
 use Rattle.sw_queue.specs.Lines.{Keyed}
 use Rattle.sw_queue.specs.Tables.{FollowersStay, has_head, has_job}
 use Rattle.sw_queue.proofs.Places.{find_from}
@@ -20,7 +20,7 @@ use Rattle.sw_queue.proofs.Reading.{first_number}
 use Rattle.sw_queue.proofs.Running.{found_at, passing}
 
 -- the same lists are kept
-pub followers_stay : (rows others : List JobRow) (lists : List (List ℕ)) (lines after : Keyed) → IsKept rows lists lines → IsKept others lists after
+pub followers_stay : (rows others : List JobRow) (lists : List (List ℕ)) (lines after : Keyed) → IsQueued rows lists lines → IsQueued others lists after
     → FollowersStay rows others
 followers_stay rows others lists lines after kept now other = sym (now.followers other) ∙ kept.followers other
 
@@ -54,7 +54,7 @@ first_by rows row = by (first_job row.job.key row.job.scope rows)
     by None = refl
     by (Some first) = refl
 
-module _ (rows others : List JobRow) (lists : List (List ℕ)) (lines : Keyed) (kept : IsKept rows lists lines) (after : IsKept others lists lines) where
+module _ (rows others : List JobRow) (lists : List (List ℕ)) (lines : Keyed) (kept : IsQueued rows lists lines) (after : IsQueued others lists lines) where
   first_stays : (old new : JobRow) → new.job ≡ old.job → is_first rows old ≡ true → is_first others new ≡ true
   first_stays old new one_job first =
       first_by others new
@@ -70,8 +70,8 @@ module _ (rows others : List JobRow) (lists : List (List ℕ)) (lines : Keyed) (
       ∙ (λ i. first_stays old new one_job first i && passes i)
 
 -- the first of a queue is written
-pub head_set : (rows : List JobRow) (lists : List (List ℕ)) (lines : Keyed) (test : JobRow → Bool) (job : ℕ) (old new : JobRow) → IsKept rows lists lines
-    → IsKept (set rows job new) lists lines → job < length rows → new.job ≡ old.job → is_first rows old ≡ true → test new ≡ true
+pub head_set : (rows : List JobRow) (lists : List (List ℕ)) (lines : Keyed) (test : JobRow → Bool) (job : ℕ) (old new : JobRow) → IsQueued rows lists lines
+    → IsQueued (set rows job new) lists lines → job < length rows → new.job ≡ old.job → is_first rows old ≡ true → test new ≡ true
     → has_head test job (set rows job new) ≡ true
 head_set rows lists lines test job old new kept after below one_job first passes =
     head_stays rows (set rows job new) lists lines kept after test job old new
@@ -94,8 +94,8 @@ same_job result true row = refl
 same_job result false row = refl
 
 -- the first of a queue settles
-pub head_settled : (rows others : List JobRow) (lists : List (List ℕ)) (lines : Keyed) (job : ℕ) (result : Settlement) → IsKept rows lists lines
-    → IsKept others lists lines → others ≡ changed (gets_value job) (λ row. record row { settled = Some result }) rows
+pub head_settled : (rows others : List JobRow) (lists : List (List ℕ)) (lines : Keyed) (job : ℕ) (result : Settlement) → IsQueued rows lists lines
+    → IsQueued others lists lines → others ≡ changed (gets_value job) (λ row. record row { settled = Some result }) rows
     → has_job (is_first rows) job rows ≡ true → has_head (λ row. is_some row.settled) job others ≡ true
 head_settled rows others lists lines job result kept after is first =
     head_stays rows others lists lines kept after (λ row. is_some row.settled) job old settled

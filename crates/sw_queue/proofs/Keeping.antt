@@ -9,7 +9,7 @@ use Rattle.std.proofs.lemmas.List.{append-nil, map-append, length-set, get_or-se
 use Rattle.std.proofs.lemmas.List.Elements.{filter-append}
 use Rattle.sw_data.specs.declared.rows.JobRow.{JobRow}
 use Rattle.sw_rules.specs.Rows.{first_job, is_done, is_number, is_unfinished, queue}
-use Rattle.sw_queue.specs.Kept.{AreFrom, IsKept, followers_of, is_led_before, number}
+use Rattle.sw_queue.specs.Kept.{AreFrom, IsQueued, followers_of, is_led_before, number}
 use Rattle.sw_queue.specs.Lines.{Keyed, line_in}
 use Rattle.sw_queue.proofs.Alike.{IsSame, kept_but_queues, set_alike}
 
@@ -45,11 +45,11 @@ longer xs x n is = let sum = length-append xs (x ∷ []) in omega (arith, sum, i
 
 module _ (rows : List JobRow) (lists : List (List ℕ)) (lines after : Keyed) (new : JobRow) where
   -- a job that joined none stands in its queue
-  pub kept_queued : IsKept rows lists lines → number new ≡ length rows → new.leader ≡ None → is_done new.phase ≡ false
+  pub kept_queued : IsQueued rows lists lines → number new ≡ length rows → new.leader ≡ None → is_done new.phase ≡ false
       → ((key scope : List ℕ) → (line_in after key scope).numbers
       ≡ (if bytes_eq new.job.key key && bytes_eq new.job.scope scope then (line_in lines key scope).numbers ++ number new ∷ []
       else (line_in lines key scope).numbers))
-      → IsKept (rows ++ new ∷ []) (lists ++ [] ∷ []) after
+      → IsQueued (rows ++ new ∷ []) (lists ++ [] ∷ []) after
   kept_queued kept is joined done added = record {
     numbers = from_more 0 rows new kept.numbers (omega (arith, is));
     count = longer lists [] (length rows) kept.count ∙ sym (longer rows new (length rows) refl);
@@ -81,8 +81,8 @@ module _ (rows : List JobRow) (lists : List (List ℕ)) (lines after : Keyed) (n
           (λ (is : job ≡ leader). let no_same : (leader == job) ≡ true = grind (arith, nat_tests, is) in absurd cc)
 
   -- a job that joined another stands among the followers of that one
-  pub kept_joined : IsKept rows lists lines → number new ≡ length rows → (leader : ℕ) → new.leader ≡ Some leader → leader < length rows
-      → IsKept (rows ++ new ∷ []) (set lists leader (get_or lists leader [] ++ number new ∷ []) ++ [] ∷ []) lines
+  pub kept_joined : IsQueued rows lists lines → number new ≡ length rows → (leader : ℕ) → new.leader ≡ Some leader → leader < length rows
+      → IsQueued (rows ++ new ∷ []) (set lists leader (get_or lists leader [] ++ number new ∷ []) ++ [] ∷ []) lines
   kept_joined kept is leader joined below = record {
     numbers = from_more 0 rows new kept.numbers (omega (arith, is));
     count =
@@ -195,12 +195,12 @@ left_queue rows place row new are is here found done key scope = by (bytes_eq ro
     by true false one two = stays (λ i. one i && two i)
     by false same_scope one two = stays (λ i. one i && two i)
 
-pub kept_finished : (rows : List JobRow) (lists : List (List ℕ)) (lines after : Keyed) (place : ℕ) (row new : JobRow) → IsKept rows lists lines
+pub kept_finished : (rows : List JobRow) (lists : List (List ℕ)) (lines after : Keyed) (place : ℕ) (row new : JobRow) → IsQueued rows lists lines
     → number row ≡ place → place < length rows → row ≡ get_or rows place row → first_job row.job.key row.job.scope rows ≡ Some row
     → new.job ≡ row.job → new.leader ≡ row.leader → is_done new.phase ≡ true
     → ((key scope : List ℕ) → (line_in after key scope).numbers
     ≡ (if bytes_eq row.job.key key && bytes_eq row.job.scope scope then drop 1 (line_in lines key scope).numbers else (line_in lines key scope).numbers))
-    → IsKept (set rows place new) lists after
+    → IsQueued (set rows place new) lists after
 kept_finished rows lists lines after place row new kept is below read found one_job one_leader done dropped =
     let here = read ∙ get_or_default rows place row new below in
     kept_but_queues rows (set rows place new) lists lines after
@@ -214,8 +214,8 @@ kept_finished rows lists lines after place row new kept is below read found one_
 
 -- what is kept of these is kept of those, which are the same
 pub kept_is : (rows those_rows : List JobRow) (lists those_lists : List (List ℕ)) (lines those : Keyed) → rows ≡ those_rows → lists ≡ those_lists → lines ≡ those
-    → IsKept those_rows those_lists those → IsKept rows lists lines
+    → IsQueued those_rows those_lists those → IsQueued rows lists lines
 kept_is rows those_rows lists those_lists lines those one two three kept =
-    subst (λ (r : List JobRow). IsKept r lists lines) (sym one)
-    (subst (λ (l : List (List ℕ)). IsKept those_rows l lines) (sym two)
-    (subst (λ (k : Keyed). IsKept those_rows those_lists k) (sym three) kept))
+    subst (λ (r : List JobRow). IsQueued r lists lines) (sym one)
+    (subst (λ (l : List (List ℕ)). IsQueued those_rows l lines) (sym two)
+    (subst (λ (k : Keyed). IsQueued those_rows those_lists k) (sym three) kept))

@@ -11,9 +11,9 @@ use Rattle.sw_data.specs.declared.rows.JobPhase.TheVariants as job_phase
 use Rattle.sw_data.specs.declared.rows.JobRow.{JobRow}
 use Rattle.sw_rules.specs.Rows.{first_job, is_in_phase, is_waiting}
 use Rattle.sw_list.proofs.Placing.{flags_set}
-use Rattle.sw_queue.specs.Kept.{AreFrom, IsKept, number}
+use Rattle.sw_queue.specs.Kept.{AreFrom, IsQueued, number}
 use Rattle.sw_queue.specs.Lines.{Keyed, line_in}
-use Rattle.sw_queue.specs.Ready.{AreMarked, Ready, is_head, led_by, may_start, moved}
+use Rattle.sw_queue.specs.Ready.{AreMarked, Ready, is_head, led_by, may_start, beyond_waiting}
 use Rattle.sw_queue.specs.Tables.{has_head, with_phase}
 use Rattle.sw_queue.proofs.Keeping.{kept_finished}
 use Rattle.sw_queue.proofs.Reading.{first_number}
@@ -97,7 +97,7 @@ module _ (rows : List JobRow) (lines after : Keyed) (ready : Ready) (place : ℕ
           ∙ ap (λ (fs : List Bool). get_or fs i false) flags_are
           ∙ sym (there i within is)
 
-  marked_by : (flags : List Bool) → map (may_start after) after_rows ≡ flags → AreMarked after_rows after (record (moved place new.phase ready) { starting = flags })
+  marked_by : (flags : List Bool) → map (may_start after) after_rows ≡ flags → AreMarked after_rows after (record (beyond_waiting place new.phase ready) { starting = flags })
   marked_by flags is =
       let rest = marked_moved rows lines ready place new marked alone past in
       record { starting = is; fetching = rest.fetching; evaluating = rest.evaluating; installing = rest.installing }
@@ -106,7 +106,7 @@ module _ (rows : List JobRow) (lines after : Keyed) (ready : Ready) (place : ℕ
   many = length-set ready.starting place false ∙ (sym (ap length marked.starting) ∙ length-map rows (may_start lines))
 
   -- the queue is empty
-  marked_last : next ≡ None → AreMarked after_rows after (moved place new.phase ready)
+  marked_last : next ≡ None → AreMarked after_rows after (beyond_waiting place new.phase ready)
   marked_last none =
       marked_by (set ready.starting place false)
       (starting_by (set ready.starting place false) many
@@ -115,7 +115,7 @@ module _ (rows : List JobRow) (lines after : Keyed) (ready : Ready) (place : ℕ
 
   -- another job is its first
   marked_next : (n : ℕ) (d : JobRow) (starts : Bool) → next ≡ Some n → n < length rows → starts ≡ may_start after (get_or after_rows n d)
-      → AreMarked after_rows after (record (moved place new.phase ready) { starting = set (set ready.starting place false) n starts })
+      → AreMarked after_rows after (record (beyond_waiting place new.phase ready) { starting = set (set ready.starting place false) n starts })
   marked_next n d starts some within is =
       marked_by (set (set ready.starting place false) n starts)
       (starting_by (set (set ready.starting place false) n starts) (length-set (set ready.starting place false) n starts ∙ many) here there)
@@ -136,14 +136,14 @@ module _ (rows : List JobRow) (lines after : Keyed) (ready : Ready) (place : ℕ
 
   -- what is the first of the queue now may start, where it waits
   pub marked_done : (head : Option ℕ) → head ≡ next → IfSome head (λ n. n < length after_rows)
-      → AreMarked after_rows after (led_by head after after_rows (moved place new.phase ready))
+      → AreMarked after_rows after (led_by head after after_rows (beyond_waiting place new.phase ready))
   marked_done None is within = marked_last (sym is)
   marked_done (Some n) is within =
       marked_next n new (option_map_or (may_start after) (slice_get after_rows n) false) (sym is) (omega (arith, within, length-set rows place new))
       (ap (λ (row : Option JobRow). option_map_or (may_start after) row false) (slice_get-get_or after_rows n new within))
 
 -- the first of a queue is there
-pub head_there : (rows : List JobRow) (lists : List (List ℕ)) (lines : Keyed) (key scope : List ℕ) (head : Option ℕ) → IsKept rows lists lines
+pub head_there : (rows : List JobRow) (lists : List (List ℕ)) (lines : Keyed) (key scope : List ℕ) (head : Option ℕ) → IsQueued rows lists lines
     → head ≡ slice_get (line_in lines key scope).numbers 0 → IfSome head (λ n. n < length rows)
 head_there rows lists lines key scope None kept is = tt
 head_there rows lists lines key scope (Some n) kept is =
@@ -169,10 +169,10 @@ pub record HasLeft (rows : List JobRow) (lists : List (List ℕ)) (lines after :
   pub leads : slice_get (line_in lines old.job.key old.job.scope).numbers 0 ≡ Some place
   pub dropped : (key scope : List ℕ) → (line_in after key scope).numbers
       ≡ (if bytes_eq old.job.key key && bytes_eq old.job.scope scope then drop 1 (line_in lines key scope).numbers else (line_in lines key scope).numbers)
-  pub kept : IsKept (set rows place (with_phase job_phase.Done old)) lists after
+  pub kept : IsQueued (set rows place (with_phase job_phase.Done old)) lists after
 
 pub has_left : (test : JobRow → Bool) (rows : List JobRow) (lists : List (List ℕ)) (lines after : Keyed) (place : ℕ) (old read : JobRow) (its_key its_scope : List ℕ)
-    → IsKept rows lists lines → has_head test place rows ≡ true → old ≡ get_or rows place old → read ≡ get_or rows place read
+    → IsQueued rows lists lines → has_head test place rows ≡ true → old ≡ get_or rows place old → read ≡ get_or rows place read
     → its_key ≡ read.job.key → its_scope ≡ read.job.scope
     → ((key scope : List ℕ) → (line_in after key scope).numbers
     ≡ (if bytes_eq its_key key && bytes_eq its_scope scope then drop 1 (line_in lines key scope).numbers else (line_in lines key scope).numbers))

@@ -7,7 +7,7 @@ use Rattle.std.proofs.lemmas.Bool.Decides.{nat_tests}
 use Rattle.std.proofs.lemmas.List.Sums.{sum_by-set}
 use Rattle.slab.specs.Slab.{Slab, Updates, get, slab_len, with_value}
 use Rattle.slab.proofs.SlabLemmas.{ContainsKey-within, Updates-with_value}
-use Rattle.sw_queue.specs.Links.{Adds, Leads, Name, IsNodeOf, followed, numbers_from, with_link}
+use Rattle.sw_queue.specs.Links.{AddsNode, Leads, Name, IsNodeOf, followed, numbers_from, with_link}
 use Rattle.sw_queue.specs.declared.line.Line.{Line}
 use Rattle.sw_queue.specs.declared.line.Node.{Node}
 
@@ -64,7 +64,7 @@ linked_other nodes line next place other = by (line.count == 0) (get nodes line.
 -- a number comes into a vacant place, once the last node links it
 pub linked_adds : (old new : Slab Node) (line : Line) (number : ℕ) → get old old.vacant_key ≡ None
     → Updates (with_link old line old.vacant_key) new old.vacant_key (Some (record { job = number; next = None }))
-    → slab_len new ≡ slab_len (with_link old line old.vacant_key) + 1 → Adds old new line number
+    → slab_len new ≡ slab_len (with_link old line old.vacant_key) + 1 → AddsNode old new line number
 linked_adds old new line number vacant updates longer = record {
   vacant = vacant;
   added = updates.changed;

@@ -9,9 +9,9 @@ use Rattle.sw_data.specs.declared.rows.JobPhase.TheVariants as job_phase
 use Rattle.sw_data.specs.declared.rows.JobRow.{JobRow}
 use Rattle.sw_rules.specs.Rows.{changed, first_job, is_in_phase, is_done, is_evaluating, is_fetching, is_first, is_installing, is_unfinished, is_waiting}
 use Rattle.sw_list.proofs.Placing.{flags_set}
-use Rattle.sw_queue.specs.Kept.{AreFrom, IsKept, number}
+use Rattle.sw_queue.specs.Kept.{AreFrom, IsQueued, number}
 use Rattle.sw_queue.specs.Lines.{Keyed, line_in}
-use Rattle.sw_queue.specs.Ready.{AreMarked, HasFlags, Ready, is_head, may_start, moved}
+use Rattle.sw_queue.specs.Ready.{AreMarked, HasFlags, Ready, is_head, may_start, beyond_waiting}
 use Rattle.sw_queue.specs.Tables.{is_under_way}
 use Rattle.sw_queue.proofs.Heads.{first_by}
 use Rattle.sw_queue.proofs.Reading.{first_number}
@@ -24,7 +24,7 @@ is_at own head = option_map_or (λ n. n == own) head false
 -- ---- what the flags tell
 
 -- the first of a line is the first of its queue
-pub starting_told : (rows : List JobRow) (lists : List (List ℕ)) (lines : Keyed) (ready : Ready) → IsKept rows lists lines → AreMarked rows lines ready
+pub starting_told : (rows : List JobRow) (lists : List (List ℕ)) (lines : Keyed) (ready : Ready) → IsQueued rows lists lines → AreMarked rows lines ready
     → map (λ row. is_in_phase is_waiting row && is_first rows row) rows ≡ ready.starting
 starting_told rows lists lines ready kept marked = (λ i. map (λ row. is_in_phase is_waiting row && head row i) rows) ∙ marked.starting
   where
@@ -59,7 +59,7 @@ in_phase_is test row alone = λ i. sym alone i && test row.phase
 
 -- the rest of the flags, once the row of a place is in another phase
 pub marked_moved : (rows : List JobRow) (lines : Keyed) (ready : Ready) (place : ℕ) (new : JobRow) → AreMarked rows lines ready
-    → is_none new.leader ≡ true → is_waiting new.phase ≡ false → AreMarked (set rows place new) lines (moved place new.phase ready)
+    → is_none new.leader ≡ true → is_waiting new.phase ≡ false → AreMarked (set rows place new) lines (beyond_waiting place new.phase ready)
 marked_moved rows lines ready place new marked alone past = record {
   starting = flags_set (may_start lines) rows ready.starting place new false marked.starting (sym (starts_not lines new past));
   fetching = flags_set (is_in_phase is_fetching) rows ready.fetching place new _ marked.fetching (in_phase_is is_fetching new alone);

@@ -7,7 +7,7 @@ use Rattle.std.proofs.lemmas.Bool.Decides.{nat_tests}
 use Rattle.std.proofs.lemmas.Option.{slice_get-get_or, slice_get_past}
 use Rattle.sw_data.specs.declared.rows.JobRow.{JobRow}
 use Rattle.sw_rules.specs.Rows.{first_job, is_job, is_unfinished, last_job, queue}
-use Rattle.sw_queue.specs.Kept.{IsKept, number}
+use Rattle.sw_queue.specs.Kept.{IsQueued, number}
 use Rattle.sw_queue.specs.Lines.{Keyed, line_in}
 use Rattle.sw_queue.proofs.Places.{find-filter, find_from, last-map}
 
@@ -22,7 +22,7 @@ first-map : {X Y : Type 0} (f : X → Y) (xs : List X) → slice_get (map f xs) 
 first-map f [] = refl
 first-map f (x ∷ xs) = refl
 
-module _ (rows : List JobRow) (lists : List (List ℕ)) (lines : Keyed) (kept : IsKept rows lists lines) where
+module _ (rows : List JobRow) (lists : List (List ℕ)) (lines : Keyed) (kept : IsQueued rows lists lines) where
   pub row_found : (job : ℕ) → slice_get rows job ≡ find (is_job job) rows
   row_found job = sym (find_from 0 rows kept.numbers job job (omega arith))
 

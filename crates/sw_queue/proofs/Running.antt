@@ -11,7 +11,7 @@ use Rattle.sw_data.specs.declared.rows.JobPhase.TheVariants as job_phase
 use Rattle.sw_data.specs.declared.rows.JobRow.{JobRow}
 use Rattle.sw_rules.specs.Jobs.{is_equivalent}
 use Rattle.sw_rules.specs.Rows.{changed, first_job, is_done, is_first, is_job, is_unfinished, is_waiting, last_job, queue}
-use Rattle.sw_queue.specs.Kept.{AreFrom, IsKept, number}
+use Rattle.sw_queue.specs.Kept.{AreFrom, IsQueued, number}
 use Rattle.sw_queue.specs.Lines.{Keyed}
 use Rattle.sw_queue.specs.Tables.{Table, has_job, is_under_way, joined_in, ready_job}
 use Rattle.sw_queue.proofs.Alike.{IsAlike, kept_alike, set_alike}
@@ -125,9 +125,9 @@ module _ (rows : List JobRow) (are : AreFrom 0 rows) where
   rows_set f job old here below = ap (λ (row : JobRow). set rows job (f row)) here ∙ set_from f 0 rows are job job old (omega arith) below
 
 -- a change that leaves a row alike keeps what is kept
-pub kept_set : (rows : List JobRow) (lists : List (List ℕ)) (lines : Keyed) → IsKept rows lists lines → (job : ℕ) (old new : JobRow)
+pub kept_set : (rows : List JobRow) (lists : List (List ℕ)) (lines : Keyed) → IsQueued rows lists lines → (job : ℕ) (old new : JobRow)
     → old ≡ get_or rows job old → new.job ≡ old.job → new.leader ≡ old.leader → is_done new.phase ≡ is_done old.phase
-    → IsKept (set rows job new) lists lines
+    → IsQueued (set rows job new) lists lines
 kept_set rows lists lines kept job old new here one_job one_leader one_end =
     kept_alike rows (set rows job new) lists lines
     (set_alike IsAlike (λ row. record { same = record { job = refl; leader = refl }; done = refl }) rows job old new

@@ -10,7 +10,7 @@ use Rattle.sw_data.specs.declared.answers.Settlement.{Settlement}
 use Rattle.sw_data.specs.declared.rows.JobRow.{JobRow}
 use Rattle.sw_rules.specs.Jobs.{gets_value}
 use Rattle.sw_rules.specs.Rows.{changed, is_job, is_number}
-use Rattle.sw_queue.specs.Kept.{AreFrom, IsKept, followers_of, number}
+use Rattle.sw_queue.specs.Kept.{AreFrom, IsQueued, followers_of, number}
 use Rattle.sw_queue.specs.Lines.{Keyed}
 use Rattle.sw_queue.specs.Tables.{given, settled_all}
 use Rattle.sw_queue.proofs.Alike.{AreBy, IsAlike, from_alike, kept_alike, length_alike, map_alike, same_rows}
@@ -191,10 +191,10 @@ settled_whole result rows seen done job followers are one two is =
     ∙ (ap (changed (is_job job) (given result)) (settled_passing result (λ row. is_number row.leader job) 0 rows are) ∙ settled_rows result job rows)) in
     (whole, ap length whole ∙ length-map rows (λ row. if gets_value job row then record row { settled = Some result } else row))
 
-pub kept_settled : (result : Settlement) (rows others : List JobRow) (lists : List (List ℕ)) (lines : Keyed) (job : ℕ) → IsKept rows lists lines
-    → others ≡ changed (gets_value job) (λ row. record row { settled = Some result }) rows → IsKept others lists lines
+pub kept_settled : (result : Settlement) (rows others : List JobRow) (lists : List (List ℕ)) (lines : Keyed) (job : ℕ) → IsQueued rows lists lines
+    → others ≡ changed (gets_value job) (λ row. record row { settled = Some result }) rows → IsQueued others lists lines
 kept_settled result rows others lists lines job kept is =
-    subst (λ (r : List JobRow). IsKept r lists lines) (sym is)
+    subst (λ (r : List JobRow). IsQueued r lists lines) (sym is)
     (kept_alike rows (changed (gets_value job) (λ row. record row { settled = Some result }) rows) lists lines
     (changed_alike (gets_value job) (λ row. record row { settled = Some result })
     (λ row. record { same = record { job = refl; leader = refl }; done = refl }) rows) kept)

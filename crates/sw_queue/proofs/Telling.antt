@@ -13,7 +13,7 @@ use Rattle.sw_data.specs.declared.answers.Settlement.{Settlement}
 use Rattle.sw_data.specs.declared.rows.JobRow.{JobRow}
 use Rattle.sw_rules.specs.Jobs.{gets_value}
 use Rattle.sw_rules.specs.Rows.{is_job, is_number}
-use Rattle.sw_queue.specs.Kept.{AreFrom, IsKept, followers_of, is_led_before, number}
+use Rattle.sw_queue.specs.Kept.{AreFrom, IsQueued, followers_of, is_led_before, number}
 use Rattle.sw_queue.specs.Lines.{Keyed}
 use Rattle.sw_queue.specs.Tables.{told_at, told_of}
 use Rattle.sw_queue.proofs.Places.{each_there, find_from}
@@ -140,7 +140,7 @@ told_numbers result test all (row ∷ rows) there = by (test row) (told_numbers 
     by true rest = λ i. option_map_or (told_of result) (there.0 i) [] ++ rest i
     by false rest = rest
 
-pub told_whole : (result : Settlement) (rows : List JobRow) (lists : List (List ℕ)) (lines : Keyed) → IsKept rows lists lines → (job : ℕ)
+pub told_whole : (result : Settlement) (rows : List JobRow) (lists : List (List ℕ)) (lines : Keyed) → IsQueued rows lists lines → (job : ℕ)
     → told_at result rows job ++ flat_map (told_at result rows) (followers_of job rows)
     ≡ map (λ row. notice.Settled row.job.number result) (filter (λ row. gets_value job row && row.job.has_client) rows)
 told_whole result rows lists lines kept job =

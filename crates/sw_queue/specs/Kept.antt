@@ -22,7 +22,7 @@ followers_of job rows = map number (filter (λ row. is_number row.leader job) ro
 abbrev pub is_led_before : JobRow → Bool
 is_led_before row = option_map_or (λ leader. nat_lt leader row.job.number) row.leader true
 
-pub record IsKept (rows : List JobRow) (lists : List (List ℕ)) (lines : Keyed) : Type 0 where
+pub record IsQueued (rows : List JobRow) (lists : List (List ℕ)) (lines : Keyed) : Type 0 where
   pub numbers : AreFrom 0 rows
   pub count : length lists ≡ length rows
   pub queues : (key scope : List ℕ) → (line_in lines key scope).numbers ≡ map number (queue key scope rows)

@@ -49,7 +49,7 @@ without_first nodes line =
     else option_map_or (λ node. record line { first = unwrap_or node.next line.first; count = line.count - 1 }) (get nodes line.first) line
 
 -- own: a number came into a place that was vacant, behind the last node of a line
-pub record Adds (old new : Slab Node) (line : Line) (number : ℕ) : Type 0 where
+pub record AddsNode (old new : Slab Node) (line : Line) (number : ℕ) : Type 0 where
   pub vacant : get old old.vacant_key ≡ None
   pub added : get new old.vacant_key ≡ Some (record { job = number; next = None })
   pub behind : 0 < line.count → (node : Node) → get old line.last ≡ Some node → get new line.last ≡ Some (followed old.vacant_key node)

@@ -7,7 +7,7 @@ use Rattle.sw_data.specs.declared.rows.JobPhase.{JobPhase}
 use Rattle.sw_data.specs.declared.rows.JobRow.{JobRow}
 use Rattle.sw_list.specs.Tally.{Tally, count_of}
 use Rattle.sw_rules.specs.Rows.{is_in_phase, is_evaluating, is_fetching, is_installing, is_unfinished, is_waiting}
-use Rattle.sw_queue.specs.Kept.{IsKept}
+use Rattle.sw_queue.specs.Kept.{IsQueued}
 use Rattle.sw_queue.specs.Lines.{Keyed, line_in}
 
 -- own: which jobs may start, fetch, are to be evaluated, and install, and for how many more there is room
@@ -26,8 +26,8 @@ pub record HasFlags (place : ℕ) (ready : Ready) : Type 0 where
   pub installing : place < length ready.installing
 
 -- own: the job of a place is past waiting, in this phase
-abbrev pub moved : ℕ → JobPhase → Ready → Ready
-moved place phase ready = record ready {
+abbrev pub beyond_waiting : ℕ → JobPhase → Ready → Ready
+beyond_waiting place phase ready = record ready {
   starting = slice_set ready.starting place false;
   fetching = slice_set ready.fetching place (is_fetching phase);
   evaluating = slice_set ready.evaluating place (is_evaluating phase);
@@ -66,6 +66,6 @@ AreTallied rows keys = (key : List ℕ) → count_of keys key ≡ length (filter
 
 -- own: what is kept of the rows, which of them are ready, and the keys of those that are unfinished
 pub record IsIndexed (rows : List JobRow) (lists : List (List ℕ)) (lines : Keyed) (ready : Ready) (keys : Tally) : Type 0 where
-  pub kept : IsKept rows lists lines
+  pub kept : IsQueued rows lists lines
   pub marked : AreMarked rows lines ready
   pub tallied : AreTallied rows keys

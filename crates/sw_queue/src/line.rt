@@ -2,7 +2,7 @@
 
 ghost use Rattle.std.specs.Prelude.{◌≡◌, ◌≤◌, slice_get};
 ghost use Rattle.slab.specs.Slab.{HasRoomFor, slab_len};
-ghost use Rattle.sw_queue.specs.Links.{Adds, Drops, last_number, no_nodes, numbers_of, with_last, with_link, without_first};
+ghost use Rattle.sw_queue.specs.Links.{AddsNode, Drops, last_number, no_nodes, numbers_of, with_last, with_link, without_first};
 
 use slab::Slab;
 
@@ -71,7 +71,7 @@ impl Line {
         requires room { HasRoomFor nodes.old 1 }
         requires count { self.old.count ≤ slab_len nodes.old }
         ensures line { self.new ≡ with_last nodes.old.vacant_key self.old }
-        ensures nodes { Adds nodes.old nodes.new self.old number }
+        ensures nodes { AddsNode nodes.old nodes.new self.old number }
     {
         let place = nodes.vacant_key();
         self.link_last(nodes, place);

@@ -3,7 +3,7 @@
 ghost use Rattle.std.specs.Prelude.{◌≡◌, ◌++◌, ◌∷◌, [], ◌-◌, ◌<◌, Bool, false, drop, find, length, map, slice_set, OnOk};
 ghost use Rattle.std.specs.Option.{option_copied};
 ghost use Rattle.sw_data.specs.declared.rows.JobRow.{JobRow};
-ghost use Rattle.sw_queue.specs.Ready.{HasFlags, moved};
+ghost use Rattle.sw_queue.specs.Ready.{HasFlags, beyond_waiting};
 
 use std::alloc::Global;
 use std::marker::Model;
@@ -94,7 +94,7 @@ impl Ready {
     // The job of a place is past waiting, in this phase; it takes no memory.
     pub(crate) fn set_phase(&mut self, place: usize, phase: JobPhase)
         requires { HasFlags place self.old }
-        ensures { self.new ≡ moved place phase self.old }
+        ensures { self.new ≡ beyond_waiting place phase self.old }
     {
         self.starting.set(place, false);
         self.fetching

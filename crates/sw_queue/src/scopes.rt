@@ -4,7 +4,7 @@ ghost use Rattle.std.specs.Prelude.{◌≡◌, ◌∷◌, [], ◌≤◌, List, �
 ghost use Rattle.std.specs.Map.{lookup, set_value};
 ghost use Rattle.slab.specs.Slab.{HasRoomFor, slab_len};
 ghost use Rattle.sw_queue.specs.Lines.{named};
-ghost use Rattle.sw_queue.specs.Links.{Adds, Drops, count_by_scope, last_number, no_nodes, numbers_of, with_last, without_first};
+ghost use Rattle.sw_queue.specs.Links.{AddsNode, Drops, count_by_scope, last_number, no_nodes, numbers_of, with_last, without_first};
 ghost use Rattle.sw_queue.specs.declared.line.Line.{Line};
 
 use crate::line::{Line, Node};
@@ -84,7 +84,7 @@ impl Scopes {
         ensures line { (line : Line) → lookup (bytes_eq scope.now) self.old ≡ Some line
             → self.new ≡ set_value (bytes_eq scope.now) self.old (with_last nodes.old.vacant_key line) }
         ensures nodes { (line : Line) → lookup (bytes_eq scope.now) self.old ≡ Some line
-            → Adds nodes.old nodes.new line number }
+            → AddsNode nodes.old nodes.new line number }
     {
         if let Some(line) = self.lines.get_mut(scope) {
             line.add(nodes, number);

@@ -9,7 +9,7 @@ use Rattle.sw_data.specs.declared.workers.Slot.TheVariants as place
 use Rattle.sw_reg.specs.declared.edit.Edit.{Edit}
 use Rattle.sw_reg.specs.declared.edit.Edit.TheVariants as edit_of
 use Rattle.sw_reg.specs.Edits.{edited}
-use Rattle.sw_reg.specs.Kept.{ArePlaced, IsKept, IsNew}
+use Rattle.sw_reg.specs.Kept.{ArePlaced, IsListed, IsNew}
 use Rattle.sw_reg.specs.Table.{firsts, has_first, is_registration, is_there, registration_at}
 use Rattle.sw_rules.proofs.Places.{changed_here, found_here, found_none, more_at_places, place_within, set_at_places}
 
@@ -61,7 +61,7 @@ edited_first (edit_of.Waiting first) row has = by row.first has
     by (Some n) has = refl
 
 -- there are as many flags as registrations
-pub many_flags : (rows : List RegistrationRow) (count : ℕ) (flags : List Bool) → IsKept rows count flags → length flags ≡ length rows
+pub many_flags : (rows : List RegistrationRow) (count : ℕ) (flags : List Bool) → IsListed rows count flags → length flags ≡ length rows
 many_flags rows count flags kept = sym (ap length kept.owed) ∙ length-map rows (λ row. row.owed)
 
 -- ---- the count
@@ -99,15 +99,15 @@ had_same false true keeps is = absurd cc
 had_same true new keeps is = keeps refl
 
 -- there is room to count one more
-pub countable : (rows : List RegistrationRow) (count : ℕ) (flags : List Bool) (n : ℕ) (old new : RegistrationRow) → IsKept rows count flags
+pub countable : (rows : List RegistrationRow) (count : ℕ) (flags : List Bool) (n : ℕ) (old new : RegistrationRow) → IsListed rows count flags
     → n < length rows → old ≡ slice_index_or rows n old → gets_first old new ≡ true → count + 1 < 2 ^ 32
 countable rows count flags n old new kept below is_at gets =
     let none = ap has_first (sym is_at) ∙ (had_none (has_first old) (has_first new) gets).0 in
     omega (arith, kept.many, kept.counted, firsts_below rows n old below none)
 
 set_kept : (edit : Edit) (rows : List RegistrationRow) (count more : ℕ) (flags : List Bool) (n : ℕ) (old new : RegistrationRow)
-    → IsKept rows count flags → n < length rows → old ≡ slice_index_or rows n old → new ≡ edited edit old → more ≡ firsts (slice_set rows n new)
-    → IsKept (slice_set rows n new) more (slice_set flags n new.owed)
+    → IsListed rows count flags → n < length rows → old ≡ slice_index_or rows n old → new ≡ edited edit old → more ≡ firsts (slice_set rows n new)
+    → IsListed (slice_set rows n new) more (slice_set flags n new.owed)
 set_kept edit rows count more flags n old new kept below is_at is counted = record {
   places = set_at_places (λ place row. row.number ≡ place) rows n new kept.places below
       (ap number is ∙ edited_number edit old ∙ ap number is_at ∙ kept.places n old below);
@@ -118,8 +118,8 @@ set_kept edit rows count more flags n old new kept below is_at is counted = reco
 
 -- a registration that gets its first waiting worker is counted
 pub kept_first : (edit : Edit) (rows : List RegistrationRow) (count : ℕ) (flags : List Bool) (n : ℕ) (old new : RegistrationRow)
-    → IsKept rows count flags → n < length rows → old ≡ slice_index_or rows n old → new ≡ edited edit old → gets_first old new ≡ true
-    → IsKept (slice_set rows n new) (count + 1) (slice_set flags n new.owed)
+    → IsListed rows count flags → n < length rows → old ≡ slice_index_or rows n old → new ≡ edited edit old → gets_first old new ≡ true
+    → IsListed (slice_set rows n new) (count + 1) (slice_set flags n new.owed)
 kept_first edit rows count flags n old new kept below is_at is gets =
     let sum = firsts_set rows n new old below in
     let counted = kept.counted in
@@ -130,8 +130,8 @@ kept_first edit rows count flags n old new kept below is_at is gets =
 
 -- each other one is counted as before
 pub kept_same : (edit : Edit) (rows : List RegistrationRow) (count : ℕ) (flags : List Bool) (n : ℕ) (old new : RegistrationRow)
-    → IsKept rows count flags → n < length rows → old ≡ slice_index_or rows n old → new ≡ edited edit old → gets_first old new ≡ false
-    → IsKept (slice_set rows n new) count (slice_set flags n new.owed)
+    → IsListed rows count flags → n < length rows → old ≡ slice_index_or rows n old → new ≡ edited edit old → gets_first old new ≡ false
+    → IsListed (slice_set rows n new) count (slice_set flags n new.owed)
 kept_same edit rows count flags n old new kept below is_at is gets =
     let sum = firsts_set rows n new old below in
     let counted = kept.counted in
@@ -141,8 +141,8 @@ kept_same edit rows count flags n old new kept below is_at is gets =
 
 -- ---- one more registration
 
-pub kept_more : (rows : List RegistrationRow) (count : ℕ) (flags : List Bool) (new : RegistrationRow) → IsKept rows count flags → IsNew new
-    → new.number ≡ length rows → IsKept (rows ++ new ∷ []) count (flags ++ new.owed ∷ [])
+pub kept_more : (rows : List RegistrationRow) (count : ℕ) (flags : List Bool) (new : RegistrationRow) → IsListed rows count flags → IsNew new
+    → new.number ≡ length rows → IsListed (rows ++ new ∷ []) count (flags ++ new.owed ∷ [])
 kept_more rows count flags new kept fresh is =
     let none : has_first new ≡ false = ap is_some fresh.first in
     record {

@@ -11,7 +11,7 @@ pub record IsNew (row : RegistrationRow) : Type 0 where
   pub first : row.first ≡ None
   pub number : row.number + 1 < 2 ^ 32
 
-pub record IsKept (rows : List RegistrationRow) (count : ℕ) (flags : List Bool) : Type 0 where
+pub record IsListed (rows : List RegistrationRow) (count : ℕ) (flags : List Bool) : Type 0 where
   pub places : ArePlaced rows
   pub many : length rows < 2 ^ 32
   pub counted : count ≡ firsts rows

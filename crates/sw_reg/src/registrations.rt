@@ -31,14 +31,14 @@ impl Model for Registrations {
     ghost use Rattle.std.specs.Prelude.{◌-◌, ◌≤◌, min};
     ghost use Rattle.std.specs.Vec.{vec_len, vec_capacity};
     ghost use Rattle.sw_reg.specs.ByKey.{IsIndex, keys_of, room};
-    ghost use Rattle.sw_reg.specs.Kept.{IsKept};
+    ghost use Rattle.sw_reg.specs.Kept.{IsListed};
     ghost use Rattle.sw_reg.specs.Table.{Table};
 
     ghost Value = { Table };
 
     ghost view = { λ r. record { rows = r.rows.items; spare = r.spare } };
 
-    ghost invariant = { λ r. IsKept r.rows.items r.firsts r.owed.flags
+    ghost invariant = { λ r. IsListed r.rows.items r.firsts r.owed.flags
         × IsIndex (keys_of r.rows.items) r.by_key
         × (r.spare ≤ min (vec_capacity r.rows - vec_len r.rows) (min (room r.by_key) r.owed.spare)) };
 }

@@ -20,7 +20,7 @@ use Rattle.sw_laws.specs.Coherent.{Coherent}
 use Rattle.sw_laws.proofs.LawProofs.{is_always_coherent}
 use Rattle.sw_roster.proofs.Free.{task_free}
 use Rattle.sw_roster.proofs.Recents.{asked_closed, asked_recent, happened_closed, happened_recent, none_recent}
-use Rattle.sw_roster.specs.Beats.{AreClosed, HasEnded, HasRoster, IsDone, IsDue, IsRecent, IsSpent, IsStalled, after_asked, answered, entries_of, event_of_line, is_action, is_of_line, line_event, next_event, next_line, state_at}
+use Rattle.sw_roster.specs.Beats.{AreClosed, HasPlayedOut, HasRoster, IsDone, IsDue, IsRecent, IsSpent, IsStalled, after_asked, answered, entries_of, event_of_line, is_action, is_of_line, line_event, next_event, next_line, state_at}
 use Rattle.sw_roster.specs.Members.{dropped, turned}
 use Rattle.sw_roster.specs.Playing.{GoesOn, HasAnswered, HasBegun, HasHappened, HasSettled, IsPlayed}
 use Rattle.sw_roster.specs.declared.beats.Beat.{Beat}
@@ -229,21 +229,21 @@ module _ (lines : List RosterLine) (past : List Beat) where
       let may : enabled (state_at past) stalled.happened ≡ true = ap (enabled (state_at past)) same ∙ due.2 in
       absurd cc
 
-  ends_done : IsDone lines past → HasEnded lines past ending.Done
+  ends_done : IsDone lines past → HasPlayedOut lines past ending.Done
   ends_done done = record {
     done = (λ is. done, λ is. refl);
     stalled = (λ is. absurd cc, λ stalled. absurd (done_not_stalled done stalled));
     spent = λ is. absurd cc;
   }
 
-  ends_stalled : IsStalled lines past → HasEnded lines past ending.Stalled
+  ends_stalled : IsStalled lines past → HasPlayedOut lines past ending.Stalled
   ends_stalled stalled = record {
     done = (λ is. absurd cc, λ done. absurd (done_not_stalled done stalled));
     stalled = (λ is. stalled, λ is. refl);
     spent = λ is. absurd cc;
   }
 
-  ends_spent : IsSpent lines past → HasEnded lines past ending.Spent
+  ends_spent : IsSpent lines past → HasPlayedOut lines past ending.Spent
   ends_spent spent = record {
     done = (λ is. absurd cc, λ done. absurd (done_not_due done spent.due));
     stalled = (λ is. absurd cc, λ stalled. absurd (stalled_not_due stalled spent.due));
@@ -251,7 +251,7 @@ module _ (lines : List RosterLine) (past : List Beat) where
   }
 
 module _ (fetches : List FetchLine) (lines left : List RosterLine) (play : Play) (so_far : IsPlayed fetches lines left play) where
-  has_roster : (over : RosterEnd) → HasEnded lines so_far.past over → HasRoster fetches lines play.beats.items over
+  has_roster : (over : RosterEnd) → HasPlayedOut lines so_far.past over → HasRoster fetches lines play.beats.items over
   has_roster over ended = record {
     opening = so_far.opening;
     past = so_far.past;

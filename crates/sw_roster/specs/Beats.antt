@@ -201,7 +201,7 @@ pub record IsSpent (lines : List RosterLine) (past : List Beat) : Type 0 where
   pub due : IsDue lines past
 
 -- how it has ended
-pub record HasEnded (lines : List RosterLine) (past : List Beat) (over : RosterEnd) : Type 0 where
+pub record HasPlayedOut (lines : List RosterLine) (past : List Beat) (over : RosterEnd) : Type 0 where
   pub done : (over ≡ ending.Done) ↔ IsDone lines past
   pub stalled : (over ≡ ending.Stalled) ↔ IsStalled lines past
   pub spent : over ≡ ending.Spent → IsSpent lines past
@@ -215,4 +215,4 @@ pub record HasRoster (fetches : List FetchLine) (lines : List RosterLine) (beats
   pub are : beats ≡ beat.Happened opening ∷ reverse past
   pub legal : Legal nothing (opening ∷ entries_of past)
   pub come : HaveCome fetches lines past
-  pub ended : HasEnded lines past over
+  pub ended : HasPlayedOut lines past over

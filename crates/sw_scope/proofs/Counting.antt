@@ -5,7 +5,7 @@ use Rattle.std.proofs.lemmas.Bool.Decides.{nat_tests}
 use Rattle.std.specs.Map.{lookup}
 use Rattle.indexmap.specs.IndexMap.{insert_entry}
 use Rattle.sw_scope.specs.declared.lengths.Counted.{Counted}
-use Rattle.sw_scope.specs.Counted.{IsCounted, IsFalling, entries_of, one_less, one_more, place_of, scopes_of, stands}
+use Rattle.sw_scope.specs.Counted.{CountsLengths, IsFalling, entries_of, one_less, one_more, place_of, scopes_of, stands}
 use Rattle.sw_scope.proofs.Entries.{one_at, entries_few, entries_kept, entries_put}
 
 -- a greater bound serves
@@ -96,8 +96,8 @@ pub ruleset at_place = (place_within, stands_within, scopes_there, more_there, l
 
 -- ---- the counted lengths of entries
 
-module _ (counted : List Counted) (entries : List (List ℕ × ℕ)) (scope : List ℕ) (is : IsCounted counted entries) where
-  pub counted_put : (id : ℕ) → lookup (bytes_eq scope) entries ≡ None → IsCounted (one_more counted (length scope)) (insert_entry bytes_eq entries scope id)
+module _ (counted : List Counted) (entries : List (List ℕ × ℕ)) (scope : List ℕ) (is : CountsLengths counted entries) where
+  pub counted_put : (id : ℕ) → lookup (bytes_eq scope) entries ≡ None → CountsLengths (one_more counted (length scope)) (insert_entry bytes_eq entries scope id)
   counted_put id absent = record {
     bound = is.bound + length scope + 1;
     falling = falls_more (is.bound + length scope + 1) (length scope) counted (omega arith)
@@ -106,7 +106,7 @@ module _ (counted : List Counted) (entries : List (List ℕ × ℕ)) (scope : Li
         ∙ (ap (λ k. k + one_at (length scope) n) (is.exact n) ∙ sym (entries_put scope n id entries absent));
   }
 
-  pub counted_kept : (id before : ℕ) → lookup (bytes_eq scope) entries ≡ Some before → IsCounted counted (insert_entry bytes_eq entries scope id)
+  pub counted_kept : (id before : ℕ) → lookup (bytes_eq scope) entries ≡ Some before → CountsLengths counted (insert_entry bytes_eq entries scope id)
   counted_kept id before there = record {
     bound = is.bound;
     falling = is.falling;
@@ -114,7 +114,7 @@ module _ (counted : List Counted) (entries : List (List ℕ × ℕ)) (scope : Li
   }
 
   pub counted_removed : (left : List (List ℕ × ℕ)) → ((n : ℕ) → entries_of left n + one_at (length scope) n ≡ entries_of entries n)
-      → IsCounted (one_less counted (length scope)) left
+      → CountsLengths (one_less counted (length scope)) left
   counted_removed left fewer =
       let own = fewer (length scope) in
       let exact = is.exact (length scope) in

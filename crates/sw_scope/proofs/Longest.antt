@@ -6,7 +6,7 @@ use Rattle.std.specs.Cmp.Lexicographic.{bytes_decides}
 use Rattle.std.specs.Map.{lookup}
 use Rattle.std.specs.Option.{option_or}
 use Rattle.sw_scope.specs.declared.lengths.Counted.{Counted}
-use Rattle.sw_scope.specs.Counted.{IsCounted, IsFalling, entries_of, first_found, scopes_of, within}
+use Rattle.sw_scope.specs.Counted.{CountsLengths, IsFalling, entries_of, first_found, scopes_of, within}
 use Rattle.sw_scope.specs.Scopes.{has_length, longest_at, longest_front, passing_to}
 use Rattle.sw_scope.proofs.Counting.{none_above}
 
@@ -48,7 +48,7 @@ has_some : (entries : List (List ℕ × ℕ)) (n : ℕ) → nat_lt 0 (entries_of
 has_some [] n = refl
 has_some (entry ∷ entries) n = let later = has_some entries n in grind (arith, nat_tests, later)
 
-pub within_lengths : (counted : List Counted) (entries : List (List ℕ × ℕ)) → IsCounted counted entries → (m : ℕ)
+pub within_lengths : (counted : List Counted) (entries : List (List ℕ × ℕ)) → CountsLengths counted entries → (m : ℕ)
     → within m counted ≡ passing_to (has_length entries) m
 within_lengths counted entries is m =
     within_passing is.bound m counted is.falling
@@ -89,12 +89,12 @@ module _ (address : List ℕ) (entries : List (List ℕ × ℕ)) where
   found_passing (suc m) inside =
       found_more m (passing_to (has_length entries) m) inside (found_passing m (omega (arith, inside))) (has_length entries (suc m)) refl
 
-  pub found_longest : (counted : List Counted) → IsCounted counted entries
+  pub found_longest : (counted : List Counted) → CountsLengths counted entries
       → first_found at_front (within (length address) counted) ≡ longest_front (λ scope. lookup (bytes_eq scope) entries) address
   found_longest counted is =
       ap (first_found at_front) (within_lengths counted entries is (length address)) ∙ found_passing (length address) (omega arith)
 
-  pub few_steps : (counted : List Counted) → IsCounted counted entries
+  pub few_steps : (counted : List Counted) → CountsLengths counted entries
       → length (within (length address) counted) ≡ length (passing_to (has_length entries) (length address))
   few_steps counted is = ap (λ (ns : List ℕ). length ns) (within_lengths counted entries is (length address))
 

@@ -23,7 +23,7 @@ entries_of [] n = 0
 entries_of (entry ∷ entries) n = entries_of entries n + (if length entry.0 == n then 1 else 0)
 
 -- exactly the lengths of the scopes, falling, each with how many have it
-pub record IsCounted (counted : List Counted) (entries : List (List ℕ × ℕ)) : Type 0 where
+pub record CountsLengths (counted : List Counted) (entries : List (List ℕ × ℕ)) : Type 0 where
   pub bound : ℕ
   pub falling : IsFalling bound counted
   pub exact : (n : ℕ) → scopes_of counted n ≡ entries_of entries n

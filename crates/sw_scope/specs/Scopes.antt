@@ -29,8 +29,8 @@ abbrev pub room : Scopes → List ℕ → ℕ
 room scopes key = (own_scopes scopes key).room
 
 -- there is room for this row
-abbrev pub Fits : Scope → Scopes → Type 0
-Fits row scopes = 0 < room scopes row.key
+abbrev pub FitsScope : Scope → Scopes → Type 0
+FitsScope row scopes = 0 < room scopes row.key
 
 -- what a key and a scope have once this row is mapped
 abbrev pub with_row : Scopes → Scope → List ℕ → List ℕ → Option ℕ

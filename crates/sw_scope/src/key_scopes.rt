@@ -3,7 +3,7 @@
 ghost use Rattle.std.specs.Prelude.{◌≡◌, ◌==◌, ◌+◌, ◌<◌, ◌≤◌, [], ℕ, List, bytes_eq, is_none, length, IfNone, IfSome, OnOk, Some, None, if◌then◌else◌};
 ghost use Rattle.std.specs.Map.{lookup};
 ghost use Rattle.indexmap.specs.IndexMap.{insert_entry, spare};
-ghost use Rattle.sw_scope.specs.Counted.{IsCounted, bare, entries_of};
+ghost use Rattle.sw_scope.specs.Counted.{CountsLengths, bare, entries_of};
 
 use crate::lengths::{Counted, add, subtract};
 use indexmap::IndexMap;
@@ -25,14 +25,14 @@ impl Model for KeyScopes {
 
     ghost Value = { OwnScopes };
 
-    ghost use Rattle.sw_scope.specs.Counted.{IsCounted, bare};
+    ghost use Rattle.sw_scope.specs.Counted.{CountsLengths, bare};
 
     ghost view = { λ own. record {
       entries = bare (λ key. key.items) own.scopes.entries;
       room = min (spare own.scopes) (vec_capacity own.lengths - vec_len own.lengths);
     } };
 
-    ghost invariant = { λ own. IsCounted own.lengths.items
+    ghost invariant = { λ own. CountsLengths own.lengths.items
         (bare (λ key. key.items) own.scopes.entries) };
 }
 
@@ -106,7 +106,7 @@ impl KeyScopes {
 
     // The distinct lengths, longest first; it takes no memory.
     pub(crate) fn lengths(&self) -> &[Counted]
-        ensures { IsCounted result.now self.now.entries }
+        ensures { CountsLengths result.now self.now.entries }
     {
         self.lengths.as_slice()
     }

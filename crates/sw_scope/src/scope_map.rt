@@ -2,8 +2,8 @@
 
 ghost use Rattle.std.specs.Prelude.{◌≡◌, ◌+◌, ◌<◌, ◌≤◌, ℕ, List, bytes_eq, length, take, IsSome, IfOk, OnOk, OnErr, None};
 ghost use Rattle.std.specs.Map.{lookup};
-ghost use Rattle.sw_scope.specs.Counted.{IsCounted, first_found, within};
-ghost use Rattle.sw_scope.specs.Scopes.{Fits, lengths_to, longest_front, maps, own_scopes, room, with_row, without_scope};
+ghost use Rattle.sw_scope.specs.Counted.{CountsLengths, first_found, within};
+ghost use Rattle.sw_scope.specs.Scopes.{FitsScope, lengths_to, longest_front, maps, own_scopes, room, with_row, without_scope};
 
 use crate::key_scopes::KeyScopes;
 use crate::lengths::Counted;
@@ -101,7 +101,7 @@ impl ScopeMap {
             → maps self.new other text ≡ maps self.old other text }
         ensures row { IfOk result (λ row.
             row ≡ record { key = key.now; scope = scope.now; number = id }) }
-        ensures fits { IfOk result (λ row. Fits row self.new) }
+        ensures fits { IfOk result (λ row. FitsScope row self.new) }
         ensures room { (other : List ℕ) → room self.old other ≤ room self.new other }
     {
         let row = NewScope {
@@ -115,7 +115,7 @@ impl ScopeMap {
 
     /// Maps the row's scope of its key to its registration; it takes no memory.
     pub fn set_put(&mut self, row: NewScope)
-        requires { Fits row self.old }
+        requires { FitsScope row self.old }
         ensures put { (key scope : List ℕ)
             → maps self.new key scope ≡ with_row self.old row key scope }
         ensures room { (key : List ℕ) → room self.old key ≤ room self.new key + 1 }
@@ -181,7 +181,7 @@ impl ScopeMap {
 
     // The distinct lengths of the scopes of a key, longest first; it takes no memory.
     fn lengths(&self, key: &Text) -> &[Counted]
-        ensures { IsCounted result.now (own_scopes self.now key.now).entries }
+        ensures { CountsLengths result.now (own_scopes self.now key.now).entries }
     {
         match self.keys.get(key) {
             Some(own) => own.lengths(),

@@ -9,7 +9,7 @@ use Rattle.std.proofs.lemmas.Option.{get_or_from_slice_get, slice_get_within}
 use Rattle.sw_list.specs.Named.{is_at, is_of, with_value}
 use Rattle.sw_sizes.specs.declared.row.Parts.{Parts}
 use Rattle.sw_sizes.specs.declared.sums.Sums.{Sums}
-use Rattle.sw_sizes.specs.Counted.{IsCounted, at_key, held}
+use Rattle.sw_sizes.specs.Counted.{CountsSizes, at_key, held}
 use Rattle.sw_sizes.specs.Rows.{Row, bytes_at, parts_bytes, row_bytes, rows_bytes}
 use Rattle.sw_sizes.proofs.RowLemmas.{value_at}
 
@@ -47,7 +47,7 @@ key_within other rows =
     omega (arith, less, same)
 
 -- and so as they are counted
-pub held_within : (rows : List Row) (sums : Sums) (key : List ℕ) → IsCounted rows sums → held sums key ≤ sums.total
+pub held_within : (rows : List Row) (sums : Sums) (key : List ℕ) → CountsSizes rows sums → held sums key ≤ sums.total
 held_within rows sums key counted =
     let less = key_within key rows in
     let total = counted.total in
@@ -55,7 +55,7 @@ held_within rows sums key counted =
     omega (arith, less, total, has)
 
 -- the counts where the rows stay
-pub counted_same : (rows : List Row) (before after : Sums) → IsCounted rows before → after.total ≡ before.total → ((key : List ℕ) → held after key ≡ held before key) → IsCounted rows after
+pub counted_same : (rows : List Row) (before after : Sums) → CountsSizes rows before → after.total ≡ before.total → ((key : List ℕ) → held after key ≡ held before key) → CountsSizes rows after
 counted_same rows before after counted total at = record { total = total ∙ counted.total; held = λ key. at key ∙ counted.held key }
 
 -- the test passes rows of one key alone
@@ -97,8 +97,8 @@ module _ (key : List ℕ) (test : Row → Bool) (of : (row : Row) → test row �
       omega (arith, own, split)
 
   -- the counts after rows are taken out
-  pub counted_taken : (rows new : List Row) (before after : Sums) (bytes : ℕ) → IsCounted rows before → new ≡ filter (λ row. not (test row)) rows → bytes ≡ rows_bytes (filter test rows)
-      → after.total + bytes ≡ before.total + 0 → ((other : List ℕ) → held after other + at_key key other bytes ≡ held before other + at_key key other 0) → IsCounted new after
+  pub counted_taken : (rows new : List Row) (before after : Sums) (bytes : ℕ) → CountsSizes rows before → new ≡ filter (λ row. not (test row)) rows → bytes ≡ rows_bytes (filter test rows)
+      → after.total + bytes ≡ before.total + 0 → ((other : List ℕ) → held after other + at_key key other bytes ≡ held before other + at_key key other 0) → CountsSizes new after
   counted_taken rows new before after bytes counted left is total at = record {
     total =
         let now = ap rows_bytes left in
@@ -119,8 +119,8 @@ pub of_key : (key scope : List ℕ) (row : Row) → is_at key scope row ≡ true
 of_key key scope row is = (and_parts (bytes_eq row.0.0 key) (bytes_eq row.0.1 scope) is).0
 
 -- the counts after a row comes
-pub counted_put : (rows new : List Row) (before after : Sums) (row : Row) (bytes : ℕ) → IsCounted rows before → new ≡ rows ++ row ∷ [] → bytes ≡ row_bytes row
-    → after.total + 0 ≡ before.total + bytes → ((other : List ℕ) → held after other + at_key row.0.0 other 0 ≡ held before other + at_key row.0.0 other bytes) → IsCounted new after
+pub counted_put : (rows new : List Row) (before after : Sums) (row : Row) (bytes : ℕ) → CountsSizes rows before → new ≡ rows ++ row ∷ [] → bytes ≡ row_bytes row
+    → after.total + 0 ≡ before.total + bytes → ((other : List ℕ) → held after other + at_key row.0.0 other 0 ≡ held before other + at_key row.0.0 other bytes) → CountsSizes new after
 counted_put rows new before after row bytes counted new_is is total at = record {
   total =
       let now = ap rows_bytes new_is in
@@ -158,9 +158,9 @@ row_within rows at row is =
     omega (arith, less, here, own, same)
 
 -- the counts after the row at a place gets other parts
-pub counted_set : (rows new : List Row) (before after : Sums) (at : ℕ) (row : Row) (parts : Parts) (gone come : ℕ) → IsCounted rows before → slice_get rows at ≡ Some row → new ≡ with_value at parts rows
+pub counted_set : (rows new : List Row) (before after : Sums) (at : ℕ) (row : Row) (parts : Parts) (gone come : ℕ) → CountsSizes rows before → slice_get rows at ≡ Some row → new ≡ with_value at parts rows
     → gone ≡ row_bytes row → come ≡ parts_bytes parts → after.total + gone ≡ before.total + come
-    → ((other : List ℕ) → held after other + at_key row.0.0 other gone ≡ held before other + at_key row.0.0 other come) → IsCounted new after
+    → ((other : List ℕ) → held after other + at_key row.0.0 other gone ≡ held before other + at_key row.0.0 other come) → CountsSizes new after
 counted_set rows new before after at row parts gone come counted stands new_is was_gone has_come total here = record {
   total =
       let now = ap rows_bytes (new_is ∙ value_at rows at row parts stands) in

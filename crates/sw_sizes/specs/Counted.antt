@@ -16,7 +16,7 @@ abbrev pub at_key : List ℕ → List ℕ → ℕ → ℕ
 at_key key other bytes = if bytes_eq key other then bytes else 0
 
 -- the bytes of rows are counted, those of each key and those of all
-pub record IsCounted (rows : List Row) (sums : Sums) : Type 0 where
+pub record CountsSizes (rows : List Row) (sums : Sums) : Type 0 where
   pub total : sums.total ≡ rows_bytes rows
   pub held : (key : List ℕ) → held sums key ≡ bytes_at key rows
 

@@ -31,14 +31,14 @@ impl Model for Sizes {
     ghost use Rattle.std.specs.Prelude.{List};
     ghost use Rattle.std.specs.List.{IsDistinct};
     ghost use Rattle.std.specs.Map.{keys_of};
-    ghost use Rattle.sw_sizes.specs.Counted.{IsCounted, is_same};
+    ghost use Rattle.sw_sizes.specs.Counted.{CountsSizes, is_same};
     ghost use Rattle.sw_sizes.specs.Rows.{Row};
 
     ghost Value = { List Row };
 
     ghost view = { λ sizes. sizes.rows.rows };
 
-    ghost invariant = { λ sizes. IsCounted sizes.rows.rows sizes.sums
+    ghost invariant = { λ sizes. CountsSizes sizes.rows.rows sizes.sums
         × IsDistinct is_same (keys_of sizes.rows.rows) };
 }
 

@@ -12,7 +12,7 @@ use Rattle.sw_disk.specs.Meanings.{LeavesOnly}
 use Rattle.sw_disk.proofs.Images.{told_at, told_some}
 use Rattle.sw_disk.proofs.Moments.{both, weaker}
 use Rattle.sw_journal.specs.Journal.{Since}
-use Rattle.sw_journal.specs.Quiet.{IsQuiet}
+use Rattle.sw_journal.specs.Quiet.{LeavesAlone}
 use Rattle.sw_kept.specs.Keeping.{KeepsNow, LeavesEither, Spell, StaysTold}
 use Rattle.sw_kept.specs.Stored.{HasKept}
 use Rattle.sw_store.specs.declared.errors.OpenError.{OpenError}
@@ -63,7 +63,7 @@ no_room disk old new twin kept limit from needed keeps same limit_is why = recor
 }
 
 -- where nothing was written, and what is read is sure but where the first call failed
-pub not_opened : {D : Type 0} (disk : Ghosts D) (old new : D) → IsQuiet disk old new
+pub not_opened : {D : Type 0} (disk : Ghosts D) (old new : D) → LeavesAlone disk old new
     → ((Rose (disk.faults old) (disk.faults new) → IsPastFirst disk old new)
     → ForTold (disk.seen old) (λ image. disk.clock old + 1 < 2 ^ 64 - 1 → (c : Image) → disk.left_since new (disk.clock old + 1) c → c ≡ image)) → IsUnopened disk old new
 not_opened disk old new quiet first = record {
@@ -75,7 +75,7 @@ not_opened disk old new quiet first = record {
       (told_at (disk.seen old) (λ image. disk.clock old + 1 < 2 ^ 64 - 1 → (c : Image) → disk.left_since new (disk.clock old + 1) c → c ≡ image) image is (first past) going c left));
 }
 
-module _ {D : Type 0} (disk : Ghosts D) (old mid new : D) (kept : Kept) (quiet : IsQuiet disk old mid) (has : ForTold (disk.seen old) (HasKept kept))
+module _ {D : Type 0} (disk : Ghosts D) (old mid new : D) (kept : Kept) (quiet : LeavesAlone disk old mid) (has : ForTold (disk.seen old) (HasKept kept))
     (run : LeavesEither disk mid new kept (kept_restarted kept)) where
   abbrev either : Image → Type 0
   either c = HasKept kept c ⊎ HasKept (kept_restarted kept) c

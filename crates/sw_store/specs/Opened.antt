@@ -16,7 +16,7 @@ use Rattle.sw_rules.specs.Restart.{restart}
 use Rattle.sw_rules.specs.Storage.{IsMade, kept_after}
 use Rattle.sw_store.specs.declared.errors.OpenError.{OpenError}
 use Rattle.sw_store.specs.declared.errors.OpenError.TheVariants as error
-use Rattle.sw_store.specs.Stores.{IsQuiet, StoreState}
+use Rattle.sw_store.specs.Stores.{WaitsForNothing, StoreState}
 use Rattle.sw_twin.specs.Twin.{IsPastFirst, StandsIn, TwinState}
 use Rattle.sw_state.specs.Hosted.{state_of}
 
@@ -28,7 +28,7 @@ kept_restarted kept = kept_after kept (change.Restarted ∷ [])
 pub record IsFresh (limit : ℕ) (store : StoreState) : Type 0 where
   pub made : IsMade store.base
   pub state : state_of store.core ≡ restart store.base
-  pub quiet : IsQuiet store
+  pub quiet : WaitsForNothing store
   pub mark : store.mark ≡ store.twin.journal.gate + 1
   pub limit_is : store.twin.journal.limit ≡ limit
 

@@ -65,7 +65,7 @@ pub record IsSame (old new : StoreState) : Type 0 where
   pub rest : new ≡ same_but_room old new
 
 -- own: nothing waits, and no call met a fault of the disk
-pub record IsQuiet (store : StoreState) : Type 0 where
+pub record WaitsForNothing (store : StoreState) : Type 0 where
   pub staged : store.staged ≡ []
   pub payload : store.payload ≡ []
   pub since : store.since ≡ None

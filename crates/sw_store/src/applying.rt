@@ -13,7 +13,7 @@ ghost use Rattle.sw_laws.specs.Coherent.{Coherent};
 ghost use Rattle.sw_rules.specs.Step.{changes_of, enabled};
 ghost use Rattle.sw_rules.specs.Storage.{kept_after};
 ghost use Rattle.sw_store.specs.Groups.{IsEntry, IsTooLong};
-ghost use Rattle.sw_store.specs.Stores.{IsQuiet, IsSame};
+ghost use Rattle.sw_store.specs.Stores.{WaitsForNothing, IsSame};
 ghost use Rattle.sw_twin.specs.Twin.{StandsFor};
 ghost use Rattle.sw_state.specs.Hosted.{state_of};
 
@@ -53,7 +53,7 @@ impl Store {
         ensures happened { IfOk result (λ entry.
             IsEntry event pass (state_of self.old.core) entry (state_of self.new.core)) }
         ensures stamp { IfOk result (λ entry. entry.stamp ≡ D.clock disk.new) }
-        ensures quiet { OnOk result (IsQuiet self.new) }
+        ensures quiet { OnOk result (WaitsForNothing self.new) }
 
         // After Ok the disk keeps the event's changes besides, also after a crash. At every moment of the call a crash
         // leaves what it kept before, or with all of them.

@@ -7,7 +7,7 @@ ghost use Rattle.sw_disk.specs.DiskRule.{ForTold, capped};
 ghost use Rattle.sw_disk.specs.Meanings.{LeavesOnly};
 ghost use Rattle.sw_journal.specs.Format.{format_2, needed_length};
 ghost use Rattle.sw_journal.specs.Journal.{Since};
-ghost use Rattle.sw_journal.specs.Quiet.{IsQuiet};
+ghost use Rattle.sw_journal.specs.Quiet.{LeavesAlone};
 ghost use Rattle.sw_kept.specs.declared.opening.OpenError.TheVariants as refused;
 ghost use Rattle.sw_kept.specs.Keeping.{KeepsNow, LeavesEither, StaysTold};
 ghost use Rattle.sw_kept.specs.Spelling.{IsContents};
@@ -232,10 +232,10 @@ impl Store {
 
         // Each refusal is what the image keeps, or has its cause.
         ensures not_formatted { IsErrOf result OpenError.NotFormatted
-            → IsQuiet D.Disk disk.old disk.new
+            → LeavesAlone D.Disk disk.old disk.new
             × ForTold (D.seen disk.old) (λ image. stored image ≡ Unformatted) }
         ensures bad { (offset : ℕ) → IsErrOf result (OpenError.BadJournal offset)
-            → IsQuiet D.Disk disk.old disk.new
+            → LeavesAlone D.Disk disk.old disk.new
             × ForTold (D.seen disk.old) (λ image. stored image ≡ Bad offset) }
         ensures full { (length needed : ℕ) → IsErrOf result (OpenError.Full length needed)
             → HasNoRoom D.Disk disk.new limit length needed }

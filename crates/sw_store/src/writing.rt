@@ -15,7 +15,7 @@ ghost use Rattle.sw_kept.specs.Spelling.{IsContents};
 ghost use Rattle.sw_kept.specs.Stored.{HasKept};
 ghost use Rattle.sw_rules.specs.Durable.{durable};
 ghost use Rattle.sw_rules.specs.Storage.{IsMade, kept_after};
-ghost use Rattle.sw_store.specs.Stores.{FitsBehind, HasGrown, IsQuiet, IsTended, IsWrittenAnew, all_stamped};
+ghost use Rattle.sw_store.specs.Stores.{FitsBehind, HasGrown, WaitsForNothing, IsTended, IsWrittenAnew, all_stamped};
 ghost use Rattle.sw_twin.specs.Twin.{StandsFor};
 ghost use Rattle.sw_state.specs.Hosted.{state_of};
 
@@ -83,7 +83,7 @@ impl Store {
         requires stands { self.old.since ≡ None → StandsFor self.old.twin D.Disk disk.old }
         ensures entries { IfOk result (λ entries.
             entries.items ≡ all_stamped (D.clock disk.new) self.old.staged) }
-        ensures ok { OnOk result (IsQuiet self.new) }
+        ensures ok { OnOk result (WaitsForNothing self.new) }
         ensures core { self.new.core ≡ self.old.core }
         ensures base { self.new.base ≡ self.old.base }
         ensures mark { self.new.mark ≡ self.old.mark }
@@ -160,7 +160,7 @@ impl Store {
     /// Writes what is kept anew, where the next free offset has grown by 1,048,576 bytes or more since the opening or
     /// the last time, and what is kept is within the limit. It says whether it did.
     pub fn tend<D: Disk>(&mut self, alloc: Global, disk: &mut D) -> Result<bool, TendError>
-        requires quiet { IsQuiet self.old }
+        requires quiet { WaitsForNothing self.old }
         requires stands { StandsFor self.old.twin D.Disk disk.old }
         requires made { IsMade (durable (state_of self.old.core)) }
         ensures did { IfOk result (λ did. did ≡ true → HasGrown self.old
@@ -169,7 +169,7 @@ impl Store {
             → (self.new ≡ self.old) × (disk.new ≡ disk.old)
             × IsTended (durable (state_of self.old.core)) self.old) }
         ensures tended { OnOk result (IsTended (durable (state_of self.old.core)) self.new) }
-        ensures quiet { OnOk result (IsQuiet self.new) }
+        ensures quiet { OnOk result (WaitsForNothing self.new) }
         ensures core { self.new.core ≡ self.old.core }
         ensures base { self.new.base ≡ self.old.base }
         ensures limit { self.new.twin.journal.limit ≡ self.old.twin.journal.limit }

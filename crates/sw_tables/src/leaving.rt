@@ -1,7 +1,7 @@
 //! Clients that come, leave their registration, get a controller, and go.
 
 ghost use Rattle.std.specs.Prelude.{◌≡◌, ◌+◌, ◌<◌, ◌≤◌, ℕ, Some};
-ghost use Rattle.sw_client.specs.Table.{Fits, users_of};
+ghost use Rattle.sw_client.specs.Table.{FitsClient, users_of};
 ghost use Rattle.sw_reg.specs.Table as registrations;
 ghost use Rattle.sw_rules.specs.Clients as rules;
 ghost use Rattle.sw_rules.specs.Noticing.{Did};
@@ -78,7 +78,7 @@ pub fn remove(client: u32, clients: &mut Clients)
 /// Adds a client whose row was made, last. It takes no memory.
 #[tactic(auto, unfolding(sw_rules::specs::Clients::add_client))]
 pub fn add(new: NewClient, clients: &mut Clients)
-    requires { Fits new clients.old }
+    requires { FitsClient new clients.old }
     ensures state { (scopes : Scopes) (of_workers : workers.Table)
         (of_registrations : registrations.Table) (rest : Rest)
         → lent scopes of_workers of_registrations clients.new rest

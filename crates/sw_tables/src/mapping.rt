@@ -10,7 +10,7 @@ ghost use Rattle.sw_rules.specs.Activating.{paid};
 ghost use Rattle.sw_rules.specs.Noticing.{Did};
 ghost use Rattle.sw_rules.specs.Registrations as rules;
 ghost use Rattle.sw_rules.specs.Rows.{is_number};
-ghost use Rattle.sw_scope.specs.Scopes.{Fits, maps, without_scope};
+ghost use Rattle.sw_scope.specs.Scopes.{FitsScope, maps, without_scope};
 ghost use Rattle.sw_tables.specs.Lent.{Rest, lent};
 ghost use Rattle.sw_tables.specs.Linked.{ArePlaces, HasScopes, Linked};
 ghost use Rattle.sw_tables.specs.Parts.{SlotsBecome, StayLinked};
@@ -73,7 +73,7 @@ pub fn map_registration(
 ) -> u32
     requires fits { FitsRegistration row registrations.old }
     requires new { row ≡ new_registration row.number row.key row.scope row.mode }
-    requires mappable { Fits scope map.old }
+    requires mappable { FitsScope scope map.old }
     requires key { scope.key ≡ row.key }
     requires scope { scope.scope ≡ row.scope }
     requires same { scope.number ≡ row.number }

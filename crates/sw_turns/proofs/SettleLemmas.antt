@@ -40,7 +40,7 @@ use Rattle.sw_rules.specs.Step.{changes_of}
 use Rattle.sw_rules.specs.Storage.{IsMade, kept_after}
 use Rattle.sw_store.proofs.Appends.{same_kept}
 use Rattle.sw_store.specs.Groups.{IsTooLong}
-use Rattle.sw_store.specs.Stores.{HasGrown, IsQuiet, IsTended, IsWrittenAnew, StoreState, all_stamped}
+use Rattle.sw_store.specs.Stores.{HasGrown, WaitsForNothing, IsTended, IsWrittenAnew, StoreState, all_stamped}
 use Rattle.sw_twin.specs.Twin.{TwinState}
 use Rattle.sw_state.specs.Hosted.{Hosted, state_of}
 
@@ -87,7 +87,7 @@ pub has_room : {D : Type 0} (disk : Ghosts D) (now : D) (s : Standing) (history 
 has_room disk now s history store halted some =
     is_room s.workers s.way s.base history s.lanes s.flights store s.stopped halted.stops some
 
-module _ (workers : ℕ) (way : Way) (base : Kept) (history : List Entry) (store next : StoreState) (clock : ℕ) (core : next.core ≡ store.core) (quiet : IsQuiet next) where
+module _ (workers : ℕ) (way : Way) (base : Kept) (history : List Entry) (store next : StoreState) (clock : ℕ) (core : next.core ≡ store.core) (quiet : WaitsForNothing next) where
   way_on : (lanes : List Left) → IsUnderWay workers way base history lanes store → IsUnderWay workers way base (history ++ all_stamped clock store.staged) lanes next
   way_on lanes goes =
       let entries = history ++ all_stamped clock store.staged in
@@ -156,7 +156,7 @@ HasFailed disk start now workers way base history refused =
 
 -- what a call makes of a store and a disk that has written what waited
 pub record HasWritten {D : Type 0} (disk : Ghosts D) (old new : D) (store next : StoreState) : Type 0 where
-  pub quiet : IsQuiet next
+  pub quiet : WaitsForNothing next
   pub core : next.core ≡ store.core
   pub mark : next.mark ≡ store.mark
   pub limit : next.twin.journal.limit ≡ store.twin.journal.limit
@@ -288,7 +288,7 @@ anew_by disk old new store next false core did not = inl (not refl).1
 
 -- what a call makes of a store and a disk that keeps the durable part of the state, written anew or not
 pub record HasTended {D : Type 0} (disk : Ghosts D) (old new : D) (store next : StoreState) : Type 0 where
-  pub quiet : IsQuiet next
+  pub quiet : WaitsForNothing next
   pub core : next.core ≡ store.core
   pub limit : next.twin.journal.limit ≡ store.twin.journal.limit
   pub keeps : KeepsNow store.twin (durable (state_of store.core)) disk old → KeepsNow next.twin (durable (state_of store.core)) disk new

@@ -26,13 +26,13 @@ use Rattle.sw_lock.specs.Entries.{ThenOwn}
 use Rattle.sw_rules.specs.History.{Opens}
 use Rattle.sw_rules.specs.State.{State}
 use Rattle.sw_store.specs.Groups.{IsGroup}
-use Rattle.sw_store.specs.Stores.{IsQuiet, IsSameTwin, IsTended, StoreState, all_stamped, stamped}
+use Rattle.sw_store.specs.Stores.{WaitsForNothing, IsSameTwin, IsTended, StoreState, all_stamped, stamped}
 use Rattle.sw_turns.proofs.ChangeLemmas.{along_stamped}
 use Rattle.sw_turns.proofs.ComingLemmas.{of_turn_none, of_turn_stamped}
 use Rattle.sw_turns.proofs.EndLemmas.{ends_done, ends_full, ends_stalled, ends_unmade, played, so_far_here}
 use Rattle.sw_turns.proofs.SettleLemmas.{tended_alike, under_way}
 use Rattle.sw_turns.specs.Coming.{AreOfTurn, NextHasNoRoom}
-use Rattle.sw_turns.specs.Ends.{IsCutShort, IsKept}
+use Rattle.sw_turns.specs.Ends.{IsCutShort, IsTurnEnd}
 use Rattle.sw_turns.specs.Flights.{AreInFlight, Flies, IsDue}
 use Rattle.sw_turns.specs.Groups.{Begins, HasSome, IsBarren, IsUnderWay, KeepsLanes, LacksRoom, Leaves, Stops, over_by}
 use Rattle.sw_turns.specs.Settling.{HasStopped, IsWritten, Standing}
@@ -160,7 +160,7 @@ module _ {D : Type 0} (disk : Ghosts D) (start now : D) (recording : Recording) 
       (under_way workers (recorded_way recording) base history lanes flights store stopped (goes_on recording base history going.lines going.under_way)).1.group
 
 -- no turn comes to an end for want of turns
-pub over_kept : (stopped : Stop) (some : Bool) → IfErr (over_by stopped some) IsKept
+pub over_kept : (stopped : Stop) (some : Bool) → IfErr (over_by stopped some) IsTurnEnd
 over_kept stop.Whole some = tt
 over_kept stop.NoRoom some = tt
 over_kept (stop.Fetch flown fetches) some = tt
@@ -172,7 +172,7 @@ over_kept (stop.Full happened from needed) some = tt
 over_kept stop.NoMemory some = tt
 
 -- a run that was cut short has an end that is kept
-pub cut_kept : (ended : DriveEnd) → IsCutShort ended → IsKept ended
+pub cut_kept : (ended : DriveEnd) → IsCutShort ended → IsTurnEnd ended
 cut_kept drive_end.Done cut = tt
 cut_kept (drive_end.Stalled lane) cut = tt
 cut_kept (drive_end.DiskFault refused) cut = tt
@@ -214,7 +214,7 @@ module _ {D : Type 0} (disk : Ghosts D) (start now : D) (recording : Recording) 
     tt,
   )
 
-  module _ (lines : recording.fetches ≡ p.net) (quiet : IsQuiet p.store) (tended : IsTended (kept_of base p.history.items) p.store) (flights : AreInFlight (state_of p.store.core) p.flights.items) (due : IsDue (state_of p.store.core) p.lanes p.flights.items) where
+  module _ (lines : recording.fetches ≡ p.net) (quiet : WaitsForNothing p.store) (tended : IsTended (kept_of base p.history.items) p.store) (flights : AreInFlight (state_of p.store.core) p.flights.items) (due : IsDue (state_of p.store.core) p.lanes p.flights.items) where
     pub going : IsUnderWay workers way base p.history.items p.lanes p.store → IsGoing disk start now recording base p
     going goes = record { lines = lines; under_way = goes; quiet = quiet; at_work = work; tended = tended; flights = flights; due = due }
 

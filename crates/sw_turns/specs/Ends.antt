@@ -87,6 +87,6 @@ IsCutShort drive_end.NoMemory = Unit {0}
 IsCutShort _ = ⊥
 
 -- own: an end that a turn comes to
-abbrev pub IsKept : DriveEnd → Type 0
-IsKept (drive_end.Spent spent) = ⊥
-IsKept _ = Unit {0}
+abbrev pub IsTurnEnd : DriveEnd → Type 0
+IsTurnEnd (drive_end.Spent spent) = ⊥
+IsTurnEnd _ = Unit {0}

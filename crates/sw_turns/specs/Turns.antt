@@ -15,7 +15,7 @@ use Rattle.sw_lane.specs.declared.picks.Pick.TheVariants as pick
 use Rattle.sw_lane.specs.declared.picks.Work.TheVariants as work
 use Rattle.sw_laws.specs.Laws.{changes_along}
 use Rattle.sw_rules.specs.History.{after}
-use Rattle.sw_store.specs.Stores.{IsQuiet, IsTended}
+use Rattle.sw_store.specs.Stores.{WaitsForNothing, IsTended}
 use Rattle.sw_turns.specs.Coming.{AreOfTurn, NextHasNoRoom}
 use Rattle.sw_turns.specs.Ends.{Ended}
 use Rattle.sw_turns.specs.Flights.{AreInFlight, Flies, IsDue}
@@ -36,7 +36,7 @@ use Rattle.sw_state.specs.Hosted.{state_of}
 pub record IsGoing {D : Type 0} (disk : Ghosts D) (start now : D) (recording : Recording) (base : Kept) (p : Progress) : Type 0 where
   pub lines : recording.fetches ≡ p.net
   pub under_way : IsUnderWay (length p.flights.items) (recorded_way recording) base p.history.items p.lanes p.store
-  pub quiet : IsQuiet p.store
+  pub quiet : WaitsForNothing p.store
   pub at_work : IsAtWork disk start now base p.history.items p.store
   pub tended : IsTended (kept_of base p.history.items) p.store
   pub flights : AreInFlight (state_of p.store.core) p.flights.items

@@ -6,7 +6,7 @@ ghost use Rattle.sw_data.specs.declared.histories.Entry as entries;
 ghost use Rattle.sw_turns.specs.Ends.{IsCutShort};
 ghost use Rattle.sw_turns.specs.Settling.{HasSettled, HasStopped, IsAnew, IsNotFull, IsOneRecord, IsWritten, Standing};
 ghost use Rattle.sw_turns.specs.Surviving.{IsAtWork, kept_of, latest};
-ghost use Rattle.sw_store.specs.Stores.{IsQuiet, IsTended};
+ghost use Rattle.sw_store.specs.Stores.{WaitsForNothing, IsTended};
 
 use crate::ends::DriveEnd;
 use std::alloc::Global;
@@ -47,7 +47,7 @@ pub fn write_group<D: Disk>(
     ensures stopped { (s : Standing) → HasStopped D.Disk disk.old s history.old.items store.old
         → OnOk result (HasStopped D.Disk disk.new s history.new.items store.new) }
     ensures core { store.new.core ≡ store.old.core }
-    ensures quiet { OnOk result (IsQuiet store.new) }
+    ensures quiet { OnOk result (WaitsForNothing store.new) }
     ensures tended { (s : Standing) → HasStopped D.Disk disk.old s history.old.items store.old
         → store.old.payload ≡ [] → IsTended (kept_of s.base history.old.items) store.old
         → OnOk result (IsTended (kept_of s.base history.new.items) store.new) }
@@ -73,7 +73,7 @@ pub fn write_group<D: Disk>(
 
 /// What is kept is written anew where that is due.
 pub fn tend<D: Disk>(alloc: Global, store: &mut Store, disk: &mut D) -> Result<(), DriveEnd>
-    requires quiet { IsQuiet store.old }
+    requires quiet { WaitsForNothing store.old }
     requires stopped { (s : Standing) × (history : List entries.Entry)
         × HasStopped D.Disk disk.old s history store.old }
     ensures goes_on { (s : Standing) (start : D) (history : List entries.Entry)
@@ -85,7 +85,7 @@ pub fn tend<D: Disk>(alloc: Global, store: &mut Store, disk: &mut D) -> Result<(
         → HasStopped D.Disk disk.old s history store.old
         → OnOk result (HasStopped D.Disk disk.new s history store.new) }
     ensures core { store.new.core ≡ store.old.core }
-    ensures quiet { OnOk result (IsQuiet store.new) }
+    ensures quiet { OnOk result (WaitsForNothing store.new) }
     ensures tended { (s : Standing) (history : List entries.Entry)
         → HasStopped D.Disk disk.old s history store.old
         → OnOk result (IsTended (kept_of s.base history) store.new) }
@@ -118,7 +118,7 @@ pub fn settle<D: Disk>(
     ensures stopped { (s : Standing) → HasStopped D.Disk disk.old s history.old.items store.old
         → OnOk result (HasStopped D.Disk disk.new s history.new.items store.new) }
     ensures core { store.new.core ≡ store.old.core }
-    ensures quiet { OnOk result (IsQuiet store.new) }
+    ensures quiet { OnOk result (WaitsForNothing store.new) }
 
     // Where changes were written, what is kept is written anew if that is due.
     ensures tended { (s : Standing) → HasStopped D.Disk disk.old s history.old.items store.old

@@ -4,7 +4,7 @@ ghost use Rattle.std.specs.Prelude.{◌≡◌, ◌<◌, length, IfErr, IfOk};
 ghost use Rattle.sw_data.specs.declared.recordings.Recording.{Recording};
 ghost use Rattle.sw_data.specs.declared.storage.Kept.{Kept};
 ghost use Rattle.sw_lock.specs.Entries.{ThenOwn};
-ghost use Rattle.sw_turns.specs.Ends.{IsKept};
+ghost use Rattle.sw_turns.specs.Ends.{IsTurnEnd};
 ghost use Rattle.sw_turns.specs.Groups.{over_by};
 ghost use Rattle.sw_turns.specs.Settling.{IsOneRecord};
 ghost use Rattle.sw_turns.specs.Turns.{HasTurned, IsGoing, IsOneGroup, IsTurn};
@@ -72,7 +72,7 @@ impl Progress {
             self.new.history.items }
         ensures workers { length self.new.flights.items ≡ length self.old.flights.items }
         ensures net { self.new.net ≡ self.old.net }
-        ensures kept { IfErr result IsKept }
+        ensures kept { IfErr result IsTurnEnd }
     {
         if self.history.reserve(MOST).is_err() {
             return Err(DriveEnd::NoMemory);

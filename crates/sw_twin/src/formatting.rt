@@ -8,7 +8,7 @@ ghost use Rattle.sw_disk.specs.Meanings.{Becomes, IsDurable, LeavesSteps};
 ghost use Rattle.sw_journal.specs.Content.{Records};
 ghost use Rattle.sw_journal.specs.Format.{format_of};
 ghost use Rattle.sw_journal.specs.Init.{first_bytes, SinceTwoCalls, FromSecondCall};
-ghost use Rattle.sw_journal.specs.Quiet.{IsQuiet};
+ghost use Rattle.sw_journal.specs.Quiet.{LeavesAlone};
 ghost use Rattle.sw_twin.specs.Current.{leading_ones, current, content_of};
 ghost use Rattle.sw_twin.specs.Init.{StandsForNone, IsBegunIn};
 
@@ -21,9 +21,9 @@ pub fn init<D: Disk>(disk: &mut D) -> Result<(), InitError>
     ensures already { IsErrOf result InitError.AlreadyFormatted
         → ForTold (D.seen disk.old) (λ image. IsSome (format_of (get (current image) image))) }
     ensures untouched { IsErrOf result InitError.AlreadyFormatted
-        → IsQuiet D.Disk disk.old disk.new }
+        → LeavesAlone D.Disk disk.old disk.new }
     ensures left_alone { ForTold (D.seen disk.old) (λ image.
-        IsSome (format_of (get (current image) image)) → IsQuiet D.Disk disk.old disk.new) }
+        IsSome (format_of (get (current image) image)) → LeavesAlone D.Disk disk.old disk.new) }
     ensures was_not { OnOk result (ForTold (D.seen disk.old)
         (λ image. format_of (get (current image) image) ≡ None)) }
     ensures bytes { OnOk result (Becomes D.Disk disk.old disk.new (λ old new.

@@ -3,7 +3,7 @@
 ghost use Rattle.std.specs.Prelude.{◌≡◌, ◌<◌, ◌≤◌, ◌+◌, true, false, drop, IfOk, IsErr};
 ghost use Rattle.sw_data.specs.Faults.{Rose};
 ghost use Rattle.sw_disk.specs.DiskRule.{ForTold};
-ghost use Rattle.sw_journal.specs.Quiet.{IsQuiet};
+ghost use Rattle.sw_journal.specs.Quiet.{LeavesAlone};
 ghost use Rattle.sw_twin.specs.Current.{leading_ones, part_at};
 
 use sw_disk::{Disk, Failed, Part};
@@ -48,7 +48,7 @@ fn read_ones<D: Disk>(disk: &mut D, at: u64) -> Result<(u64, bool), Failed>
         ≡ r.0 + leading_ones (drop (at + r.0) image.root))) }
     ensures some { IfOk result (λ r. r.1 ≡ true → 0 < r.0) }
     ensures few { IfOk result (λ r. r.0 ≤ 4096) }
-    ensures quiet { IsQuiet D.Disk disk.old disk.new }
+    ensures quiet { LeavesAlone D.Disk disk.old disk.new }
     ensures calls { D.clock disk.new ≤ D.clock disk.old + 1 }
     ensures fault { IsErr result → Rose (D.faults disk.old) (D.faults disk.new) }
 {
@@ -62,7 +62,7 @@ fn read_ones<D: Disk>(disk: &mut D, at: u64) -> Result<(u64, bool), Failed>
 pub(crate) fn count_ones<D: Disk>(disk: &mut D) -> Result<u64, Failed>
     ensures ones { ForTold (D.seen disk.old)
         (λ image. IfOk result (λ ones. ones ≡ leading_ones image.root)) }
-    ensures quiet { IsQuiet D.Disk disk.old disk.new }
+    ensures quiet { LeavesAlone D.Disk disk.old disk.new }
     ensures calls { ForTold (D.seen disk.old)
         (λ image. D.clock disk.new ≤ D.clock disk.old + leading_ones image.root + 1) }
     ensures fault { IsErr result → Rose (D.faults disk.old) (D.faults disk.new) }

@@ -10,7 +10,7 @@ ghost use Rattle.sw_journal.specs.Content.{BadAt, Records, content};
 ghost use Rattle.sw_journal.specs.Content as parts;
 ghost use Rattle.sw_journal.specs.Format.{format_2, needed_length};
 ghost use Rattle.sw_journal.specs.Journal.{appended, Since};
-ghost use Rattle.sw_journal.specs.Quiet.{IsQuiet};
+ghost use Rattle.sw_journal.specs.Quiet.{LeavesAlone};
 ghost use Rattle.sw_journal.specs.Reopening.{OnBadJournal};
 ghost use Rattle.sw_journal.specs.WholePart.{IsWhole, place_behind};
 ghost use Rattle.sw_twin.specs.Current.{part_at, content_of};
@@ -76,7 +76,7 @@ impl Twin {
 
         // Nothing is written. It syncs first. Unless that call is the one that failed, what reads give is sure, and a
         // crash since one call after the entry has left nothing else.
-        ensures quiet { IsQuiet D.Disk disk.old disk.new }
+        ensures quiet { LeavesAlone D.Disk disk.old disk.new }
         ensures first_call { capped (D.clock disk.old + 1) ≤ D.clock disk.new }
         ensures durable { (IsErrOf result ReopenError.DiskFault
             → IsPastFirst D.Disk disk.old disk.new) → IsDurable D.Disk disk.new }

@@ -17,7 +17,7 @@ use Rattle.sw_view.specs.declared.shown.Past.{Past}
 use Rattle.sw_view.specs.declared.shown.Shown.{Shown}
 use Rattle.sw_view.specs.declared.shown.Step.{Step}
 use Rattle.sw_view.specs.Found.{Found}
-use Rattle.sw_view.specs.Keeping.{IsOf, Keeps, Knows, HasPublished, HasRead, Tells, newcomer, origin_of}
+use Rattle.sw_view.specs.Keeping.{IsOf, HoldsRule, Knows, HasPublished, HasRead, LeadsToMap, newcomer, origin_of}
 use Rattle.sw_view.specs.Mapped.{mapped_after}
 use Rattle.sw_view.specs.Moves.{AreMoves, after_move, after_moves, nothing, values_of}
 use Rattle.sw_view.specs.Pasts.{past_after, past_of}
@@ -39,30 +39,30 @@ each_set : (x : Shown) (views : List Known) (seat : ℕ) (w : Known)
 each_set x views seat w each here id v got =
     ⊎_elim (λ mine. subst (λ (u : Known). Knows x u) mine.1 here) (λ other. each id v other.1) (at_set views seat id w v got)
 
-pub begins : (x : Shown) → Tells x → Keeps x (newcomer ∷ [])
+pub begins : (x : Shown) → LeadsToMap x → HoldsRule x (newcomer ∷ [])
 begins x tells = record { tells = tells; each = λ id v got. ⊎_elim (λ none. absurd (cc (none))) (λ same. subst (λ (u : Known). Knows x u) same (knows_none x)) (at_snoc [] newcomer v id got) }
 
-pub admits : Admits Keeps newcomer
+pub admits : Admits HoldsRule newcomer
 admits x views kept = record {
   tells = kept.tells;
   each = λ id v got. ⊎_elim (kept.each id v) (λ same. subst (λ (u : Known). Knows x u) same (knows_none x)) (at_snoc views newcomer v id got);
 }
 
-pub reads : (seat : ℕ) (v : Known) → Turns Keeps seat v (λ x. x) HasRead
+pub reads : (seat : ℕ) (v : Known) → Turns HoldsRule seat v (λ x. x) HasRead
 reads seat v x views kept at = (
   v,
   record { tells = kept.tells; each = each_set x views seat v kept.each (kept.each seat v at) },
   (refl, kept.tells, kept.each seat v at),
 )
 
-pub forks : (seat : ℕ) (v : Known) → Forks Keeps seat v v v
+pub forks : (seat : ℕ) (v : Known) → Forks HoldsRule seat v v v
 forks seat v x views kept at = record {
   tells = kept.tells;
   each = λ id u got. ⊎_elim (each_set x views seat v kept.each (kept.each seat v at) id u) (λ same. subst (λ (z : Known). Knows x z) same (kept.each seat v at))
       (at_snoc (set views seat v) v u id got);
 }
 
-pub merges : (seat : ℕ) (v : Known) (other : ℕ) (w : Known) → Merges Keeps seat v other w w newcomer
+pub merges : (seat : ℕ) (v : Known) (other : ℕ) (w : Known) → Merges HoldsRule seat v other w w newcomer
 merges seat v other w x views kept at apart there =
     let known : Knows x w = ⊎_elim (λ mine. absurd (apart mine.0)) (λ far. kept.each other w far.1) (at_set views seat other w w there) in
     record {
@@ -71,8 +71,8 @@ merges seat v other w x views kept at apart there =
     }
 
 -- publishing, whatever the moves are that lead from the map of the one to that of the other
-turned : (seat : ℕ) (v : Known) (x y : Shown) → y.base.value ≡ x.base.value → y.after.seen.book ≡ x.after.seen.book → (Tells x → Tells y)
-    → TurnsAt Keeps seat v x y HasPublished
+turned : (seat : ℕ) (v : Known) (x y : Shown) → y.base.value ≡ x.base.value → y.after.seen.book ≡ x.after.seen.book → (LeadsToMap x → LeadsToMap y)
+    → TurnsAt HoldsRule seat v x y HasPublished
 turned seat v x y base book tells views kept at =
     let still : (u : Known) → Knows x u → Knows y u = λ u knows origin is. record {
       base = (knows origin is).base ∙ sym base;
@@ -84,7 +84,7 @@ turned seat v x y base book tells views kept at =
 pub publishes : (seat : ℕ) (v : Known) (x y : Shown) (step : Step) → past_of y ≡ past_after (past_of x) step
     → step.after.seen.book ≡ x.after.seen.book
     → AreMoves (mapped_after x.base.value x.after.seen.log) step.moves.items (mapped_after x.base.value step.after.seen.log)
-    → TurnsAt Keeps seat v x y HasPublished
+    → TurnsAt HoldsRule seat v x y HasPublished
 publishes seat v x y step past book leads =
     let base : y.base.value ≡ x.base.value = ap (λ (p : Past). p.base) past in
     let seen : y.after.seen ≡ step.after.seen = ap (λ (p : Past). p.seen) past in
@@ -95,7 +95,7 @@ publishes seat v x y step past book leads =
     ∙ (same_moves (after_moves nothing (values_of x.moves.items)) (mapped_after x.base.value x.after.seen.log) step.moves.items tells key scope
     ∙ (leads key scope ∙ (λ i. mapped_after (sym base i) (sym seen i).log key scope)))))
 
-pub shows_again : (seat : ℕ) (v : Known) (x y : Shown) → past_of y ≡ past_of x → TurnsAt Keeps seat v x y HasPublished
+pub shows_again : (seat : ℕ) (v : Known) (x y : Shown) → past_of y ≡ past_of x → TurnsAt HoldsRule seat v x y HasPublished
 shows_again seat v x y past =
     let base : y.base.value ≡ x.base.value = ap (λ (p : Past). p.base) past in
     let seen : y.after.seen ≡ x.after.seen = ap (λ (p : Past). p.seen) past in
@@ -120,7 +120,7 @@ tied_is (Some origin) base book x one two knows =
 pub found_is : (o : Option (Front × Option ℕ)) (x : Shown) (base : Kept) (key address : List ℕ)
     → IfSome o (λ read. read.0 ≡ x.after)
     → IfSome o (λ read. read.1 ≡ longest_front (after_moves nothing (values_of x.moves.items) key) address)
-    → Tells x → x.base.value ≡ base
+    → LeadsToMap x → x.base.value ≡ base
     → IfSome o (λ read. read.1 ≡ longest_front (mapped_after base read.0.seen.log key) address)
 found_is None x base key address front found tells same = tt
 found_is (Some read) x base key address front found tells same =
@@ -157,7 +157,7 @@ pub alike : (x y : Shown) → x.base.value ≡ y.base.value → x.after.seen ≡
     → values_of x.moves.items ≡ [] → values_of y.moves.items ≡ [] → past_of x ≡ past_of y
 alike x y base seen mine other = λ i. record { base = base i; seen = seen i; moves = (mine ∙ sym other) i }
 
-pub opens : (x : Shown) → values_of x.moves.items ≡ [] → x.after.seen.log ≡ [] → Keeps x (newcomer ∷ [])
+pub opens : (x : Shown) → values_of x.moves.items ≡ [] → x.after.seen.log ≡ [] → HoldsRule x (newcomer ∷ [])
 unfolding mapped_after
 opens x moves log = begins x (λ key scope.
     ap (λ (ms : List Move). after_moves nothing ms key scope) moves ∙ (λ i. mapped_after x.base.value (sym log i) key scope))

@@ -9,8 +9,8 @@ use Rattle.sw_view.specs.Mapped.{mapped_after}
 use Rattle.sw_view.specs.Moves.{AreMoves, nothing, values_of}
 
 -- the moves so far lead to the map after the entries so far
-abbrev pub Tells : Shown → Type 0
-Tells shown = AreMoves nothing (values_of shown.moves.items) (mapped_after shown.base.value shown.after.seen.log)
+abbrev pub LeadsToMap : Shown → Type 0
+LeadsToMap shown = AreMoves nothing (values_of shown.moves.items) (mapped_after shown.base.value shown.after.seen.log)
 
 -- what is shown is of this view
 pub record IsOf (origin : Origin) (shown : Shown) : Type 0 where
@@ -22,8 +22,8 @@ abbrev pub Knows : Shown → Known → Type 0
 Knows shown known = (origin : Origin) → known.origin ≡ Some origin → IsOf origin shown
 
 -- the rule
-pub record Keeps (shown : Shown) (views : List Known) : Type 0 where
-  pub tells : Tells shown
+pub record HoldsRule (shown : Shown) (views : List Known) : Type 0 where
+  pub tells : LeadsToMap shown
   pub each : (seat : ℕ) (known : Known) → get_elem? views seat ≡ some known → Knows shown known
 
 -- knows no view
@@ -40,4 +40,4 @@ HasPublished known old new known_then = known_then.origin ≡ Some (origin_of ne
 
 -- a read tells that what is shown is right, and of the view that the reader knows
 abbrev pub HasRead : Known → Shown → Shown → Known → Type 0
-HasRead known shown left known_then = (known_then ≡ known) × Tells shown × Knows shown known
+HasRead known shown left known_then = (known_then ≡ known) × LeadsToMap shown × Knows shown known

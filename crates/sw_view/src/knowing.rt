@@ -15,9 +15,9 @@ pub struct Law;
 impl Rule<Entry, u64> for Law {
     ghost use Rattle.std.specs.Prelude.{[]};
     ghost use base.Fml.{ftrue};
-    ghost use Rattle.sw_view.specs.Rules.{IsKept};
+    ghost use Rattle.sw_view.specs.Rules.{IsBook};
 
-    ghost holds = { λ cells log. IsKept cells log };
+    ghost holds = { λ cells log. IsBook cells log };
 
     ghost first = { [] };
 
@@ -43,9 +43,9 @@ impl Gain<Entry, u64> for Nothing {
 pub struct Add;
 
 impl Play<Entry, u64> for Add {
-    ghost use Rattle.sw_view.specs.Rules.{Adds};
+    ghost use Rattle.sw_view.specs.Rules.{AddsEntry};
 
-    ghost then = { Adds };
+    ghost then = { AddsEntry };
 }
 
 /// What a step asks for: the entry.
@@ -74,9 +74,9 @@ pub struct Known {
 pub struct Keeping;
 
 impl Protocol<Shown, Known> for Keeping {
-    ghost use Rattle.sw_view.specs.Keeping.{Keeps, newcomer};
+    ghost use Rattle.sw_view.specs.Keeping.{HoldsRule, newcomer};
 
-    ghost holds = { Keeps };
+    ghost holds = { HoldsRule };
 
     ghost first = { newcomer };
 }

@@ -33,7 +33,7 @@ use Rattle.sw_ledgers.specs.Promised.{meaning}
 use Rattle.sw_pages.specs.Acts as pages
 use Rattle.sw_pages.specs.Acts.{told_by}
 use Rattle.sw_pages.specs.Fits.{FitsHost}
-use Rattle.sw_pages.specs.Jobs.{IsNext, comes_to}
+use Rattle.sw_pages.specs.Jobs.{IsNextJob, comes_to}
 use Rattle.sw_pages.specs.declared.worked.PageAct.{PageAct}
 use Rattle.sw_pages.specs.declared.worked.PageAct.TheVariants as page
 use Rattle.sw_pages.specs.declared.worked.Worked.{Worked}
@@ -282,14 +282,14 @@ module _ (host : Hosted) (row : WorkerRow) (there : HasRow row host) (left : wor
       by false active = record { act = tt; calls = left_here }
 
 -- a job that is scheduled changes no worker
-pub update_fits : (old new : Hosted) (worker : ℕ) (asked : Result Job Worked) (worked : Worked) → SameRows old new → IsNext old.queues.rows asked → worked ≡ comes_to old.queues.rows asked
+pub update_fits : (old new : Hosted) (worker : ℕ) (asked : Result Job Worked) (worked : Worked) → SameRows old new → IsNextJob old.queues.rows asked → worked ≡ comes_to old.queues.rows asked
     → FitsHost worked new → has_calls_left worker (state_of old) ≡ true → FitsCall worker worked.act new
 unfolding schedule
 update_fits old new worker asked worked same next is fits left =
     let here : has_calls_left worker (state_of new) ≡ true = subst (λ (s : State). has_calls_left worker s ≡ true) (sym (same_state old new same)) left in
     by asked next is here
   where
-    by : (asked : Result Job Worked) → IsNext old.queues.rows asked → worked ≡ comes_to old.queues.rows asked → has_calls_left worker (state_of new) ≡ true → FitsCall worker worked.act new
+    by : (asked : Result Job Worked) → IsNextJob old.queues.rows asked → worked ≡ comes_to old.queues.rows asked → has_calls_left worker (state_of new) ≡ true → FitsCall worker worked.act new
     by (Ok job) next is here =
         subst (λ (w : Worked). FitsHost w new → FitsCall worker w.act new) (sym is) (λ fits. record { act = fits; calls = here }) fits
     by (Err other) next is here =

@@ -11,7 +11,7 @@ ghost use Rattle.sw_data.specs.declared.workers.Phase.{Phase};
 ghost use Rattle.sw_data.specs.Events.{is_handler};
 ghost use Rattle.sw_laws.specs.Coherent.{Coherent};
 ghost use Rattle.sw_pages.specs.Acts as pages;
-ghost use Rattle.sw_pages.specs.Jobs.{IsNext, comes_to};
+ghost use Rattle.sw_pages.specs.Jobs.{IsNextJob, comes_to};
 ghost use Rattle.sw_rules.specs.Caching.{add_all};
 ghost use Rattle.sw_rules.specs.Calls as calls;
 ghost use Rattle.sw_rules.specs.Rows.{is_number, maker_worker, worker_row};
@@ -209,7 +209,7 @@ fn update_own(
     row: &WorkerRow,
     phase: Phase,
 ) -> Result<Result<Job, Worked>, NoMemory>
-    ensures next { IfOk result (IsNext host.now.queues.rows) }
+    ensures next { IfOk result (IsNextJob host.now.queues.rows) }
     ensures gives { IfOk result (λ job. pages.Gives (λ state by.
         calls.update_own state by (shown_worker row.now) phase)
         (comes_to host.now.queues.rows job) host.now) }
@@ -232,7 +232,7 @@ fn update_by(
     phase: Phase,
 ) -> Result<Result<Job, Worked>, NoMemory>
     requires { is_there worker host.now.workers.rows ≡ true }
-    ensures next { IfOk result (IsNext host.now.queues.rows) }
+    ensures next { IfOk result (IsNextJob host.now.queues.rows) }
     ensures gives { IfOk result (λ job. IfSome (worker_row (state_of host.now) worker) (λ row.
         pages.Gives (λ state by. calls.update_own state by row phase)
         (comes_to host.now.queues.rows job) host.now)) }

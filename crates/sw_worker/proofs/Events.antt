@@ -8,7 +8,7 @@ use Rattle.std.proofs.lemmas.List.{get_or_default, get_or_past, length-set, map-
 use Rattle.sw_data.specs.declared.rows.WorkerRow.{WorkerRow}
 use Rattle.sw_rules.specs.Rows.{is_number, without}
 use Rattle.sw_rules.specs.State.{FetchEvent}
-use Rattle.sw_worker.specs.Kept.{Counted, IsKept, events_of}
+use Rattle.sw_worker.specs.Kept.{Counted, IndexesWorkers, events_of}
 use Rattle.sw_worker.specs.Table.{event_at, events_on, is_event, is_on, is_pending}
 
 abbrev Entries : Type 0
@@ -164,9 +164,9 @@ counted_ended counts entries n w d counted found k =
     let set = set_count counts w k (get_or counts w d - 1) below in
     grind (arith, nat_tests)
 
-pub kept_begun : (rows : List WorkerRow) (counts : List ℕ) (entries new : Entries) (flags : List Bool) (n w d : ℕ) → IsKept rows counts entries flags → w < length counts
+pub kept_begun : (rows : List WorkerRow) (counts : List ℕ) (entries new : Entries) (flags : List Bool) (n w d : ℕ) → IndexesWorkers rows counts entries flags → w < length counts
     → new ≡ entries ++ (n, w) ∷ [] → IsDistinct nat_eq (keys_of new)
-    → IsKept rows (slice_set counts w (slice_index_or counts w d + 1)) new flags
+    → IndexesWorkers rows (slice_set counts w (slice_index_or counts w d + 1)) new flags
 kept_begun rows counts entries new flags n w d kept below is apart = record {
   workers = kept.workers;
   many = length-set counts w (slice_index_or counts w d + 1) ∙ kept.many;
@@ -175,9 +175,9 @@ kept_begun rows counts entries new flags n w d kept below is apart = record {
   activating = kept.activating;
 }
 
-pub kept_ended : (rows : List WorkerRow) (counts : List ℕ) (entries new : Entries) (flags : List Bool) (n w d : ℕ) → IsKept rows counts entries flags → lookup (nat_eq n) entries ≡ Some w
+pub kept_ended : (rows : List WorkerRow) (counts : List ℕ) (entries new : Entries) (flags : List Bool) (n w d : ℕ) → IndexesWorkers rows counts entries flags → lookup (nat_eq n) entries ≡ Some w
     → new ≡ remove_entry (nat_eq n) entries → IsDistinct nat_eq (keys_of new)
-    → IsKept rows (slice_set counts w (slice_index_or counts w d - 1)) new flags
+    → IndexesWorkers rows (slice_set counts w (slice_index_or counts w d - 1)) new flags
 kept_ended rows counts entries new flags n w d kept found is apart = record {
   workers = kept.workers;
   many = length-set counts w (slice_index_or counts w d - 1) ∙ kept.many;

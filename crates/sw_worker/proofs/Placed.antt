@@ -8,7 +8,7 @@ use Rattle.sw_list.proofs.Placing.{flags_set}
 use Rattle.sw_worker.specs.declared.edit.Edit.{Edit}
 use Rattle.sw_worker.specs.declared.edit.Edit.TheVariants as edit_of
 use Rattle.sw_worker.specs.Edits.{allows, call_counted, edited, task_counted}
-use Rattle.sw_worker.specs.Kept.{AreWorkers, Counts, IsKept, StandsAt}
+use Rattle.sw_worker.specs.Kept.{AreWorkers, Counts, IndexesWorkers, StandsAt}
 use Rattle.sw_worker.specs.Table.{has_worker, is_worker, runs_activate, worker_at}
 use Rattle.sw_rules.proofs.Places.{changed_here, found_here, found_none, more_at_places, passes_here, place_within, set_at_places}
 
@@ -70,8 +70,8 @@ row_edited edit rows n d new are below is =
     ap (slice_set rows n) is ∙ changed_here number (edited edit) rows n d (λ i e inside. (are i e inside).number) below
 
 pub kept_edited : (edit : Edit) (rows : List WorkerRow) (counts : List ℕ) (entries : List (ℕ × ℕ)) (flags : List Bool) (n : ℕ) (d new : WorkerRow)
-    → IsKept rows counts entries flags → has_worker (allows edit) n rows ≡ true → new ≡ edited edit (slice_index_or rows n d)
-    → IsKept (slice_set rows n new) counts entries (slice_set flags n (runs_activate new))
+    → IndexesWorkers rows counts entries flags → has_worker (allows edit) n rows ≡ true → new ≡ edited edit (slice_index_or rows n d)
+    → IndexesWorkers (slice_set rows n new) counts entries (slice_set flags n (runs_activate new))
 kept_edited edit rows counts entries flags n d new kept has is =
     let below = within (allows edit) rows n kept.workers has in
     let old = kept.workers n d below in
@@ -87,7 +87,7 @@ kept_edited edit rows counts entries flags n d new kept has is =
     }
 
 -- there are as many flags as workers
-pub many_flags : (rows : List WorkerRow) (counts : List ℕ) (entries : List (ℕ × ℕ)) (flags : List Bool) → IsKept rows counts entries flags
+pub many_flags : (rows : List WorkerRow) (counts : List ℕ) (entries : List (ℕ × ℕ)) (flags : List Bool) → IndexesWorkers rows counts entries flags
     → length flags ≡ length rows
 many_flags rows counts entries flags kept = sym (ap length kept.activating) ∙ length-map rows runs_activate
 
@@ -100,8 +100,8 @@ more_counts (x ∷ xs) zero = refl
 more_counts (x ∷ xs) (suc n) = more_counts xs n
 
 pub kept_more : (rows : List WorkerRow) (counts : List ℕ) (entries : List (ℕ × ℕ)) (flags : List Bool) (new : WorkerRow)
-    → IsKept rows counts entries flags → Counts new → new.number ≡ length rows
-    → IsKept (rows ++ new ∷ []) (counts ++ 0 ∷ []) entries (flags ++ runs_activate new ∷ [])
+    → IndexesWorkers rows counts entries flags → Counts new → new.number ≡ length rows
+    → IndexesWorkers (rows ++ new ∷ []) (counts ++ 0 ∷ []) entries (flags ++ runs_activate new ∷ [])
 kept_more rows counts entries flags new kept fits is = record {
   workers = more_at_places StandsAt rows new kept.workers (record { number = is; counts = fits });
   many = omega (arith, kept.many, length-append rows (new ∷ []), length-append counts (0 ∷ []));

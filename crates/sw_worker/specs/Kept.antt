@@ -28,7 +28,7 @@ events_of entries = map (λ entry. record { number = entry.0; worker = entry.1 }
 abbrev pub Counted : List ℕ → List (ℕ × ℕ) → Type 0
 Counted counts entries = (n : ℕ) → length (events_on n (events_of entries)) ≡ slice_index_or counts n 0
 
-pub record IsKept (rows : List WorkerRow) (counts : List ℕ) (entries : List (ℕ × ℕ)) (flags : List Bool) : Type 0 where
+pub record IndexesWorkers (rows : List WorkerRow) (counts : List ℕ) (entries : List (ℕ × ℕ)) (flags : List Bool) : Type 0 where
   pub workers : AreWorkers rows
   pub many : length counts ≡ length rows
   pub counted : Counted counts entries

@@ -30,7 +30,7 @@ pub struct Workers {
 impl Model for Workers {
     ghost use Rattle.std.specs.Prelude.{◌-◌, min};
     ghost use Rattle.std.specs.Vec.{vec_len, vec_capacity};
-    ghost use Rattle.sw_worker.specs.Kept.{IsKept, events_of};
+    ghost use Rattle.sw_worker.specs.Kept.{IndexesWorkers, events_of};
     ghost use Rattle.sw_worker.specs.Table.{Table};
 
     ghost Value = { Table };
@@ -45,7 +45,7 @@ impl Model for Workers {
     } };
 
     ghost invariant = { λ w.
-        IsKept w.rows.items w.counts.items w.events.entries w.activating.flags };
+        IndexesWorkers w.rows.items w.counts.items w.events.entries w.activating.flags };
 }
 
 // Whether a worker may go from one state to another.

@@ -2,7 +2,7 @@ use Rattle.std.proofs.Common.{◌≡◌, ◌∙◌, ◌+◌, ◌<◌, ap, refl, 
 use Rattle.std.specs.Prelude.{◌^◌}
 use Rattle.sw_caches.specs.Bytes.{made_size, puts_size}
 use Rattle.sw_caches.specs.Entries.{pairs}
-use Rattle.sw_caches.specs.Plans.{Fits, Indexed, carried}
+use Rattle.sw_caches.specs.Plans.{FitsCache, Indexed, carried}
 use Rattle.sw_caches.specs.Tables.{index_size}
 use Rattle.sw_caches.proofs.CarryLemmas.{room_here}
 use Rattle.sw_caches.proofs.TableLemmas.{named_written, row_carried, row_counts, some_is}
@@ -13,7 +13,7 @@ carry_out-requires c =
     let plan = c.args.plan in
     let same : c.value_mut-cache.result.now ≡ c.requires.index = some_is c.value_mut-cache.result.now c.requires.index (sym c.value_mut-cache.ensures.value ∙ c.requires.stands) in
     record {
-      fits = subst (Fits plan.change) (sym same) c.requires.fits;
+      fits = subst (FitsCache plan.change) (sym same) c.requires.fits;
       bytes = c.requires.bytes ∙ ap (λ (index : Indexed). puts_size index.names (pairs plan.change.added.items)) (sym same);
       room = subst (λ (index : Indexed). made_size index.names index.pairs + plan.bytes < 2 ^ 64) (sym same) (room_here c.args.rows.now.rows plan c.requires);
     }

@@ -3,7 +3,7 @@ use Rattle.std.specs.Prelude.{IsSome}
 use Rattle.sw_disk.specs.Image.{get}
 use Rattle.sw_disk.specs.DiskRule.{ForTold}
 use Rattle.sw_journal.specs.Format.{Format, format_of}
-use Rattle.sw_journal.specs.Quiet.{IsQuiet}
+use Rattle.sw_journal.specs.Quiet.{LeavesAlone}
 use Rattle.sw_journal.proofs.FreshParts.{header_read, some_of, none_of}
 use Rattle.sw_journal.proofs.formatting.init.Given.{Over}
 use Rattle.sw_journal.proofs.formatting.init.Goals as goal
@@ -25,8 +25,8 @@ returns-in-Ok-write_fresh-clause-was_not g c = unformatted g (goal.at.returns-in
 
 pub returns-in-Ok-write_fresh-clause-left_alone : goal.returns-in-Ok-write_fresh-clause-left_alone
 returns-in-Ok-write_fresh-clause-left_alone g c =
-    unformatted g (goal.at.returns-in-Ok-write_fresh-clause-left_alone g c).Else-is_some (λ f. IsSome f → IsQuiet g.D.Disk c.args.disk.now c.write_fresh.new.disk) (λ there. absurd (cc))
+    unformatted g (goal.at.returns-in-Ok-write_fresh-clause-left_alone g c).Else-is_some (λ f. IsSome f → LeavesAlone g.D.Disk c.args.disk.now c.write_fresh.new.disk) (λ there. absurd (cc))
 
 pub returns-in-Err-write_fresh-clause-left_alone : goal.returns-in-Err-write_fresh-clause-left_alone
 returns-in-Err-write_fresh-clause-left_alone g c =
-    unformatted g (goal.at.returns-in-Err-write_fresh-clause-left_alone g c).Else-is_some (λ f. IsSome f → IsQuiet g.D.Disk c.args.disk.now c.write_fresh.new.disk) (λ there. absurd (cc))
+    unformatted g (goal.at.returns-in-Err-write_fresh-clause-left_alone g c).Else-is_some (λ f. IsSome f → LeavesAlone g.D.Disk c.args.disk.now c.write_fresh.new.disk) (λ there. absurd (cc))

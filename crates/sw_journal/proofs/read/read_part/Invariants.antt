@@ -1,12 +1,12 @@
 use Rattle.std.proofs.Common.{length, vec_len, ◌-◌, ◌≡◌, take}
 use Rattle.sw_disk.specs.Image.{get}
 use Rattle.sw_disk.specs.DiskRule.{ForTold}
-use Rattle.sw_journal.specs.Quiet.{IsQuiet}
+use Rattle.sw_journal.specs.Quiet.{LeavesAlone}
 use Rattle.sw_journal.proofs.read.read_part.Given as goal
 
 abbrev pub invariant-loop-part : goal.invariant-loop-part
 invariant-loop-part g l = record {
-  quiet : IsQuiet g.D.Disk l.fn.disk l.disk;
+  quiet : LeavesAlone g.D.Disk l.fn.disk l.disk;
   front : ForTold (g.D.Disk.seen l.fn.disk) (λ image. l.bytes.items ≡ take (length l.bytes.items) (get l.part image));
 }
 

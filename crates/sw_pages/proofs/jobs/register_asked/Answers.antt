@@ -5,7 +5,7 @@ use Rattle.sw_data.specs.declared.rows.Job.{Job}
 use Rattle.sw_pages.proofs.Asking.{next_asked, register_given}
 use Rattle.sw_pages.specs.Acts.{outcome_of}
 use Rattle.sw_pages.specs.declared.worked.Worked.{Worked}
-use Rattle.sw_pages.specs.Jobs.{IsNext, asked_job, comes_to}
+use Rattle.sw_pages.specs.Jobs.{IsNextJob, asked_job, comes_to}
 use Rattle.sw_state.specs.Hosted.{state_of}
 use Rattle.sw_pages.proofs.jobs.register_asked.Goals as goal
 
@@ -14,7 +14,7 @@ returns-clause-next c =
     let jobs = c.args.host.now.queues.rows in
     IfOk-weaker c.asked_job.result _ _
     (λ job is.
-    subst (λ (j : Result Job Worked). IsNext jobs j) (sym (is ∙ ap (λ (n : ℕ). asked_job n c.in-Some.client.now c.args.asked.now) c.in_ok-number.ensures))
+    subst (λ (j : Result Job Worked). IsNextJob jobs j) (sym (is ∙ ap (λ (n : ℕ). asked_job n c.in-Some.client.now c.args.asked.now) c.in_ok-number.ensures))
     (next_asked jobs c.in-Some.client.now c.args.asked.now))
     c.asked_job.ensures
 

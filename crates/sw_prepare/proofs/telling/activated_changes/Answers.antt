@@ -1,6 +1,6 @@
 use Rattle.std.proofs.Common.{subst}
 use Rattle.std.specs.Prelude.{IfOk}
-use Rattle.sw_prepare.specs.Telling.{Tells}
+use Rattle.sw_prepare.specs.Telling.{HasChanges}
 use Rattle.sw_rules.specs.Activating.{activated}
 use Rattle.sw_state.specs.contracts.tables.HostTables.{the_view}
 use Rattle.sw_state.specs.Hosted.{Hosted, rest_of, state_of}
@@ -8,5 +8,5 @@ use Rattle.sw_prepare.proofs.telling.activated_changes.Goals as goal
 
 pub returns : goal.returns
 returns c =
-    subst (λ (h : Hosted). IfOk c.activated_changes.result (λ changes. Tells (activated (state_of h) c.args.worker) changes.items)) c.host.view_is
+    subst (λ (h : Hosted). IfOk c.activated_changes.result (λ changes. HasChanges (activated (state_of h) c.args.worker) changes.items)) c.host.view_is
     (c.activated_changes.ensures (rest_of (the_view c.host.inside)) c.host.invariant.counts)

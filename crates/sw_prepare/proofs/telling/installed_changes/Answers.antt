@@ -1,6 +1,6 @@
 use Rattle.std.proofs.Common.{subst, sym}
 use Rattle.std.specs.Prelude.{IfOk}
-use Rattle.sw_prepare.specs.Telling.{Tells}
+use Rattle.sw_prepare.specs.Telling.{HasChanges}
 use Rattle.sw_laws.specs.Coherent.{Coherent}
 use Rattle.sw_rules.specs.Installing.{installed}
 use Rattle.sw_work.proofs.Coherence.{under_way}
@@ -17,5 +17,5 @@ installed_changes-requires-clause-goes c =
 pub returns : goal.returns
 returns c =
     let host = the_view c.host.inside in
-    subst (λ (h : Hosted). IfOk c.installed_changes.result (λ changes. Tells (installed (state_of h) c.args.job) changes.items)) c.host.view_is
+    subst (λ (h : Hosted). IfOk c.installed_changes.result (λ changes. HasChanges (installed (state_of h) c.args.job) changes.items)) c.host.view_is
     (c.installed_changes.ensures host.clients (rest_of host))

@@ -1,6 +1,6 @@
 use Rattle.std.proofs.Common.{◌∙◌, ◌++◌, ◌∷◌, [], ◌+◌, ◌-◌, ap, arith, subst, sym}
 use Rattle.std.specs.Vec.{vec_capacity, vec_len}
-use Rattle.sw_list.specs.Kept.{IsKept}
+use Rattle.sw_list.specs.Kept.{IsSpaced}
 use Rattle.sw_list.specs.Numbers.{Numbers}
 use Rattle.sw_list.specs.Slots.{rows_of}
 use Rattle.sw_list.proofs.Keeping.{kept_added, spare_room}
@@ -12,7 +12,7 @@ invariant_of-self g c =
     let was = c.self.inside in
     let spare = ap (λ (n : Numbers g.row.V.Denot). n.spare) c.self.view_is in
     let room = spare_room (vec_capacity was.holes) (vec_capacity was.slots - vec_len was.slots) was.next (omega (arith, spare, c.requires)) in
-    subst (λ slots. IsKept slots was.holes.items (vec_capacity was.holes) (was.next + 1)) (sym c.push_reserved.ensures.items)
+    subst (λ slots. IsSpaced slots was.holes.items (vec_capacity was.holes) (was.next + 1)) (sym c.push_reserved.ensures.items)
     (kept_added was.slots.items was.holes.items (vec_capacity was.holes) was.next c.args.value room.0 c.self.invariant)
 
 pub returns-clause-rows : goal.returns-clause-rows

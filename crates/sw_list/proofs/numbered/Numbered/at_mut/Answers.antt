@@ -3,7 +3,7 @@ use Rattle.std.specs.List.Sorted.{IsNonDecreasingBy}
 use Rattle.std.specs.Map.{values_of}
 use Rattle.std.specs.Option.{IsSome}
 use Rattle.std.specs.Vec.{vec_capacity}
-use Rattle.sw_list.specs.Kept.{IsKept}
+use Rattle.sw_list.specs.Kept.{IsSpaced}
 use Rattle.sw_list.specs.Numbers.{Numbers, with_value_at}
 use Rattle.sw_list.specs.Slots.{rows_of}
 use Rattle.sw_list.proofs.Keeping.{kept_written}
@@ -32,7 +32,7 @@ invariant_of-self-lent g c w =
     let was = c.self.inside in
     let at = at_holes c.self.inside.slots.items c.deref.result.now c.args.self.now.rows c.args.place c.holes_before.result (ap (λ (n : Numbers g.row.V.Denot). n.rows) c.self.view_is) c.requires
     (c.deref.ensures.value ∙ c.self.invariant.told) c.holes_before.ensures in
-    subst (λ slots. IsKept slots was.holes.items (vec_capacity was.holes) was.next)
+    subst (λ slots. IsSpaced slots was.holes.items (vec_capacity was.holes) was.next)
     (sym (set_value was.slots.items (c.args.place + c.holes_before.result) c.index_mut.result.now (Some w) c.index_mut.ensures.value))
     (kept_written was.slots.items was.holes.items (vec_capacity was.holes) was.next _ _ _ w at c.self.invariant)
 

@@ -1,14 +1,14 @@
 use Rattle.std.proofs.Common.{◌≡◌, ◌∙◌, ℕ, List, ap, refl, slice_get, subst, sym}
 use Rattle.std.specs.Map.{values_of}
 use Rattle.sw_list.specs.Numbers as list
-use Rattle.sw_list.specs.Stamped.{IsKept, entries_of}
+use Rattle.sw_list.specs.Stamped.{IsStamped, entries_of}
 use Rattle.sw_list.specs.Sequence.{Sequence, with_value_at}
 use Rattle.sw_list.proofs.StampRows.{entries_written, marks_written, value_at}
 use Rattle.sw_list.proofs.ordered.Ordered.at_mut.Goals as goal
 
 pub invariant_of-self-lent : goal.invariant_of-self-lent
 invariant_of-self-lent g c w =
-    subst (λ (marks : List (ℕ × ℕ)). IsKept marks c.self.inside.stamps.entries c.self.inside.rows.next)
+    subst (λ (marks : List (ℕ × ℕ)). IsStamped marks c.self.inside.stamps.entries c.self.inside.rows.next)
     (sym (marks_written c.self.inside.rows.rows c.args.place c.at_mut-row.result.now w c.at_mut-row.ensures.value)) c.self.invariant
 
 pub returns : goal.returns

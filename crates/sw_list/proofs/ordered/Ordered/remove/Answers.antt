@@ -1,7 +1,7 @@
 use Rattle.std.proofs.Common.{◌∙◌, ap, nat_eq, position, subst, sym}
 use Rattle.std.specs.List.{IsDistinct}
 use Rattle.std.specs.Map.{keys_of, lookup, remove_entry}
-use Rattle.sw_list.specs.Stamped.{IsKept, marks_of}
+use Rattle.sw_list.specs.Stamped.{IsStamped, marks_of}
 use Rattle.sw_list.specs.Sequence.{Sequence}
 use Rattle.sw_list.proofs.StampMarks.{none_removed}
 use Rattle.sw_list.proofs.StampRows.{apart_entries, removed_entries, removed_kept, removed_value, value_none}
@@ -10,7 +10,7 @@ use Rattle.sw_list.proofs.ordered.Ordered.remove.Goals as goal
 pub invariant_of-self : goal.invariant_of-self
 invariant_of-self g c =
     let at = c.in-Some.ensures ∙ ap (λ (o : Sequence g.row.V.Denot). position (nat_eq c.args.number) (keys_of o.entries)) (sym c.self.view_is) in
-    subst (IsKept (marks_of c.remove-value.new.self.rows) c.swap_remove.new.self.entries) (sym c.remove-value.ensures.next)
+    subst (IsStamped (marks_of c.remove-value.new.self.rows) c.swap_remove.new.self.entries) (sym c.remove-value.ensures.next)
     (removed_kept c.self.inside.rows.rows c.remove-value.new.self.rows c.self.inside.stamps.entries c.swap_remove.new.self.entries c.args.number c.in-Some.place c.self.inside.rows.next c.self.invariant at
     c.swap_remove.ensures.updates.0 c.remove-value.ensures.rows)
 

@@ -1,7 +1,7 @@
 -- A turn by which the run has ended is kept as the end.
 use Rattle.std.proofs.Common.{◌∙◌, ℕ, Option, ap, rules, subst, sym}
 use Rattle.sw_pool.proofs.yard.Yard.turn.Goals as goal
-use Rattle.sw_pool.specs.Yards.{Stands, YardState, origin_of}
+use Rattle.sw_pool.specs.Yards.{IsYardOf, YardState, origin_of}
 use Rattle.sw_turns.specs.Ends.{Ended}
 use Rattle.sw_turns.specs.declared.ends.DriveEnd.{DriveEnd}
 
@@ -10,14 +10,14 @@ invariant_of-self-in-Err g c =
     let inside = c.self.inside in
     let origin = origin_of inside.passes inside.recording.value inside.base.value inside.start.value in
     let going =
-    subst (λ (end : Option DriveEnd). Stands g.D.Disk inside.disk origin inside.progress end)
+    subst (λ (end : Option DriveEnd). IsYardOf g.D.Disk inside.disk origin inside.progress end)
     (ap (λ (yard : YardState g.row.D.Denot). yard.end) c.self.view_is ∙ c.requires.going) c.self.invariant.stands in
     let turned = c.in-Err.ensures.turned inside.recording.value inside.base.value inside.start.value going in
     let count = c.turn.ensures.workers ∙ c.self.invariant.passes in
     record {
       passes = count;
       stands =
-          subst (λ (end : Option DriveEnd). Stands g.D.Disk c.turn.new.disk origin c.turn.new.self end) (sym c.keep.ensures) (
+          subst (λ (end : Option DriveEnd). IsYardOf g.D.Disk c.turn.new.disk origin c.turn.new.self end) (sym c.keep.ensures) (
             (
               subst (λ (workers : ℕ). Ended g.D.Disk origin.start c.turn.new.disk workers origin.recording origin.base c.turn.new.self.history.items c.in-Err.end) count turned.0,
               turned.1,

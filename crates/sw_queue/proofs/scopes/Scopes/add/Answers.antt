@@ -4,7 +4,7 @@ use Rattle.std.specs.Map.{lookup, set_value}
 use Rattle.std.specs.Option.{option_copied_mut}
 use Rattle.slab.specs.Slab.{slab_len}
 use Rattle.sw_queue.specs.Lines.{by_name}
-use Rattle.sw_queue.specs.Links.{Adds, ByScope, count_by_scope, no_nodes, with_last}
+use Rattle.sw_queue.specs.Links.{AddsNode, ByScope, count_by_scope, no_nodes, with_last}
 use Rattle.sw_queue.specs.declared.line.Line.{Line}
 use Rattle.sw_queue.proofs.Naming.{by_name_found, by_name_set, none_found, one_found}
 use Rattle.sw_queue.proofs.Placing.{part_within}
@@ -42,6 +42,6 @@ returns-clause-nodes c line there =
       | in-Some w ↦
           let same = one_found _ w.in-Some.line.now line (found ∙ ap option_copied_mut w.in-Some.is) at in
           rw w.nodes-is
-          (subst (λ (l : Line). Adds c.args.nodes.now w.add.new.nodes l c.args.number) same w.add.ensures.nodes)
+          (subst (λ (l : Line). AddsNode c.args.nodes.now w.add.new.nodes l c.args.number) same w.add.ensures.nodes)
       | in_default w ↦ absurd (none_found _ line (found ∙ ap option_copied_mut w.in_default.is) at)
     ]

@@ -6,7 +6,7 @@ use Rattle.sw_turns.proofs.EndLemmas.{ends_short}
 use Rattle.sw_turns.proofs.SettleLemmas.{rests}
 use Rattle.sw_turns.proofs.TurnLemmas.{begun_host, cut_kept, cut_rests, flights_are, grouped, halted, made_by, over_kept, own_either, own_written, picked_either, picked_none, picked_written, sound, tending, turned, waiting_tells, working}
 use Rattle.sw_turns.proofs.progress.Progress.turn.Goals as goal
-use Rattle.sw_turns.specs.Ends.{Ended, IsKept}
+use Rattle.sw_turns.specs.Ends.{Ended, IsTurnEnd}
 use Rattle.sw_turns.specs.Flights.{AreInFlight, IsDue}
 use Rattle.sw_turns.specs.Groups.{LacksRoom, Leaves}
 use Rattle.sw_turns.specs.Settling.{IsWritten}
@@ -93,7 +93,7 @@ returns-in-Ok g c =
       own = own_written c.args.pass p.history.items c.settle.new.history.items c.begin-stop.new.store.staged c.begin-stop.ensures.own wrote;
       workers = ap length all ∙ count;
       net = refl;
-      kept = subst (λ (result : Result Turn DriveEnd). IfErr result IsKept) (sym c.over.ensures) (over_kept c.begin-stop.result _);
+      kept = subst (λ (result : Result Turn DriveEnd). IfErr result IsTurnEnd) (sym c.over.ensures) (over_kept c.begin-stop.result _);
     }
 
 pub returns-in-Err-clause-turned : goal.returns-in-Err-clause-turned
@@ -113,7 +113,7 @@ returns-in-Err-clause-turned g c recording base start going =
     )
 
 pub returns-in-Err-clause-kept : goal.returns-in-Err-clause-kept
-returns-in-Err-clause-kept g c = subst IsKept (sym c.cut.ensures) (cut_kept c.in-Err.end c.in-Err.ensures.cut)
+returns-in-Err-clause-kept g c = subst IsTurnEnd (sym c.cut.ensures) (cut_kept c.in-Err.end c.in-Err.ensures.cut)
 
 pub returns-in-Err-clause-own : goal.returns-in-Err-clause-own
 returns-in-Err-clause-own g c =
