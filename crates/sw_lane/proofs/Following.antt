@@ -58,7 +58,7 @@ left_alike : (before after : List Entry) (number : ℕ) (actions : Option (List 
 left_alike before after number actions same =
     ap (λ (made : ℕ). option_map (λ (xs : List Action). record { at = made; actions = drop made xs }) actions) (sym same)
 
--- a lane of which one more was made has next_taken
+-- a lane of which one more was made has moved
 left_moved : (before after : List Entry) (number : ℕ) (actions : Option (List Action)) → made_by number after ≡ made_by number before + 1
     → option_map next_taken (option_map (left_after before number) actions) ≡ option_map (left_after after number) actions
 left_moved before after number None more = refl
@@ -104,7 +104,7 @@ stays recording history lanes entry ours free = record {
     of_none number (who.Lane lane at) is = absurd cc
     of_none number (who.Handler worker phase call) is = refl
 
--- an entry of a lane is its next action: that lane has next_taken
+-- an entry of a lane is its next action: that lane has moved
 pub goes_on : (recording : Recording) (history : List Entry) (lanes : List Left) (number : ℕ) (new : List Left) (entry : Entry) (at : ℕ) → new ≡ taken number lanes
     → AreLanesOf recording history lanes → entry.who ≡ who.Lane number at → AreLanesOf recording (history ++ entry ∷ []) new
 goes_on recording history lanes number new entry at moves ours is = rw moves (record {
