@@ -1,14 +1,13 @@
 -- The tally of the keys of the clients: what each call does to it.
-use Rattle.std.proofs.Common.{◌≡◌, ◌∙◌, ◌+◌, ◌-◌, ℕ, nat_eq, List, [], ◌∷◌, ◌++◌, map, filter, length, Some, refl, sym, ap, subst, arith, if◌then◌else◌}
+use Rattle.std.proofs.Common.{◌≡◌, ◌∙◌, ◌+◌, ◌-◌, ℕ, nat_eq, List, [], ◌∷◌, ◌++◌, map, filter, length, Some, refl, sym, ap, arith, if◌then◌else◌}
 use Rattle.std.specs.Prelude.{bytes_eq, nat_lt}
 use Rattle.std.specs.List.{list_any}
 use Rattle.std.specs.Map.{lookup, remove_entry, set_value, values_of}
 use Rattle.sw_data.specs.declared.rows.ClientRow.{ClientRow}
 use Rattle.sw_list.proofs.Tallies.{any_passes, passing_more}
 use Rattle.sw_list.specs.Tally.{Tally, count_of}
-use Rattle.sw_rules.specs.Rows.{changed, without}
 use Rattle.sw_client.specs.declared.OpenClient.{OpenClient}
-use Rattle.sw_client.specs.Table.{AreTallied, CountsUsers, IsKept, handed, is_of, is_open}
+use Rattle.sw_client.specs.Table.{AreTallied, CountsUsers, handed, is_of}
 use Rattle.sw_client.proofs.KeyedRows.{count_changed, count_removed}
 use Rattle.sw_client.proofs.OfClients.{Entries, added_rows, apart_now, found_by, given_rows, number, removed_rows}
 use Rattle.sw_client.proofs.TakeOver.{edited, edited_values}

@@ -1,5 +1,5 @@
 -- A run under a limit that has ended, and what its status says of it.
-use Rattle.std.proofs.Common.{◌≡◌, ◌⊎◌, ◌∙◌, ◌++◌, inl, inr, ℕ, List, Option, Result, Ok, Err, refl, sym, ap, subst}
+use Rattle.std.proofs.Common.{◌≡◌, ◌∙◌, ◌++◌, inl, inr, ℕ, List, Option, Result, Ok, Err, refl, sym, ap, subst}
 use Rattle.std.specs.Prelude.{IfOk, OnErr}
 use Rattle.sw_bucket.specs.declared.ends.BoundedEnd.{BoundedEnd}
 use Rattle.sw_bucket.specs.declared.ends.BoundedEnd.TheVariants as end
@@ -8,11 +8,10 @@ use Rattle.sw_data.specs.declared.recordings.Recording.{Recording}
 use Rattle.sw_data.specs.declared.storage.Kept.{Kept}
 use Rattle.sw_disk.specs.declared.disk.Disk.{Ghosts}
 use Rattle.sw_forms.specs.declared.error.RecordingError.{RecordingError}
-use Rattle.sw_forms.specs.declared.error.RecordingError.TheVariants as error
 use Rattle.sw_forms.specs.declared.limits.TheConstants.{RECORDING_LIMIT}
 use Rattle.sw_host.specs.Bounding.{EndedWithin, EndsBounded, last_of, status_of, usage_text}
-use Rattle.sw_host.specs.Reading.{IsRead, ReadsThen, RefusedAs}
-use Rattle.sw_host.specs.Stands.{BoundedAs, Bounds, BoundsOn, HasEndedWithin, IsLeftBounded, LeavesAfterBound, RefusesDisk, Stands}
+use Rattle.sw_host.specs.Reading.{IsRead, ReadsThen}
+use Rattle.sw_host.specs.Stands.{BoundedAs, Bounds, BoundsOn, HasEndedWithin, IsLeftBounded, LeavesAfterBound, Stands}
 use Rattle.sw_host.specs.Texts.{refusal_text}
 use Rattle.sw_host.specs.declared.command.Command.{Command}
 use Rattle.sw_host.specs.declared.command.Command.TheVariants as command
@@ -25,6 +24,7 @@ use Rattle.sw_rules.specs.Durable.{durable}
 use Rattle.sw_rules.specs.History.{after}
 use Rattle.sw_sizes.specs.Usage.{usage}
 use Rattle.sw_store.specs.Opened.{IsUnopened}
+use Rattle.sw_host.proofs.Refused.{IsOfRun, unread, unrefused}
 
 -- ---- a run that has ended
 
@@ -89,28 +89,10 @@ module _ {D : Type 0} (disk : Ghosts D) (old now : D) (limit : ℕ) (bytes : Lis
 
 -- ---- what a status says
 
--- own: statuses that of all recordings only those that were run have
-abbrev IsOfRun : Status → Type 0
-IsOfRun status.Done = Unit {0}
-IsOfRun status.Stalled = Unit {0}
-IsOfRun _ = ⊥
-
 module _ {D : Type 0} (disk : Ghosts D) (old new : D) (left : Option (List ℕ)) (text : List ℕ) where
   -- own: a recording was run under a limit to this status
   abbrev HasRun : ℕ → Status → Type 0
   HasRun limit outcome = (ended : BoundedEnd) × (outcome ≡ status_of ended) × HasEndedWithin disk old new limit left ended text
-
-  unrefused : (outcome : Status) → IsOfRun outcome → RefusesDisk disk old new outcome text → ⊥
-  unrefused status.Done run refused = refused
-  unrefused status.Stalled run refused = refused
-  unrefused _ run refused = absurd run
-
-  unread : (why : RecordingError) (outcome : Status) → IsOfRun outcome → RefusedAs why outcome text → ⊥
-  unread error.NoMemory outcome run refused = refused
-  unread (error.BadLine line cause) status.BadLine run refused = absurd run
-  unread (error.BadLine line cause) _ run refused = refused
-  unread (error.TooLarge line passed) status.TooLarge run refused = absurd run
-  unread (error.TooLarge line passed) _ run refused = refused
 
   reported : (limit : ℕ) (outcome : Status) → IsOfRun outcome → (bytes : List ℕ) → IsRead RECORDING_LIMIT left bytes → (what : Result Recording RecordingError)
       → recording_of bytes ≡ what → BoundedAs disk old new limit what outcome text → HasRun limit outcome

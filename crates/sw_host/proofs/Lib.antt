@@ -2,6 +2,7 @@ pub mod BoundLemmas
 pub mod EndLemmas
 pub mod GenLemmas
 pub mod NumberLemmas
+pub mod Refused
 pub mod StandLemmas
 pub mod StoringLemmas
 pub mod TextLemmas

@@ -7,40 +7,20 @@ use Rattle.sw_host.specs.declared.command.Command.TheVariants as command
 use Rattle.sw_host.specs.declared.statuses.Status.{Status}
 use Rattle.sw_host.specs.declared.statuses.Status.TheVariants as status
 use Rattle.sw_host.specs.Runs.{status_of}
-use Rattle.sw_host.specs.Reading.{IsRead, RefusedAs}
-use Rattle.sw_host.specs.Stands.{HasRunTo, RefusesDisk, ReplaysSource, ReportedAs, Stands}
+use Rattle.sw_host.specs.Reading.{IsRead}
+use Rattle.sw_host.specs.Stands.{HasRunTo, ReplaysSource, ReportedAs, Stands}
 use Rattle.sw_lock.specs.declared.pass.Spent.{Spent}
 use Rattle.sw_turns.specs.declared.ends.DriveEnd.{DriveEnd}
 use Rattle.sw_turns.specs.declared.ends.DriveEnd.TheVariants as drive_end
 use Rattle.sw_forms.specs.declared.error.RecordingError.{RecordingError}
-use Rattle.sw_forms.specs.declared.error.RecordingError.TheVariants as error
 use Rattle.sw_forms.specs.declared.limits.TheConstants.{RECORDING_LIMIT}
 use Rattle.sw_record.specs.Grammar.{recording_of}
-
--- own: statuses that of all recordings only those that were run have
-abbrev IsOfRun : Status → Type 0
-IsOfRun status.Done = Unit {0}
-IsOfRun status.Stalled = Unit {0}
-IsOfRun (status.Spent spent) = Unit {0}
-IsOfRun _ = ⊥
+use Rattle.sw_host.proofs.Refused.{IsOfRun, unread, unrefused}
 
 module _ {D : Type 0} (disk : Ghosts D) (old new : D) (left : Option (List ℕ)) (text : List ℕ) where
   -- own: so many workers have run a recording to this status
   abbrev HasRun : ℕ → Status → Type 0
   HasRun workers outcome = (ended : DriveEnd) × (outcome ≡ status_of ended) × HasRunTo disk old new workers left ended text
-
-  unrefused : (outcome : Status) → IsOfRun outcome → RefusesDisk disk old new outcome text → ⊥
-  unrefused status.Done run refused = refused
-  unrefused status.Stalled run refused = refused
-  unrefused (status.Spent spent) run refused = refused
-  unrefused _ run refused = absurd run
-
-  unread : (why : RecordingError) (outcome : Status) → IsOfRun outcome → RefusedAs why outcome text → ⊥
-  unread error.NoMemory outcome run refused = refused
-  unread (error.BadLine line cause) status.BadLine run refused = absurd run
-  unread (error.BadLine line cause) _ run refused = refused
-  unread (error.TooLarge line passed) status.TooLarge run refused = absurd run
-  unread (error.TooLarge line passed) _ run refused = refused
 
   reported : (workers : ℕ) (outcome : Status) → IsOfRun outcome → (bytes : List ℕ) → IsRead RECORDING_LIMIT left bytes → (what : Result Recording RecordingError)
       → recording_of bytes ≡ what → ReportedAs disk old new workers what outcome text → HasRun workers outcome

@@ -14,28 +14,13 @@ use Rattle.sw_host.specs.Watching.{EndsWatched, asked_of, look_text, looks_text}
 use Rattle.sw_readers.specs.declared.inputs.WatchedRecording.{WatchedRecording}
 use Rattle.sw_pool.specs.declared.looking.Asked.{Asked}
 use Rattle.sw_pool.specs.Looks.{AreAnswers}
-use Rattle.sw_pool.specs.Yards.{IsOriginOf, Origin, YardState, origin_of}
+use Rattle.sw_pool.specs.Yards.{IsOriginOf, Origin}
 use Rattle.sw_print.specs.Transcript.{transcript}
 use Rattle.sw_readers.specs.Watched.{watched_of}
 use Rattle.sw_turns.specs.declared.ends.DriveEnd.{DriveEnd}
 use Rattle.sw_turns.specs.declared.ends.DriveEnd.TheVariants as drive_end
 use Rattle.sw_turns.specs.Ends.{Ended}
-use Rattle.sw_view.specs.Views.{Published}
 use Rattle.sw_view.specs.declared.looker.Look.{Look}
-
--- a run that has begun with a view is of the recording on the disk, whatever it began with
-pub begun_watched : {D E : Type 0} (start : D) (workers : ℕ) (recording : Recording) (base : Kept) (result : Result (YardState D × Published × Published) E)
-    → IfOk result (λ made. made.0.origin ≡ origin_of workers recording base start) → IfOk result (λ made. IsOriginOf workers recording start made.0.origin)
-begun_watched start workers recording base (Ok made) is = (base, is)
-begun_watched start workers recording base (Err why) is = tt
-
--- the view is of the content that the run goes on from
-pub view_of : {D E : Type 0} (start : D) (workers : ℕ) (recording : Recording) (base : Kept) (result : Result (YardState D × Published × Published) E)
-    → IfOk result (λ made. made.0.origin ≡ origin_of workers recording base start)
-    → IfOk result (λ made. (made.1.base ≡ base) × (made.1.entries ≡ []) × (made.2 ≡ made.1))
-    → IfOk result (λ made. (made.1.base ≡ made.0.origin.base) × (made.1.entries ≡ []) × (made.2 ≡ made.1))
-view_of start workers recording base (Ok made) is (base_is, none, same) = (base_is ∙ sym (ap (λ (origin : Origin _). origin.base) is), none, same)
-view_of start workers recording base (Err why) is view = tt
 
 module _ {D : Type 0} (disk : Ghosts D) (start now : D) (workers : ℕ) (recording : Recording) (asked : List Asked) where
   -- the status and the text of a run with look-ups

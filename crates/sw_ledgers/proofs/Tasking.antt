@@ -1,5 +1,5 @@
 -- The rows of the table of addAlls: how they are found, added and changed.
-use Rattle.std.proofs.Common.{◌≡◌, ◌∙◌, ℕ, suc, ◌==◌, ◌+◌, ◌<◌, ◌≤◌, ◌^◌, Bool, true, false, List, [], ◌∷◌, ◌++◌, map, length, drop, ◌-◌, ◌&&◌, filter, is_none, Option, Some, None, option_map, refl, sym, ap, subst, arith, slice_set, slice_index_or, if◌then◌else◌}
+use Rattle.std.proofs.Common.{◌≡◌, ◌∙◌, ℕ, suc, ◌==◌, ◌+◌, ◌<◌, ◌≤◌, Bool, true, false, List, [], ◌∷◌, ◌++◌, map, length, drop, ◌-◌, ◌&&◌, is_none, Option, Some, None, option_map, refl, sym, ap, subst, arith, slice_set, slice_index_or, if◌then◌else◌}
 use Rattle.std.specs.Prelude.{bytes_eq, nat_lt}
 use Rattle.std.specs.List.{find, list_any, range_with_len}
 use Rattle.std.specs.Option.{option_map_or}

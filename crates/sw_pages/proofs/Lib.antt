@@ -1,6 +1,5 @@
 pub mod Active
 pub mod Asking
-pub mod Awaiting
 pub mod Given
 pub mod Listed
 pub mod Named

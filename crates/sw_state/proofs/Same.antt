@@ -169,19 +169,3 @@ same_refl host = record {
   tasks = refl;
   draws = refl;
 }
-
-pub same_trans : (old mid new : Hosted) → SameRows old mid → SameRows mid new → SameRows old new
-same_trans old mid new first second = record {
-  scopes = λ key scope. second.scopes key scope ∙ first.scopes key scope;
-  jobs = second.jobs ∙ first.jobs;
-  workers = second.workers ∙ first.workers;
-  events = second.events ∙ first.events;
-  registrations = second.registrations ∙ first.registrations;
-  clients = second.clients ∙ first.clients;
-  known = omega (arith, first.known, second.known);
-  caches = second.caches ∙ first.caches;
-  preloads = second.preloads ∙ first.preloads;
-  promises = second.promises ∙ first.promises;
-  tasks = second.tasks ∙ first.tasks;
-  draws = second.draws ∙ first.draws;
-}

@@ -41,9 +41,6 @@ any_found : {X : Type 0} (test : X → Bool) (xs : List X) → list_any test xs 
 any_found test [] = refl
 any_found test (x ∷ xs) = grind (arith, any_found test xs)
 
-find_apart : {X : Type 0} (p q : X → Bool) → ((x : X) → p x ≡ true → q x ≡ true → ⊥) → (xs : List X) (x : X) → find p xs ≡ Some x → q x ≡ true → ⊥
-find_apart p q apart xs x is passes = apart x (find_passes p xs x is) passes
-
 module _ {X : Type 0} (number : X → ℕ) where
   abbrev at : ℕ → List X → Option X
   at n rows = find (λ row. number row == n) rows
