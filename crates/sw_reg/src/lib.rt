@@ -2,6 +2,7 @@
 #![tactic(auto)]
 
 mod by_key;
+mod copies;
 mod edit;
 mod registrations;
 

@@ -8,6 +8,7 @@ ghost use Rattle.sw_reg.specs.Fits.{FitsRegistration};
 ghost use Rattle.sw_reg.specs.Table.{first_of, firsts, has_registration, is_registration, is_there, newest_of, next_of, registration_at, slot_of};
 
 use crate::by_key::ByKey;
+use crate::copies::{copy_rows, index_of, owed_of};
 use crate::edit::{Edit, carry_out};
 use std::alloc::Global;
 use std::marker::Model;
@@ -84,6 +85,23 @@ impl Registrations {
             owed: Flags::new(alloc),
             spare: 0,
         }
+    }
+
+    /// A table of its own that equals this one, but for the room for more. It takes time and memory in the registrations
+    /// and in their keys and scopes.
+    pub fn copy(&self, alloc: Global) -> Result<Registrations, NoMemory>
+        ensures { IfOk result (λ copy. copy ≡ record self.now { spare = copy.spare }) }
+    {
+        let rows = copy_rows(alloc, &self.rows)?;
+        let by_key = index_of(alloc, &self.rows)?;
+        let owed = owed_of(alloc, &self.rows)?;
+        Ok(Registrations {
+            rows,
+            by_key,
+            firsts: self.firsts,
+            owed,
+            spare: 0,
+        })
     }
 
     /// How many registrations there are.
