@@ -1,16 +1,27 @@
 -- The tally of the keys of the clients: what each call does to it.
-use Rattle.std.proofs.Common.{◌≡◌, ◌∙◌, ◌+◌, ◌-◌, ℕ, nat_eq, List, [], ◌∷◌, ◌++◌, map, filter, length, Some, refl, sym, ap, arith, if◌then◌else◌}
+use Rattle.std.proofs.Common.{◌≡◌, ◌∙◌, ◌+◌, ◌-◌, ℕ, nat_eq, List, [], ◌∷◌, ◌++◌, map, filter, length, slice_get, slice_index_or, take, Some, refl, sym, ap, subst, arith, if◌then◌else◌}
 use Rattle.std.specs.Prelude.{bytes_eq, nat_lt}
-use Rattle.std.specs.List.{list_any}
+use Rattle.std.specs.List.{IsDistinct, list_any}
 use Rattle.std.specs.Map.{lookup, remove_entry, set_value, values_of}
+use Rattle.std.proofs.lemmas.List.{take_more}
+use Rattle.std.proofs.lemmas.Option.{get_or_from_slice_get, slice_get_within}
 use Rattle.sw_data.specs.declared.rows.ClientRow.{ClientRow}
 use Rattle.sw_list.proofs.Tallies.{any_passes, passing_more}
 use Rattle.sw_list.specs.Tally.{Tally, count_of}
 use Rattle.sw_client.specs.declared.OpenClient.{OpenClient}
-use Rattle.sw_client.specs.Table.{AreTallied, CountsUsers, handed, is_of}
+use Rattle.sw_client.specs.Table.{AreTallied, CountsUsers, HaveKeys, IsKept, handed, is_of}
 use Rattle.sw_client.proofs.KeyedRows.{count_changed, count_removed}
-use Rattle.sw_client.proofs.OfClients.{Entries, added_rows, apart_now, found_by, given_rows, number, removed_rows}
+use Rattle.sw_client.proofs.OfClients.{Entries, added_rows, apart_now, found_by, given_rows, now_counted, number, removed_rows}
 use Rattle.sw_client.proofs.TakeOver.{edited, edited_values}
+
+-- no clients, no counts and no keys
+pub none_kept : (es : Entries) (counts : List ℕ) (keys : Tally) → es ≡ [] → counts ≡ [] → ((key : List ℕ) → count_of keys key ≡ 0) → IsKept es counts keys
+unfolding IsDistinct
+none_kept es counts keys no_rows no_counts none =
+    subst (λ (all : Entries). IsKept all counts keys) (sym no_rows) (record {
+      counted = now_counted [] [] counts refl tt (λ registration. ap (λ (all : List ℕ). slice_index_or all registration 0) no_counts) (omega arith);
+      tallied = none;
+    })
 
 -- a client of a key is open where the tally has the key
 pub any_of : (key : List ℕ) (es : Entries) (keys : Tally) → AreTallied es keys
@@ -26,6 +37,15 @@ pub added_tallied : (new : OpenClient) (es after : Entries) (keys now : Tally) �
 added_tallied new es after keys now tallied is more key =
     let rows = ap (λ (rows : List OpenClient). length (filter (is_of key) rows)) (added_rows new es after is) in
     omega (arith, more key, tallied key, rows, passing_more (is_of key) (values_of es) new)
+
+-- the tally has the keys of the clients to a place and of the one at it
+pub keys_at : (rows : List OpenClient) (i : ℕ) (row : OpenClient) (keys now : Tally) → slice_get rows i ≡ Some row → HaveKeys (take i rows) keys
+    → ((key : List ℕ) → count_of now key ≡ count_of keys key + (if is_of key row then 1 else 0)) → HaveKeys (take (i + 1) rows) now
+keys_at rows i row keys now at have more key =
+    let front : take (i + 1) rows ≡ take i rows ++ row ∷ [] =
+    take_more rows i row (slice_get_within rows i row at) ∙ ap (λ (last : OpenClient). take i rows ++ last ∷ []) (get_or_from_slice_get rows i row row at) in
+    let many = ap (λ (all : List OpenClient). length (filter (is_of key) all)) front in
+    omega (arith, more key, have key, many, passing_more (is_of key) (take i rows) row)
 
 pub removed_tallied : (n : ℕ) (es after : Entries) (counts : List ℕ) (keys now : Tally) (x : OpenClient) → CountsUsers es counts → AreTallied es keys → lookup (nat_eq n) es ≡ Some x
     → after ≡ remove_entry (nat_eq n) es → ((key : List ℕ) → count_of now key ≡ count_of keys key - (if is_of key x then 1 else 0)) → AreTallied after now

@@ -62,9 +62,13 @@ pub record CountsUsers (entries : List (ℕ × OpenClient)) (counts : List ℕ) 
 abbrev pub is_of : List ℕ → OpenClient → Bool
 is_of key row = bytes_eq row.client.key key
 
+-- the tally has the key of each of these clients, and no other
+abbrev pub HaveKeys : List OpenClient → Tally → Type 0
+HaveKeys rows keys = (key : List ℕ) → count_of keys key ≡ length (filter (is_of key) rows)
+
 -- the tally has the key of each client
 abbrev pub AreTallied : List (ℕ × OpenClient) → Tally → Type 0
-AreTallied entries keys = (key : List ℕ) → count_of keys key ≡ length (filter (is_of key) (values_of entries))
+AreTallied entries keys = HaveKeys (values_of entries) keys
 
 -- what is kept of the clients
 pub record IsKept (entries : List (ℕ × OpenClient)) (counts : List ℕ) (keys : Tally) : Type 0 where

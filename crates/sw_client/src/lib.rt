@@ -10,6 +10,7 @@ ghost use Rattle.sw_data.specs.declared.answers.Notice.TheVariants as notice;
 ghost use Rattle.sw_rules.specs.Rows.{changed, is_client, without};
 ghost use Rattle.sw_client.specs.Table.{FitsClient, clients_of, controlled_by, handed, is_open, uncontrolled, users_of, uses};
 
+mod copies;
 mod counts;
 
 use std::alloc::Global;
@@ -180,6 +181,17 @@ impl Clients {
             counts: Vec::new(alloc),
             keys: Tally::new(alloc),
         }
+    }
+
+    /// A table of its own that equals this one, but for the room for more. It takes time and memory in the clients, in their
+    /// addresses and keys, and in the registrations that are known.
+    pub fn copy(&self, alloc: Global) -> Result<Clients, NoMemory>
+        ensures { IfOk result (λ copy. copy ≡ record self.now { spare = copy.spare }) }
+    {
+        let rows = copies::copy_rows(alloc, &self.rows)?;
+        let counts = copies::copy_counts(alloc, &self.counts)?;
+        let keys = copies::keys_of(alloc, &self.rows)?;
+        Ok(Clients { rows, counts, keys })
     }
 
     /// Makes the room to count the users of the registrations below this number; rows and counts stay. It stands apart

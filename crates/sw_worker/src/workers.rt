@@ -7,6 +7,7 @@ ghost use Rattle.sw_worker.specs.Edits.{advanced, allows, call_counted, edited, 
 ghost use Rattle.sw_worker.specs.Fits.{FitsEvent, FitsWorker};
 ghost use Rattle.sw_worker.specs.Table.{event_at, events_on, has_calls_left, has_pending, has_unsettled, has_worker, is_activated, is_event, is_idle, is_pending, is_running, is_there, is_worker, may_advance, may_follow, runs_activate, worker_at};
 
+use crate::copies::{activating_of, copy_counts, copy_events, copy_rows};
 use crate::edit::{Edit, carry_out};
 use crate::made::{BeginFault, NewEvent, NewWorker, NoEvent, WrongState};
 use std::alloc::Global;
@@ -74,7 +75,7 @@ fn is_number(number: Option<u32>, other: u32) -> bool
 }
 
 // Whether a handler of phase activate of a worker runs.
-fn runs_activate(row: &WorkerRow) -> bool
+pub(crate) fn runs_activate(row: &WorkerRow) -> bool
     ensures { result ≡ runs_activate row.now }
 {
     match row.handler {
@@ -104,6 +105,26 @@ impl Workers {
             events: Ordered::new(alloc),
             activating: Flags::new(alloc),
         }
+    }
+
+    /// A table of its own that equals this one, but for the room for more. It takes time and memory in the workers, in their
+    /// scripts, bodies and handlers, and in the fetch events that are pending.
+    pub fn copy(&self, alloc: Global) -> Result<Workers, NoMemory>
+        ensures { IfOk result (λ copy. copy ≡ record self.now {
+          spare_rows = copy.spare_rows;
+          spare_events = copy.spare_events;
+        }) }
+    {
+        let rows = copy_rows(alloc, &self.rows)?;
+        let counts = copy_counts(alloc, &self.counts)?;
+        let events = copy_events(alloc, &self.events)?;
+        let activating = activating_of(alloc, &self.rows)?;
+        Ok(Workers {
+            rows,
+            counts,
+            events,
+            activating,
+        })
     }
 
     /// How many workers there are.
