@@ -1,14 +1,10 @@
-pub mod Activating
 pub mod Claimants
-pub mod Counting
+pub mod ClaimTold
+pub mod Copies
 pub mod Ended
-pub mod Leaving
 pub mod Names
 pub mod OneByOne
 pub mod Owing
 pub mod Pending
-pub mod Rows
-pub mod Shown
-pub mod Steps
 pub mod Unloading
 pub mod Unregistering

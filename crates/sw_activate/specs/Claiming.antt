@@ -1,47 +1,31 @@
--- The registrations that a claim activates, in order (Service Workers, Clients, "claim()").
-use Rattle.std.specs.Prelude.{ℕ, false, List, [], ◌∷◌, ◌++◌, map, is_some, Some, None, if◌then◌else◌}
+-- The registrations that a claim activates, in order, and what is kept of that (Service Workers, Clients, "claim()").
+use Rattle.std.specs.Prelude.{ℕ, List, [], Option, None}
+use Rattle.std.specs.List.{filter_map}
 use Rattle.std.specs.Option.{option_map_or}
-use Rattle.sw_rules.specs.Clients.{claim_client, claims}
-use Rattle.sw_rules.specs.Registrations.{chosen, left_by, try_clear, used_registration}
-use Rattle.sw_rules.specs.Rows.{client_row, is_active, is_mapped, is_used, worker_row}
+use Rattle.sw_data.specs.declared.answers.Notice.{Notice}
+use Rattle.sw_data.specs.declared.answers.Notice.TheVariants as notice
+use Rattle.sw_data.specs.declared.storage.Change.{Change}
+use Rattle.sw_data.specs.declared.storage.Change.TheVariants as change
+use Rattle.sw_data.specs.declared.workers.WorkerState.TheVariants as worker_state
+use Rattle.sw_rules.specs.Clients.{claim_of}
+use Rattle.sw_rules.specs.Rows.{registration_of, worker_row}
 use Rattle.sw_rules.specs.State.{State}
+use Rattle.sw_rules.specs.Told.{kept_change}
 
--- the registration, where a client has left it and a Try Activate then makes its waiting worker the active one
-abbrev pub activated_by_release : State → ℕ → List ℕ
-activated_by_release state registration =
-    if is_used state registration then []
-    else if is_some (chosen (if is_mapped state registration then state else (try_clear state registration).state) registration)
-    then registration ∷ []
-    else []
+-- the registration of a worker that a notice makes the active one
+abbrev pub activated_by : State → Notice → Option ℕ
+activated_by state (notice.Worker worker worker_state.Activating) = registration_of state worker
+activated_by state _ = None
 
--- the registration that is activated where a client leaves the one that it uses (Service Workers, Appendix A, "Handle Service Worker Client Unload")
-abbrev pub activated_by_unload : State → ℕ → List ℕ
-activated_by_unload state client =
-    elim (used_registration state client) [
-      | None ↦ []
-      | Some registration ↦ activated_by_release (left_by client state) registration
-    ]
-
--- the registration that is activated where a client is claimed, if it is to be
-abbrev pub activated_by_claim : State → ℕ → ℕ → ℕ → List ℕ
-activated_by_claim state worker registration number =
-    if option_map_or (claims state worker registration) (client_row state number) false
-    then activated_by_unload state number
-    else []
-
--- the registrations that are activated where clients are claimed, one after another
-abbrev pub activated_by_claims : State → ℕ → ℕ → List ℕ → List ℕ
-activated_by_claims state worker registration [] = []
-activated_by_claims state worker registration (number ∷ rest) =
-    activated_by_claim state worker registration number
-    ++ activated_by_claims (claim_client state worker registration number).state worker registration rest
+-- the registrations whose waiting worker became the active one, by what was told, in order
+abbrev pub activated_in : State → List Notice → List ℕ
+activated_in state notices = filter_map (activated_by state) notices
 
 -- the registrations that a claim by a worker activates, in order; none where it isn't active
 abbrev pub claimed : State → ℕ → List ℕ
 claimed state worker =
-    option_map_or
-    (λ row.
-    if is_active row.state
-    then activated_by_claims state row.number row.registration (map (λ client. client.number) state.clients)
-    else [])
-    (worker_row state worker) []
+    option_map_or (λ row. activated_in state (claim_of state row).told.notices) (worker_row state worker) []
+
+-- the durable change where the waiting worker of a registration becomes the active one
+abbrev pub activation_change : State → ℕ → List Change
+activation_change state registration = kept_change state registration (λ row. change.Active row.key row.scope)

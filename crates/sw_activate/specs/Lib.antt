@@ -1,5 +1,4 @@
 pub mod Answers
 pub mod Claiming
-pub mod Counting
 pub mod Names
 pub mod Running

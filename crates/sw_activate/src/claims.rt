@@ -143,7 +143,7 @@ fn claim_at(
 }
 
 // Clients are claimed, in order of opening.
-fn claim_clients(
+pub(crate) fn claim_clients(
     worker: u32,
     registration: u32,
     map: &ScopeMap,

@@ -101,7 +101,8 @@ impl Core {
     }
 
     /// The registrations that a claim by this worker would activate now, in that order; none where the worker isn't active
-    /// (Service Workers, Clients, "claim()"). It takes time linear in the clients and the registrations.
+    /// (Service Workers, Clients, "claim()"). The claim is done on copies of the tables of workers, registrations and
+    /// clients.
     pub fn claimed(&self, alloc: Global, worker: u32) -> Result<Vec<u32>, NoMemory>
         ensures { IfOk result (λ numbers. numbers.items ≡ activating.claimed (state_of self.now) worker) }
     {

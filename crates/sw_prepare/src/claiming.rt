@@ -40,8 +40,7 @@ fn active_changes(
     Ok(changes)
 }
 
-// The durable changes of a claim by an active worker of a registration, in time linear in the clients and the
-// registrations: those of the registrations that it activates.
+// The durable changes of a claim by an active worker of a registration: those of the registrations that it activates.
 pub(crate) fn claim_changes(
     alloc: Global,
     worker: u32,
@@ -57,7 +56,6 @@ pub(crate) fn claim_changes(
         (lent map.now workers.now registrations.now clients.now rest) worker registration
         (numbers_of clients.now)).changes) }
 {
-    clients.are_apart();
     let numbers = claimed(alloc, worker, map, workers, registrations, clients)?;
     active_changes(alloc, &numbers, map, registrations)
 }

@@ -8,4 +8,4 @@ use Rattle.sw_core.proofs.asking.claimed_of.Goals as goal
 pub returns : goal.returns
 returns c =
     subst (λ (h : Hosted). IfOk c.claimed.result (λ numbers. numbers.items ≡ claimed (state_of h) c.args.worker)) c.host.view_is
-    (c.claimed.ensures (rest_of (the_view c.host.inside)))
+    (c.claimed.ensures.numbers (rest_of (the_view c.host.inside)))

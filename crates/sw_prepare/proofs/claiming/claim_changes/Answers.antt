@@ -1,6 +1,5 @@
-use Rattle.std.proofs.Common.{◌≡◌, ◌∙◌, List, IfOk, ap, subst}
+use Rattle.std.proofs.Common.{◌≡◌, ◌∙◌, List, ℕ, IfOk, ap, subst}
 use Rattle.std.specs.List.{flat_map}
-use Rattle.sw_activate.specs.Claiming.{claimed}
 use Rattle.sw_data.specs.declared.storage.Change.{Change}
 use Rattle.sw_rules.specs.State.{State}
 use Rattle.sw_tables.specs.Lent.{lent}
@@ -11,8 +10,8 @@ use Rattle.sw_prepare.proofs.claiming.claim_changes.Goals as goal
 pub returns : goal.returns
 returns c = λ rest registration claimant.
     let state : State = lent c.args.map.now c.args.workers.now c.args.registrations.now c.args.clients.now rest in
-    let are : c.deref.result.now ≡ claimed state c.args.worker = c.deref.ensures.value ∙ c.in_ok-numbers.ensures rest in
     subst (λ (told : List Change). IfOk c.active_changes.result (λ changes. changes.items ≡ told))
-    (ap (flat_map (active_change state)) are
-    ∙ changes_told c.args.map.now c.args.workers.now c.args.registrations.now c.args.clients.now rest c.requires.linked c.are_apart.ensures c.args.worker registration claimant)
+    (ap (flat_map (active_change state)) c.deref.ensures.value
+    ∙ changes_told c.args.map.now c.args.workers.now c.args.registrations.now c.args.clients.now rest c.args.worker registration claimant
+    c.in_ok-numbers.numbers.items (c.in_ok-numbers.ensures.changes rest))
     (c.active_changes.ensures c.args.workers.now c.args.clients.now rest c.requires.linked.slots)
