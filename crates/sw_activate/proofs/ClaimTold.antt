@@ -1,5 +1,5 @@
 -- The durable changes of claims are those of the registrations whose workers their notices make active.
-use Rattle.std.proofs.Common.{◌≡◌, ◌∙◌, ◌<◌, ◌+◌, ◌==◌, ◌&&◌, ◌||◌, ℕ, Bool, true, false, List, [], ◌∷◌, ◌++◌, map, filter, find, length, get_or, take, is_some, Option, Some, None, option_map, option_and_then, refl, sym, ap, arith, if◌then◌else◌}
+use Rattle.std.proofs.Common.{◌≡◌, ◌∙◌, ◌<◌, ◌+◌, ◌==◌, ◌&&◌, ◌||◌, ℕ, Bool, true, false, List, [], ◌∷◌, ◌++◌, map, filter, find, length, get_or, take, is_some, Option, Some, None, option_and_then, refl, sym, ap, arith, if◌then◌else◌}
 use Rattle.std.specs.List.{filter_map, flat_map, list_any}
 use Rattle.std.specs.Option.{option_map_or}
 use Rattle.std.specs.Prelude.{option_to_list}
@@ -19,7 +19,7 @@ use Rattle.sw_data.specs.declared.workers.Slot.TheVariants as place
 use Rattle.sw_data.specs.declared.workers.WorkerState.{WorkerState}
 use Rattle.sw_data.specs.declared.workers.WorkerState.TheVariants as worker_state
 use Rattle.sw_rules.specs.Clients.{claim_client, claim_clients, claims, take_control}
-use Rattle.sw_rules.specs.Registrations.{activate, become, chosen, clear, controlled_by, left_by, may_replace, new_handler, recheck, release, retire, start_handler, take_over, try_activate, try_clear, unload, used_registration}
+use Rattle.sw_rules.specs.Registrations.{activate, become, clear, controlled_by, left_by, may_replace, new_handler, recheck, release, retire, start_handler, take_over, try_activate, try_clear, unload, used_registration}
 use Rattle.sw_rules.specs.Rows.{changed, client_row, has_pending_worker, has_worker, in_slot, is_client, is_mapped, is_number, is_registration, is_used, is_worker, registration_of, registration_row, slot_worker, uses}
 use Rattle.sw_rules.specs.State.{State, Registration, Worker}
 use Rattle.sw_rules.specs.Told.{Told, followed, is_kept, keep, kept_change, quiet}

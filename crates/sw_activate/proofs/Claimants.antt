@@ -1,5 +1,5 @@
 -- What a claim by a worker of the table activates.
-use Rattle.std.proofs.Common.{◌≡◌, ◌∙◌, ◌==◌, ℕ, Bool, true, false, List, [], map, length, find, Option, Some, None, option_map, refl, sym, ap, subst, if◌then◌else◌}
+use Rattle.std.proofs.Common.{◌≡◌, ◌∙◌, ◌==◌, ℕ, Bool, true, false, List, [], map, find, Option, Some, None, option_map, refl, sym, ap, subst, if◌then◌else◌}
 use Rattle.std.specs.List.{flat_map, range_with_len}
 use Rattle.std.specs.Option.{option_map_or}
 use Rattle.std.specs.Prelude.{IfSome}
@@ -11,7 +11,6 @@ use Rattle.sw_data.specs.declared.answers.StateCause.TheVariants as state_cause
 use Rattle.sw_data.specs.declared.rows.WorkerRow.{WorkerRow}
 use Rattle.sw_reg.specs.Table as registrations
 use Rattle.sw_rules.specs.Clients.{claim_clients, claim_of}
-use Rattle.sw_rules.specs.Rows as rows_of
 use Rattle.sw_rules.specs.Rows.{is_active, is_number, is_worker, worker_row}
 use Rattle.sw_rules.specs.State.{State, Worker}
 use Rattle.sw_rules.specs.Told.{Told, Outcome, quiet, refused}

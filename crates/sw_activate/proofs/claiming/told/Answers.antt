@@ -1,6 +1,6 @@
 use Rattle.std.proofs.Common.{◌∙◌}
 use Rattle.sw_tables.specs.Lent.{lent}
-use Rattle.sw_activate.proofs.Copies.{AreCopies, copies_linked, told_on_copies}
+use Rattle.sw_activate.proofs.Copies.{copies_linked, told_on_copies}
 use Rattle.sw_activate.proofs.claiming.told.Goals as goal
 
 pub claim_clients-requires-clause-linked : goal.claim_clients-requires-clause-linked

@@ -1,4 +1,4 @@
-use Rattle.std.proofs.Common.{◌≡◌, ◌∙◌, List, ℕ, IfOk, ap, subst}
+use Rattle.std.proofs.Common.{◌≡◌, ◌∙◌, List, IfOk, ap, subst}
 use Rattle.std.specs.List.{flat_map}
 use Rattle.sw_data.specs.declared.storage.Change.{Change}
 use Rattle.sw_rules.specs.State.{State}
