@@ -1,5 +1,5 @@
 -- The durable changes of claims are those of the registrations whose workers their notices make active.
-use Rattle.std.proofs.Common.{◌≡◌, ◌∙◌, ◌<◌, ◌+◌, ◌==◌, ◌&&◌, ◌||◌, ℕ, Bool, true, false, List, [], ◌∷◌, ◌++◌, map, filter, find, length, get_or, take, is_some, Option, Some, None, option_and_then, refl, sym, ap, arith, if◌then◌else◌}
+use Rattle.std.proofs.Common.{◌≡◌, ◌∙◌, ◌<◌, ◌+◌, ◌==◌, ◌&&◌, ◌||◌, ℕ, Bool, true, false, true≢false, List, [], ◌∷◌, ◌++◌, map, filter, find, length, get_or, take, is_some, Option, Some, None, option_and_then, refl, sym, ap, arith, if◌then◌else◌}
 use Rattle.std.specs.List.{filter_map, flat_map, list_any}
 use Rattle.std.specs.Option.{option_map_or}
 use Rattle.std.specs.Prelude.{option_to_list}
@@ -31,6 +31,10 @@ use Rattle.sw_activate.proofs.Names.{of_worker, seen_same}
 -- own: a worker is found under its number as one of its registration
 abbrev pub IsOwned : State → Type 0
 IsOwned state = (registration number : ℕ) → has_worker (λ row. row.registration == registration) state.workers number ≡ is_number (registration_of state number) registration
+
+-- own: no worker waits
+abbrev pub NoneWait : State → Type 0
+NoneWait state = (registration : ℕ) → is_some (slot_worker state place.Waiting registration) ≡ false
 
 is_one : (o : Option ℕ) (n : ℕ) → is_number o n ≡ true → o ≡ Some n
 is_one None n is = absurd cc
@@ -217,15 +221,18 @@ module _ (first : State) (owned : IsOwned first) where
 
   -- ---- parts whose changes are those of what they activate
 
-  -- own: a part has the durable changes of the registrations that it activates, by what it tells
+  -- own: a part has the durable changes of the registrations that it activates, by what it tells, and activates none
+  -- where none waits
   record Follows (told : Told) : Type 0 where
     stands : Stands told.state
     changes : told.changes ≡ flat_map (activation_change first) (activated_in first told.notices)
+    idle : NoneWait first → activated_in first told.notices ≡ []
 
-  follows : (made : List ℕ) (told : Told) → Comes made (flat_map (activation_change first) made) told → Follows told
-  follows made told comes = record {
+  follows : (made : List ℕ) (told : Told) → (NoneWait first → made ≡ []) → Comes made (flat_map (activation_change first) made) told → Follows told
+  follows made told idle comes = record {
     stands = comes.stands;
     changes = comes.changes ∙ ap (flat_map (activation_change first)) (sym comes.made);
+    idle = λ none. comes.made ∙ idle none;
   }
 
   follows_then : (told : Told) (next : State → Told) → Follows told → (Stands told.state → Follows (next told.state)) → Follows (followed told next)
@@ -237,10 +244,13 @@ module _ (first : State) (owned : IsOwned first) where
             (λ i. before.changes i ++ later.changes i)
             ∙ (sym (flat_map-append (activation_change first) (activated_in first told.notices) (activated_in first (next told.state).notices))
             ∙ ap (flat_map (activation_change first)) (sym (filter_map-append (activated_by first) told.notices (next told.state).notices)));
+        idle = λ none.
+            filter_map-append (activated_by first) told.notices (next told.state).notices
+            ∙ (λ i. before.idle none i ++ later.idle none i);
       }
 
   nothing : (state : State) → Stands state → Follows (quiet state)
-  nothing state stands = follows [] (quiet state) (quietly state stands)
+  nothing state stands = follows [] (quiet state) (λ none. refl) (quietly state stands)
 
   tries : (state : State) (registration : ℕ) → Stands state → Follows (try_activate state registration)
   unfolding try_activate
@@ -252,7 +262,8 @@ module _ (first : State) (owned : IsOwned first) where
       one : (waiting : Worker) → slot_worker state place.Waiting registration ≡ Some waiting → (b : Bool) → Follows (tried (if b then Some waiting.number else None))
       one waiting found true =
           let comes = activates state registration waiting stands found in
-          follows (registration ∷ []) (activate state registration waiting.number) (record {
+          let waits = stands.waiting registration (ap is_some found) in
+          follows (registration ∷ []) (activate state registration waiting.number) (λ none. absurd (true≢false (sym waits ∙ none registration))) (record {
             stands = comes.stands;
             made = comes.made;
             changes = comes.changes ∙ sym (append-nil (activation_change first registration));
@@ -267,7 +278,7 @@ module _ (first : State) (owned : IsOwned first) where
   clears : (state : State) (registration : ℕ) → Stands state → Follows (clear state registration)
   unfolding clear
   clears state registration stands =
-      follows [] (clear state registration)
+      follows [] (clear state registration) (λ none. refl)
       (comes_then [] [] [] [] _ _ (retires state place.Installing registration stands) (λ one.
       comes_then [] [] [] [] _ _ (retires _ place.Waiting registration one) (λ two. retires _ place.Active registration two)))
 
@@ -311,7 +322,7 @@ module _ (first : State) (owned : IsOwned first) where
 
   takes : (state : State) (worker client : ℕ) → Stands state → Follows (take_control state worker client)
   unfolding take_control
-  takes state worker client stands = record { stands = still state (changed (is_client client) (controlled_by worker) state.clients) stands; changes = refl }
+  takes state worker client stands = record { stands = still state (changed (is_client client) (controlled_by worker) state.clients) stands; changes = refl; idle = λ none. refl }
 
   claims_one : (state : State) (worker registration client : ℕ) → Stands state → Follows (claim_client state worker registration client)
   unfolding claim_client
@@ -331,3 +342,7 @@ module _ (first : State) (owned : IsOwned first) where
   pub claims_told : (worker registration : ℕ) (numbers : List ℕ) → flat_map (activation_change first) (activated_in first (claim_clients first worker registration numbers).notices)
       ≡ (claim_clients first worker registration numbers).changes
   claims_told worker registration numbers = sym (claims_all numbers first worker registration begins).changes
+
+  -- where none waits, none is activated
+  pub none_told : NoneWait first → (worker registration : ℕ) (numbers : List ℕ) → activated_in first (claim_clients first worker registration numbers).notices ≡ []
+  none_told none worker registration numbers = (claims_all numbers first worker registration begins).idle none

@@ -1,6 +1,6 @@
 -- What a claim by a worker of the table activates.
-use Rattle.std.proofs.Common.{◌≡◌, ◌∙◌, ◌==◌, ℕ, Bool, true, false, List, [], map, find, Option, Some, None, option_map, refl, sym, ap, subst, if◌then◌else◌}
-use Rattle.std.specs.List.{flat_map, range_with_len}
+use Rattle.std.proofs.Common.{◌≡◌, ◌∙◌, ◌==◌, ◌||◌, ℕ, Bool, true, false, List, [], ◌∷◌, map, find, is_some, Option, Some, None, option_and_then, option_map, refl, sym, ap, subst, if◌then◌else◌}
+use Rattle.std.specs.List.{flat_map, list_any, range_with_len}
 use Rattle.std.specs.Option.{option_map_or}
 use Rattle.std.specs.Prelude.{IfSome}
 use Rattle.std.proofs.lemmas.List.{length-map}
@@ -8,21 +8,25 @@ use Rattle.sw_client.specs.Table as clients
 use Rattle.sw_data.specs.declared.answers.Answer.TheVariants as answer
 use Rattle.sw_data.specs.declared.answers.Fault.TheVariants as fault
 use Rattle.sw_data.specs.declared.answers.StateCause.TheVariants as state_cause
+use Rattle.sw_data.specs.declared.rows.RegistrationRow.{RegistrationRow}
 use Rattle.sw_data.specs.declared.rows.WorkerRow.{WorkerRow}
+use Rattle.sw_data.specs.declared.workers.Slot.TheVariants as place
 use Rattle.sw_reg.specs.Table as registrations
+use Rattle.sw_reg.specs.Table.{in_slot, registration_at, slot_of}
 use Rattle.sw_rules.specs.Clients.{claim_clients, claim_of}
 use Rattle.sw_rules.specs.Rows.{is_active, is_number, is_worker, worker_row}
 use Rattle.sw_rules.specs.State.{State, Worker}
 use Rattle.sw_rules.specs.Told.{Told, Outcome, quiet, refused}
 use Rattle.sw_scope.specs.Scopes.{Scopes}
 use Rattle.sw_tables.proofs.Rows.{any_at, find_map, found_number}
+use Rattle.sw_tables.proofs.Shown.{slot_shown}
 use Rattle.sw_tables.specs.Lent.{Rest, lent, shown_worker}
 use Rattle.sw_tables.specs.Linked.{ArePlaces, Linked}
 use Rattle.sw_worker.specs.Table as workers
 use Rattle.sw_worker.specs.Table.{worker_at}
 use Rattle.sw_activate.specs.Claiming.{activated_in, activation_change, claimed}
 use Rattle.sw_activate.specs.Names.{numbers_of}
-use Rattle.sw_activate.proofs.ClaimTold.{IsOwned}
+use Rattle.sw_activate.proofs.ClaimTold.{IsOwned, NoneWait}
 use Rattle.sw_activate.proofs.Names.{map_map, of_row}
 
 module _ (scopes : Scopes) (of_workers : workers.Table) (of : registrations.Table) (of_clients : clients.Table) (rest : Rest) where
@@ -43,6 +47,28 @@ module _ (scopes : Scopes) (of_workers : workers.Table) (of : registrations.Tabl
       by : (o : Option Worker) → option_map_or (λ row. row.registration == registration) o false ≡ is_number (option_map (λ row. row.registration) o) registration
       by None = refl
       by (Some row) = refl
+
+  -- no worker waits where no registration notes one
+  pub none_wait : Linked scopes of_workers of of_clients → list_any (λ row. is_some row.waiting) of.rows ≡ false → NoneWait state
+  none_wait linked none registration =
+      ap is_some
+      (slot_shown of_workers of scopes of_clients rest place.Waiting registration linked.slots
+      ∙ ap (λ (o : Option ℕ). option_map shown_worker (option_and_then (λ number. worker_at number of_workers.rows) o)) (empty of.rows none))
+    where
+      noted : (waiting : Option ℕ) (others : Bool) → (is_some waiting || others) ≡ false → (waiting ≡ None) × (others ≡ false)
+      noted None others none = (refl, none)
+      noted (Some number) others none = absurd cc
+
+      first : (row : RegistrationRow) (later : Option RegistrationRow) (here : Bool) → row.waiting ≡ None → option_and_then (in_slot place.Waiting) later ≡ None
+          → option_and_then (in_slot place.Waiting) (if here then Some row else later) ≡ None
+      first row later true none rest = none
+      first row later false none rest = rest
+
+      empty : (rows : List RegistrationRow) → list_any (λ row. is_some row.waiting) rows ≡ false → slot_of place.Waiting registration rows ≡ None
+      empty [] none = refl
+      empty (row ∷ rows) none =
+          let parts = noted row.waiting (list_any (λ row. is_some row.waiting) rows) none in
+          first row (registration_at registration rows) (row.number == registration) parts.0 (empty rows parts.1)
 
   module _ (worker : ℕ) where
     -- ---- the worker is there

@@ -1,6 +1,7 @@
 //! The registrations that a claim activates, found before it (Service Workers, Clients, "claim()").
 
-ghost use Rattle.std.specs.Prelude.{◌≡◌, ◌++◌, IfOk, IfSome, OnOk, Some, flat_map, option_to_list};
+ghost use Rattle.std.specs.Prelude.{◌≡◌, ◌++◌, IfOk, IfSome, OnOk, Some, flat_map, is_some, option_to_list};
+ghost use Rattle.std.specs.List.{list_any};
 ghost use Rattle.sw_activate.specs.Claiming.{activated_by, activated_in, activation_change, claimed};
 ghost use Rattle.sw_activate.specs.Names.{numbers_of};
 ghost use Rattle.sw_client.specs.Table as clients_table;
@@ -100,7 +101,15 @@ fn activated_in(alloc: Global, notices: &[Notice], workers: &Workers) -> Result<
     Ok(numbers)
 }
 
-// The registrations that the claim of all clients by a worker of a registration activates.
+// Whether a registration has a waiting worker. It takes no memory.
+fn any_waits(registrations: &Registrations) -> bool
+    ensures { result ≡ list_any (λ row. is_some row.waiting) registrations.now.rows }
+{
+    registrations.rows().iter().any(|row| row.waiting.is_some())
+}
+
+// The registrations that the claim of all clients by a worker of a registration activates: none where no worker waits, and
+// then nothing is copied.
 fn claimed_by(
     alloc: Global,
     worker: u32,
@@ -117,6 +126,9 @@ fn claimed_by(
         (rules.claim_clients (lent map.now workers.now registrations.now clients.now rest)
         worker registration (numbers_of clients.now)).notices) }
 {
+    if !any_waits(registrations) {
+        return Ok(Vec::new(alloc));
+    }
     let notices = told(
         alloc,
         worker,
@@ -131,7 +143,9 @@ fn claimed_by(
 
 /// The registrations that a claim by this worker would activate now, in that order; none where the worker isn't active
 /// (Service Workers, Clients, "claim()"). A registration is activated where its last client is claimed and its waiting
-/// worker then becomes the active one. Nothing changes: the claim is done on copies of the tables.
+/// worker then becomes the active one. Nothing changes: where a worker waits, the claim is done on copies of the tables,
+/// in time and memory that grow with the workers, their scripts, bodies and handlers, the registrations and the clients.
+/// Where none waits, it takes no memory, and time in the registrations.
 pub fn claimed(
     alloc: Global,
     worker: u32,

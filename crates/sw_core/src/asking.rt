@@ -101,8 +101,9 @@ impl Core {
     }
 
     /// The registrations that a claim by this worker would activate now, in that order; none where the worker isn't active
-    /// (Service Workers, Clients, "claim()"). The claim is done on copies of the tables of workers, registrations and
-    /// clients.
+    /// (Service Workers, Clients, "claim()"). Where a worker waits, the claim is done on copies of the tables of
+    /// workers, registrations and clients, in time and memory that grow with these; where none waits, it takes no memory,
+    /// and time in the registrations.
     pub fn claimed(&self, alloc: Global, worker: u32) -> Result<Vec<u32>, NoMemory>
         ensures { IfOk result (λ numbers. numbers.items ≡ activating.claimed (state_of self.now) worker) }
     {
