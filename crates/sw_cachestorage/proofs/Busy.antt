@@ -1,5 +1,5 @@
 -- Handlers and fetch events of a key are those of the workers of its registrations.
-use Rattle.std.proofs.Common.{◌≡◌, ◌∙◌, ◌&&◌, ◌||◌, ◌==◌, ℕ, Bool, true, false, List, [], ◌∷◌, map, bytes_eq, is_some, Option, Some, None, option_map, option_and_then, refl, sym, ap, arith}
+use Rattle.std.proofs.Common.{◌≡◌, ◌∙◌, ◌+◌, ◌&&◌, ◌||◌, ◌==◌, ℕ, Bool, true, false, List, [], ◌∷◌, map, drop, bytes_eq, is_some, Option, Some, None, option_map, option_and_then, refl, sym, ap, arith}
 use Rattle.std.specs.Prelude.{find}
 use Rattle.std.specs.List.{list_any, range_with_len}
 use Rattle.std.specs.Option.{option_map_or}
@@ -7,7 +7,9 @@ use Rattle.std.specs.Cmp.Lexicographic.{bytes_decides}
 use Rattle.std.proofs.lemmas.Bool.{and_parts}
 use Rattle.std.proofs.lemmas.Bool.Decides.{nat_tests}
 use Rattle.std.proofs.lemmas.List.{length-map}
+use Rattle.sw_cachestorage.proofs.Walks.{HasKeyAt, ahead, at_one, own_number}
 use Rattle.sw_cachestorage.specs.Forgetting.{has_pending_of}
+use Rattle.sw_data.specs.declared.rows.RegistrationRow.{RegistrationRow}
 use Rattle.sw_rules.specs.Forgetting.{is_worker_of_key}
 use Rattle.sw_rules.specs.Rows.{has_pending_worker, is_registration, is_worker}
 use Rattle.sw_rules.specs.State.{State, FetchEvent, Registration, Worker}
@@ -202,3 +204,20 @@ module _ (host : Hosted) (joined : IsJoined host) where
   quiet_one number none =
       none_pending host.workers host.registrations joined.linked.slots number
       (pending_worker host.workers host.registrations joined.linked.slots number host.scopes host.clients (rest_of host) ∙ none)
+
+-- ---- a walk over the registrations of a key
+
+module _ (key : List ℕ) (host : Hosted) where
+  -- a worker of a registration of the key is pending
+  abbrev pub pends_of : Registration → Bool
+  pends_of row = bytes_eq row.key key && has_pending_worker (state_of host) row.number
+
+  pub pends_skips : (row : Registration) (rows : List Registration) → bytes_eq row.key key ≡ false → list_any pends_of (row ∷ rows) ≡ list_any pends_of rows
+  pends_skips row rows other = ap (λ (b : Bool). (b && has_pending_worker (state_of host) row.number) || list_any pends_of rows) other
+
+  -- a worker of the registration where the walk stands is pending, or one of those behind it
+  pub pends_left : (at : Option ℕ) (n : ℕ) → ArePlaces (λ (row : RegistrationRow). row.number) host.registrations.rows → (stands : HasKeyAt key host.registrations.rows n) → at ≡ Some n
+      → list_any pends_of (ahead host at) ≡ (has_pending_worker (state_of host) n || list_any pends_of (drop (n + 1) (state_of host).registrations))
+  pends_left at n are stands is =
+      ap (list_any pends_of) (at_one key host at n stands is)
+      ∙ (λ i. (stands.own i && has_pending_worker (state_of host) (own_number key host.registrations.rows n stands are i)) || list_any pends_of (drop (n + 1) (state_of host).registrations))

@@ -1,13 +1,14 @@
 -- Registrations that are forgotten place by place.
-use Rattle.std.proofs.Common.{◌≡◌, ◌∙◌, ◌+◌, ◌*◌, ◌<◌, ◌≤◌, ◌&&◌, ◌==◌, ℕ, zero, suc, Bool, true, false, List, [], ◌∷◌, ◌++◌, bytes_eq, filter, map, drop, get_or, length, inl, inr, Option, Some, None, option_map, option_and_then, is_some, refl, sym, ap, subst, arith, if◌then◌else◌}
+use Rattle.std.proofs.Common.{◌≡◌, ◌∙◌, ◌+◌, ◌*◌, ◌<◌, ◌≤◌, ◌&&◌, ◌==◌, ℕ, zero, suc, Bool, true, false, List, [], ◌∷◌, ◌++◌, bytes_eq, filter, map, drop, get_or, length, Option, Some, None, option_map, option_and_then, is_some, refl, sym, ap, subst, arith, if◌then◌else◌}
 use Rattle.std.specs.Prelude.{not, slice_get}
 use Rattle.std.specs.List.{list_any, range_with_len}
 use Rattle.std.specs.Option.{option_map_or}
 use Rattle.std.proofs.lemmas.Bool.{and_parts}
 use Rattle.std.proofs.lemmas.Bool.Decides.{nat_tests}
-use Rattle.std.proofs.lemmas.List.{append-nil, append_assoc, drop_all, drop_more, length-map}
-use Rattle.std.proofs.lemmas.Option.{get_or_from_slice_get, slice_get-get_or, slice_get-map, slice_get_cases, slice_get_within}
+use Rattle.std.proofs.lemmas.List.{append-nil, append_assoc, drop_all, length-map}
+use Rattle.std.proofs.lemmas.Option.{slice_get-get_or, slice_get-map}
 use Rattle.sw_cachestorage.proofs.Scans.{none_at, past_stay}
+use Rattle.sw_cachestorage.proofs.Walks.{front}
 use Rattle.sw_cachestorage.specs.Forgetting.{forget_at, forget_one, has_pending_of, mapped_at, mapped_of, room_of}
 use Rattle.sw_data.specs.declared.answers.Notice.{Notice}
 use Rattle.sw_data.specs.declared.rows.RegistrationRow.{RegistrationRow}
@@ -83,20 +84,18 @@ pending_stays key from number =
     unmapped row true = refl
     unmapped row false = refl
 
--- and the numbers of the registrations do
-numbers_stay : (number : ℕ) (rows : List Registration) → map (λ row. row.number) (left_map number rows) ≡ map (λ row. row.number) rows
-numbers_stay number [] = refl
-numbers_stay number (row ∷ rows) = by (is_registration number row) (numbers_stay number rows)
+-- and what is read of the registrations does, where it isn't whether they are mapped
+reads_stay : {Y : Type 0} (read : Registration → Y) → ((row : Registration) → read (record row { mapped = false }) ≡ read row) → (number : ℕ) (rows : List Registration)
+    → map read (left_map number rows) ≡ map read rows
+reads_stay read same number [] = refl
+reads_stay read same number (row ∷ rows) = by (is_registration number row) (reads_stay read same number rows)
   where
-    by : (b : Bool) → map (λ r. r.number) (left_map number rows) ≡ map (λ r. r.number) rows
-        → (if b then record row { mapped = false } else row).number ∷ map (λ r. r.number) (left_map number rows) ≡ row.number ∷ map (λ r. r.number) rows
-    by true later = ap (λ rest. row.number ∷ rest) later
-    by false later = ap (λ rest. row.number ∷ rest) later
+    by : (b : Bool) → map read (left_map number rows) ≡ map read rows
+        → read (if b then record row { mapped = false } else row) ∷ map read (left_map number rows) ≡ read row ∷ map read rows
+    by true later = (λ i. same row i ∷ later i)
+    by false later = ap (λ rest. read row ∷ rest) later
 
 -- ---- the registration at a place
-
-front : {X : Type 0} (xs : List X) (place : ℕ) (x : X) → slice_get xs place ≡ Some x → drop place xs ≡ x ∷ drop (place + 1) xs
-front xs place x is = drop_more xs place x (slice_get_within xs place x is) ∙ ap (λ y. y ∷ drop (place + 1) xs) (get_or_from_slice_get xs place x x is)
 
 -- a registration leaves the map and is cleared, where it is a mapped one of the key
 unfoldable forget_row : List ℕ → State → Registration → Told
@@ -112,7 +111,7 @@ at_row key state place row here =
     by true = refl
     by false = refl
 
-asked_of : (key : List ℕ) (state : State) (place : ℕ) (row : Registration) → slice_get state.registrations place ≡ Some row
+pub asked_of : (key : List ℕ) (state : State) (place : ℕ) (row : Registration) → slice_get state.registrations place ≡ Some row
     → mapped_at key state place ≡ (if is_mapped_of key row then Some row.number else None)
 asked_of key state place row here = ap (option_and_then (λ r. if is_mapped_of key r then Some r.number else None)) here
 
@@ -207,13 +206,19 @@ module _ (key : List ℕ) (place : ℕ) (from to : State) (before after : Notice
       by true is = rw is (ap (drop (place + 1)) (one_registrations from row.number) ∙ behind place from.registrations row are here)
       by false is = rw is refl
 
-  same_numbers : map (λ (r : Registration). r.number) to.registrations ≡ map (λ (r : Registration). r.number) from.registrations
+  same_reads : {Y : Type 0} (read : Registration → Y) → ((r : Registration) → read (record r { mapped = false }) ≡ read r) → map read to.registrations ≡ map read from.registrations
   unfolding forget_row
-  same_numbers = ap (λ (s : State). map (λ (r : Registration). r.number) s.registrations) (sym becomes) ∙ by (is_mapped_of key row) refl
+  same_reads read same = ap (λ (s : State). map read s.registrations) (sym becomes) ∙ by (is_mapped_of key row) refl
     where
-      by : (b : Bool) → is_mapped_of key row ≡ b → map (λ (r : Registration). r.number) (forget_row key from row).state.registrations ≡ map (λ (r : Registration). r.number) from.registrations
-      by true is = rw is (ap (map (λ (r : Registration). r.number)) (one_registrations from row.number) ∙ numbers_stay row.number from.registrations)
+      by : (b : Bool) → is_mapped_of key row ≡ b → map read (forget_row key from row).state.registrations ≡ map read from.registrations
+      by true is = rw is (ap (map read) (one_registrations from row.number) ∙ reads_stay read same row.number from.registrations)
       by false is = rw is refl
+
+  same_numbers : map (λ (r : Registration). r.number) to.registrations ≡ map (λ (r : Registration). r.number) from.registrations
+  same_numbers = same_reads (λ (r : Registration). r.number) (λ r. refl)
+
+  pub same_keys : map (λ (r : Registration). r.key) to.registrations ≡ map (λ (r : Registration). r.key) from.registrations
+  same_keys = same_reads (λ (r : Registration). r.key) (λ r. refl)
 
   same_many : length to.registrations ≡ length from.registrations
   same_many =
@@ -262,7 +267,7 @@ module _ (key : List ℕ) (place : ℕ) (from to : State) (before after : Notice
       by true count ask same = omega (arith, count, ask, same, room, used)
       by false count ask same = omega (arith, count, ask, same, room, used)
 
-  next_left : before.spare ≤ after.spare + room_of (mapped_at key from place) → (old : State) (first : NoticeList) → IsLeft key old first from before place → IsLeft key old first to after (place + 1)
+  pub next_left : before.spare ≤ after.spare + room_of (mapped_at key from place) → (old : State) (first : NoticeList) → IsLeft key old first from before place → IsLeft key old first to after (place + 1)
   next_left used old first so_far = record {
     state = so_far.state ∙ state_step;
     notices = so_far.notices ∙ notices_step;
@@ -272,31 +277,19 @@ module _ (key : List ℕ) (place : ℕ) (from to : State) (before after : Notice
     many = same_many ∙ so_far.many;
   }
 
--- a place that is not past the end has a row
-row_at : {X : Type 0} (xs : List X) (place : ℕ) → place < length xs → (x : X) × (slice_get xs place ≡ Some x)
-row_at xs place within = elim (slice_get_cases xs place).1 [
-  | inl it ↦ (it.0, it.2)
-  | inr past ↦ absurd (let far = past.0 in omega (arith, far, within))
-]
-
-module _ (key : List ℕ) (old : State) (first : NoticeList) (from : State) (before : NoticeList) (place : ℕ) (so_far : IsLeft key old first from before place) (within : place < length old.registrations) where
-  found : (row : Registration) × (slice_get from.registrations place ≡ Some row)
-  found = let many = so_far.many in row_at from.registrations place (omega (arith, many, within))
-
+module _ (key : List ℕ) (old : State) (first : NoticeList) (from : State) (before : NoticeList) (place : ℕ) (so_far : IsLeft key old first from before place) (row : Registration)
+    (here : slice_get from.registrations place ≡ Some row) where
   -- there is room for the registration at this place
   pub room_here : room_of (mapped_at key from place) ≤ before.spare
   room_here =
-      by (is_mapped_of key found.0) (ap (λ rows. length (filter (is_mapped_of key) rows)) (front from.registrations place found.0 found.1)) (ap room_of (asked_of key from place found.0 found.1)) so_far.room
+      by (is_mapped_of key row) (ap (λ rows. length (filter (is_mapped_of key) rows)) (front from.registrations place row here)) (ap room_of (asked_of key from place row here)) so_far.room
     where
       by : (b : Bool) → length (filter (is_mapped_of key) (drop place from.registrations))
-          ≡ length (if b then found.0 ∷ filter (is_mapped_of key) (drop (place + 1) from.registrations) else filter (is_mapped_of key) (drop (place + 1) from.registrations))
-          → room_of (mapped_at key from place) ≡ room_of (if b then Some found.0.number else None)
+          ≡ length (if b then row ∷ filter (is_mapped_of key) (drop (place + 1) from.registrations) else filter (is_mapped_of key) (drop (place + 1) from.registrations))
+          → room_of (mapped_at key from place) ≡ room_of (if b then Some row.number else None)
           → 4 * length (filter (is_mapped_of key) (drop place from.registrations)) ≤ before.spare → room_of (mapped_at key from place) ≤ before.spare
       by true count ask room = omega (arith, count, ask, room)
       by false count ask room = omega (arith, ask)
-
-  pub goes_on : (to : State) (after : NoticeList) → Did (forget_at key from place) before after to → before.spare ≤ after.spare + room_of (mapped_at key from place) → IsLeft key old first to after (place + 1)
-  goes_on to after did used = next_left key place from to before after found.0 so_far.places found.1 did used old first so_far
 
 -- all places are done, and the caches of the key are removed
 pub all_left : (key : List ℕ) (old new : State) (first last : NoticeList) (place : ℕ) (caches : List KeptCache)
@@ -353,14 +346,3 @@ shown_at host key place found is =
         ≡ option_and_then (λ row. if is_mapped_of key (shown_of host row) then Some row.number else None) o
     by None = refl
     by (Some row) = refl
-
--- the mapped registrations of the state are those of the rows
-pub filter_shown : (host : Hosted) (key : List ℕ) (rows : List RegistrationRow) → length (filter (is_mapped_of key) (map (shown_of host) rows)) ≡ length (filter (λ row. is_mapped_of key (shown_of host row)) rows)
-filter_shown host key [] = refl
-filter_shown host key (row ∷ rows) = by (is_mapped_of key (shown_of host row)) (filter_shown host key rows)
-  where
-    by : (b : Bool) → length (filter (is_mapped_of key) (map (shown_of host) rows)) ≡ length (filter (λ r. is_mapped_of key (shown_of host r)) rows)
-        → length (if b then shown_of host row ∷ filter (is_mapped_of key) (map (shown_of host) rows) else filter (is_mapped_of key) (map (shown_of host) rows))
-        ≡ length (if b then row ∷ filter (λ r. is_mapped_of key (shown_of host r)) rows else filter (λ r. is_mapped_of key (shown_of host r)) rows)
-    by true later = ap suc later
-    by false later = later

@@ -3,6 +3,7 @@ pub mod AddingLemmas
 pub mod BatchLemmas
 pub mod FetchedLemmas
 pub mod ForgetPlaces
+pub mod ForgetWalk
 pub mod KeyedLemmas
 pub mod LookupLemmas
 pub mod OpsLemmas
@@ -13,4 +14,5 @@ pub mod Scans
 pub mod Settling
 pub mod Starting
 pub mod UnparsedLemmas
+pub mod Walks
 pub mod WriteLemmas

@@ -1,8 +1,7 @@
 //! Forgetting a key: whether it is busy, and what goes where it isn't (own).
 
-ghost use Rattle.std.specs.Prelude.{◌≡◌, ◌≤◌, ◌+◌, ◌*◌, ◌&&◌, ◌||◌, true, false, length, filter, bytes_eq, is_none, is_some, slice_get, IfSome};
+ghost use Rattle.std.specs.Prelude.{◌≡◌, ◌≤◌, ◌+◌, ◌*◌, ◌&&◌, ◌||◌, true, false, length, is_some, IfSome};
 ghost use Rattle.std.specs.List.{list_any};
-ghost use Rattle.std.specs.Option.{option_map_or};
 ghost use Rattle.sw_cachestorage.specs.Forgetting.{forget_at, forget_one, has_pending_of, mapped_at, mapped_of, room_of};
 ghost use Rattle.sw_reg.specs.Table.{is_there};
 ghost use Rattle.sw_rules.specs.Forgetting as rules;
@@ -15,15 +14,11 @@ use sw_rules::Notices;
 use sw_state::HostTables;
 use sw_tables::{clear, has_pending_worker, unmap};
 
-// The registration is one of a key, and a handler or a fetch event of a worker of it is pending.
-fn is_pending_of(host: &HostTables, row: &RegistrationRow, key: &Text) -> bool
-    ensures { result ≡ (bytes_eq row.now.key key.now
-        && has_pending_worker (state_of host.now) row.now.number) }
+// A handler or a fetch event of a worker of a registration is pending.
+fn is_pending(host: &HostTables, number: u32) -> bool
+    ensures { result ≡ has_pending_worker (state_of host.now) number }
 {
-    if row.key != *key {
-        return false;
-    }
-    has_pending_worker(row.number, &host.workers, &host.registrations)
+    has_pending_worker(number, &host.workers, &host.registrations)
 }
 
 // A handler or a fetch event of a worker of a registration of a key is pending.
@@ -35,10 +30,12 @@ fn has_pending_of(host: &HostTables, key: &Text) -> bool
         || list_any (λ row. rules.is_worker_of_key (state_of host.now) key.now row.worker)
         (state_of host.now).fetch_events) }
 {
-    for row in host.registrations.rows() {
-        if is_pending_of(host, row, key) {
+    let mut at = host.registrations.first_of(key);
+    while let Some(number) = at {
+        if is_pending(host, number) {
             return true;
         }
+        at = host.registrations.next_of(number);
     }
     false
 }
@@ -71,21 +68,31 @@ fn is_mapped_of(host: &HostTables, row: &RegistrationRow, key: &Text) -> bool
     }
 }
 
-// How many of these registrations are mapped ones of a key.
-fn mapped_among(host: &HostTables, rows: &[RegistrationRow], key: &Text) -> usize
-    ensures { result
-        ≡ length (filter (λ row. rules.is_mapped_of key.now (shown_of host.now row)) rows.now) }
+// The number of the registration at a place, where it is a mapped one of a key.
+fn mapped_at(host: &HostTables, place: u32, key: &Text) -> Option<u32>
+    ensures number { result ≡ mapped_at key.now (state_of host.now) place }
+    ensures there { IfSome result (λ number.
+        is_there number host.now.registrations.rows ≡ true) }
 {
-    rows.iter()
-        .filter(|row| is_mapped_of(host, row, key))
-        .count()
+    let row = host.registrations.rows().get(place as usize)?;
+    if is_mapped_of(host, row, key) {
+        Some(row.number)
+    } else {
+        None
+    }
 }
 
 /// How many mapped registrations a key has. It takes no memory.
 pub fn mapped_many(host: &HostTables, key: &Text) -> usize
     ensures { result ≡ length (mapped_of key.now (state_of host.now)) }
 {
-    mapped_among(host, host.registrations.rows(), key)
+    let mut many = 0;
+    let mut at = host.registrations.first_of(key);
+    while let Some(number) = at {
+        many += usize::from(mapped_at(host, number, key).is_some());
+        at = host.registrations.next_of(number);
+    }
+    many
 }
 
 // A registration leaves the map and is cleared.
@@ -107,22 +114,8 @@ fn forget_one(host: &mut HostTables, number: u32, notices: &mut Notices)
     clear(number, &mut host.workers, &mut host.registrations, notices);
 }
 
-// The number of the registration at a place, where it is a mapped one of a key.
-fn mapped_at(host: &HostTables, place: usize, key: &Text) -> Option<u32>
-    ensures number { result ≡ mapped_at key.now (state_of host.now) place }
-    ensures there { IfSome result (λ number.
-        is_there number host.now.registrations.rows ≡ true) }
-{
-    let row = host.registrations.rows().get(place)?;
-    if is_mapped_of(host, row, key) {
-        Some(row.number)
-    } else {
-        None
-    }
-}
-
 // The registration at a place leaves the map and is cleared, where it is a mapped one of a key.
-fn forget_at(host: &mut HostTables, place: usize, key: &Text, notices: &mut Notices)
+fn forget_at(host: &mut HostTables, place: u32, key: &Text, notices: &mut Notices)
     requires quiet { has_pending_of key.now (state_of host.old) ≡ false }
     requires room { room_of (mapped_at key.now (state_of host.old) place) ≤ notices.old.spare }
     ensures did { Did (forget_at key.now (state_of host.old) place) notices.old notices.new
@@ -155,8 +148,10 @@ pub fn forget(host: &mut HostTables, key: &Text, notices: &mut Notices)
       caches = host.new.caches;
     } }
 {
-    for place in 0..host.registrations.len() {
-        forget_at(host, place, key, notices);
+    let mut at = host.registrations.first_of(key);
+    while let Some(number) = at {
+        forget_at(host, number, key, notices);
+        at = host.registrations.next_of(number);
     }
     host.caches.drop_key(key);
 }
