@@ -1,5 +1,5 @@
 -- One line more of a transcript is checked.
-use Rattle.std.proofs.Common.{◌≡◌, ◌∙◌, ℕ, ◌+◌, ◌<◌, ◌^◌, Bool, List, [], ◌∷◌, ◌++◌, find, filter_map, flat_map, length, length-append, append_assoc, codes, decimal, Option, Some, None, Result, Ok, Err, if◌then◌else◌, refl, sym, ap, subst, arith}
+use Rattle.std.proofs.Common.{◌≡◌, ◌∙◌, ℕ, ◌+◌, ◌<◌, ◌^◌, Bool, List, [], ◌∷◌, ◌++◌, find, filter_map, flat_map, length, length-append, append_assoc, codes, decimal, Option, Some, None, Result, Ok, Err, if◌then◌else◌, refl, sym, ap, subst}
 use Rattle.std.specs.Prelude.{IfOk, count_by}
 use Rattle.std.specs.List.{range_with_len}
 use Rattle.std.proofs.lemmas.List.{append_cancel_left, append-nil}
@@ -25,7 +25,7 @@ use Rattle.sw_rules.specs.State.{State}
 use Rattle.sw_rules.specs.Step.{enabled, state_after, step}
 use Rattle.sw_rules.specs.Storage.{IsMade}
 use Rattle.sw_audit.specs.Naming.{IsSameEntry}
-use Rattle.sw_audit.proofs.OneHistory.{MadeAlike, line_length, made_further, same_line, same_opening, same_outcome, some_same}
+use Rattle.sw_audit.proofs.OneHistory.{MadeAlike, made_further, same_line, same_opening, same_outcome, some_same}
 use Rattle.sw_audit.specs.declared.machines.Ending.{Ending}
 use Rattle.sw_audit.specs.declared.marks.Kind.TheVariants as kind
 use Rattle.sw_audit.specs.declared.marks.Mark.{Mark}

@@ -1,5 +1,5 @@
 -- Values under keys and names, as a list of rows beside the row that was made ahead.
-use Rattle.std.specs.Prelude.{◌≡◌, ℕ, ◌+◌, ◌<◌, ◌≤◌, ◌^◌, ◌&&◌, Bool, true, false, List, [], ◌∷◌, map, length, nat_lt, set, slice_get, bytes_eq, Option, Some, None}
+use Rattle.std.specs.Prelude.{◌≡◌, ℕ, ◌+◌, ◌<◌, ◌≤◌, ◌^◌, ◌&&◌, Bool, List, [], ◌∷◌, map, length, nat_lt, set, slice_get, bytes_eq, Option, Some, None}
 use Rattle.std.specs.Option.{option_map_or}
 use Rattle.std.specs.List.{All, AllPairs, list_any}
 use Rattle.sw_list.specs.declared.row.Row.{Row}

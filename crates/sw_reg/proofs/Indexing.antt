@@ -1,5 +1,5 @@
 -- The index of rows by key: what it finds, and what it is where a row changes or comes.
-use Rattle.std.proofs.Common.{◌≡◌, ◌∙◌, ℕ, zero, suc, ◌+◌, ◌<◌, ◌≤◌, Bool, true, false, List, [], ◌∷◌, ◌++◌, bytes_eq, cond, length, map, drop, get_or, set, Option, Some, None, option_map, slice_get, slice_set, slice_index_or, take, refl, sym, ap, subst, arith, if◌then◌else◌}
+use Rattle.std.proofs.Common.{◌≡◌, ◌∙◌, ℕ, zero, suc, ◌+◌, ◌<◌, ◌≤◌, Bool, true, false, List, [], ◌∷◌, ◌++◌, bytes_eq, cond, length, drop, get_or, set, Option, Some, None, option_map, slice_get, slice_set, slice_index_or, take, refl, sym, ap, subst, arith, if◌then◌else◌}
 use Rattle.std.specs.Cmp.Lexicographic.{bytes_decides}
 use Rattle.std.specs.List.{position_from}
 use Rattle.std.specs.Option.{IfSome, option_and_then, option_flatten, option_map_or, option_or}

@@ -27,7 +27,7 @@ use Rattle.sw_turns.proofs.SurvivalLemmas.{refused_survives, written_survives}
 use Rattle.sw_turns.specs.Ends.{EndedBy, GoesOn, IsRunOn}
 use Rattle.sw_turns.specs.Groups.{IsHeld, IsUnderWay, Stops}
 use Rattle.sw_turns.specs.Playing.{ComesNext, IsSoFar}
-use Rattle.sw_turns.specs.Settling.{HasStopped, IsAnew, IsNotFull, IsOneRecord, Standing}
+use Rattle.sw_turns.specs.Settling.{HasStopped, IsAnew, IsNotFull, Standing}
 use Rattle.sw_turns.specs.Surviving.{IsAtWork, Survives, kept_of, latest}
 use Rattle.sw_turns.specs.Ways.{Way}
 use Rattle.sw_turns.specs.declared.ends.DriveEnd.TheVariants as drive_end
