@@ -90,7 +90,6 @@ impl NewTask {
 
 impl Tasks {
     /// No addAlls. It takes no memory.
-    #[tactic(auto, using(crate::proofs::Tasking::none_kept))]
     pub fn new(alloc: Global) -> Tasks
         ensures { result.rows ≡ [] }
     {
