@@ -1,7 +1,5 @@
-//! The state machine: what each event answers and does, worked out with all its room before it is done.
-//!
-//! So far it has the actions on caches, `addAll` up to its fetches and from their end on, whether a key is busy, and
-//! forgetting it.
+//! The actions on caches, `addAll` up to its fetches and from their end on, whether a key is busy, and forgetting
+//! it: each is worked out with all its room before it is done.
 #![tactic(auto)]
 
 mod act;
