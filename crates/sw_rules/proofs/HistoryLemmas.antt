@@ -1,10 +1,10 @@
 -- Laws of histories: one more entry, and stamps that stand still.
-use Rattle.std.proofs.Common.{◌≡◌, ◌∙◌, ℕ, zero, suc, slice_get, Some, List, [], ◌∷◌, ◌++◌, refl, sym, ap, subst, arith, append_assoc}
+use Rattle.std.proofs.Common.{◌≡◌, ◌∙◌, ℕ, zero, suc, slice_get, Some, List, [], ◌∷◌, ◌++◌, sym, ap, subst, arith, append_assoc}
 use Rattle.std.proofs.lemmas.List.{append-nil}
 use Rattle.std.proofs.lemmas.List.Sums.{fold-append}
 use Rattle.sw_data.specs.declared.histories.Entry.{Entry}
 use Rattle.sw_data.specs.declared.storage.Kept.{Kept}
-use Rattle.sw_rules.specs.History.{Stamped, StampedFrom, EachFrom, EachLater, IsStep, Legal, Opens, after, after_entries, moved}
+use Rattle.sw_rules.specs.History.{StampedFrom, EachFrom, EachLater, IsStep, Legal, Opens, after, after_entries, moved}
 use Rattle.sw_rules.specs.State.{State}
 use Rattle.sw_rules.specs.Restart.{restart}
 
