@@ -4,6 +4,7 @@ use Rattle.std.specs.Prelude.{find, IfSome}
 use Rattle.std.specs.List.{list_any}
 use Rattle.std.specs.Option.{option_map_or}
 use Rattle.std.proofs.lemmas.List.{append-nil}
+use Rattle.sw_activate.specs.Claiming.{activation_change}
 use Rattle.sw_data.specs.declared.storage.Change.{Change}
 use Rattle.sw_data.specs.declared.storage.Change.TheVariants as change
 use Rattle.sw_rules.specs.Activating as activating
@@ -16,7 +17,7 @@ use Rattle.sw_rules.specs.State.{State, Registration}
 use Rattle.sw_rules.specs.Told.{Told, Outcome, followed, is_kept, keep, kept_change, quiet}
 use Rattle.sw_laws.proofs.AtOnce.{activate_changes, clear_only}
 use Rattle.sw_tables.proofs.Rows.{at_changed}
-use Rattle.sw_prepare.specs.Kept.{activation_changes, active_change, kept_registration}
+use Rattle.sw_prepare.specs.Kept.{activation_changes, kept_registration}
 
 -- ---- Try Activate, and what comes before it
 
@@ -37,7 +38,7 @@ any_mapped registration [] none = refl
 any_mapped registration (x ∷ xs) none = grind (arith, none, any_mapped registration xs)
 
 -- of a registration that isn't mapped nothing is told
-pub unmapped : (state : State) (registration : ℕ) → is_mapped state registration ≡ false → active_change state registration ≡ []
+pub unmapped : (state : State) (registration : ℕ) → is_mapped state registration ≡ false → activation_change state registration ≡ []
 unmapped state registration none = by (registration_row state registration) (any_mapped registration state.registrations none)
   where
     by : (o : Option Registration) → option_map_or (λ (row : Registration). row.mapped) o false ≡ false
@@ -48,7 +49,7 @@ unmapped state registration none = by (registration_row state registration) (any
 pub unmapped_activation : (state : State) (registration : ℕ) → is_mapped state registration ≡ false → activation_changes state registration ≡ []
 unmapped_activation state registration none = by (is_some (rules.chosen state registration))
   where
-    by : (b : Bool) → (if b then active_change state registration else []) ≡ []
+    by : (b : Bool) → (if b then activation_change state registration else []) ≡ []
     by true = unmapped state registration none
     by false = refl
 

@@ -1,5 +1,5 @@
 -- What was worked out for an action of a lane is what was asked.
-use Rattle.std.proofs.Common.{◌≡◌, ℕ, List, [], Option, Some, refl, sym, ap, subst}
+use Rattle.std.proofs.Common.{◌≡◌, ℕ, [], Option, Some, refl, sym, ap, subst}
 use Rattle.sw_cachestorage.specs.Adding.{begun, started_by}
 use Rattle.sw_cachestorage.specs.declared.adding.AddAllStep.{AddAllStep}
 use Rattle.sw_cachestorage.specs.declared.adding.NewAddAll.{NewAddAll}

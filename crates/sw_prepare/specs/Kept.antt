@@ -1,15 +1,15 @@
 -- Registrations that are kept, and the durable changes of an activation.
 use Rattle.std.specs.Prelude.{ℕ, Bool, ◌&&◌, ◌||◌, List, [], bytes_eq, is_some, Option, Some, None, option_and_then, if◌then◌else◌}
+use Rattle.sw_activate.specs.Claiming.{activation_change}
 use Rattle.sw_data.specs.declared.rows.RegistrationRow.{RegistrationRow}
 use Rattle.sw_data.specs.declared.storage.Change.{Change}
-use Rattle.sw_data.specs.declared.storage.Change.TheVariants as change
 use Rattle.sw_data.specs.Sameness.{same_truth}
 use Rattle.sw_ledgers.specs.Preloaded.{PreloadRow, preload_of, preload_value_of}
 use Rattle.sw_reg.specs.Table.{registration_at}
 use Rattle.sw_rules.specs.Registrations.{chosen}
 use Rattle.sw_rules.specs.Rows.{is_number, registration_row}
 use Rattle.sw_rules.specs.State.{State, Registration}
-use Rattle.sw_rules.specs.Told.{is_kept, kept_change}
+use Rattle.sw_rules.specs.Told.{is_kept}
 use Rattle.sw_scope.specs.Scopes.{Scopes, maps}
 
 -- the registration of a number, where it is kept (own)
@@ -17,14 +17,10 @@ abbrev pub kept_registration : State → ℕ → Option Registration
 kept_registration state number =
     option_and_then (λ row. if is_kept state row then Some row else None) (registration_row state number)
 
--- the durable change where the waiting worker of a registration becomes the active one (own)
-abbrev pub active_change : State → ℕ → List Change
-active_change state registration = kept_change state registration (λ row. change.Active row.key row.scope)
-
 -- the durable changes of a Try Activate (own)
 abbrev pub activation_changes : State → ℕ → List Change
 activation_changes state registration =
-    if is_some (chosen state registration) then active_change state registration else []
+    if is_some (chosen state registration) then activation_change state registration else []
 
 -- a row of the table is kept: the map has it under its key and scope, and it has a waiting or an active worker (own)
 abbrev pub is_kept_row : Scopes → RegistrationRow → Bool

@@ -1,9 +1,9 @@
 //! The durable changes of a claim (Service Workers, Clients, "claim()").
 
 ghost use Rattle.std.specs.Prelude.{◌≡◌, ℕ, Bool, true, IfOk, Some, flat_map, option_map};
+ghost use Rattle.sw_activate.specs.Claiming.{activation_change};
 ghost use Rattle.sw_activate.specs.Names.{numbers_of};
 ghost use Rattle.sw_client.specs.Table as clients_of_table;
-ghost use Rattle.sw_prepare.specs.Kept as kept;
 ghost use Rattle.sw_rules.specs.Clients.{claim_clients};
 ghost use Rattle.sw_rules.specs.Rows.{is_active};
 ghost use Rattle.sw_tables.specs.Lent.{Rest, lent};
@@ -29,7 +29,7 @@ fn active_changes(
 ) -> Result<Vec<Change>, NoMemory>
     ensures { (of_workers : workers_of_table.Table) (of_clients : clients_of_table.Table)
         (rest : Rest) → HasSlots of_workers registrations.now → IfOk result (λ changes.
-        changes.items ≡ flat_map (kept.active_change
+        changes.items ≡ flat_map (activation_change
         (lent map.now of_workers registrations.now of_clients rest)) numbers.now) }
 {
     let mut changes = Vec::new(alloc);

@@ -2,6 +2,7 @@
 
 ghost use Rattle.std.specs.Prelude.{◌≡◌, IfOk, option_map, option_to_list};
 ghost use Rattle.std.specs.Option.{option_copied};
+ghost use Rattle.sw_activate.specs.Claiming.{activation_change};
 ghost use Rattle.sw_client.specs.Table as clients;
 ghost use Rattle.sw_data.specs.declared.storage.Change.TheVariants as change;
 ghost use Rattle.sw_prepare.specs.Kept.{is_kept_row, kept_at, kept_registration, names_of, unless};
@@ -129,8 +130,8 @@ pub(crate) fn active_change(
 ) -> Result<Vec<Change>, NoMemory>
     ensures { (of_workers : workers.Table) (of_clients : clients.Table) (rest : Rest)
         → HasSlots of_workers registrations.now → IfOk result (λ changes. changes.items
-        ≡ kept_change (lent map.now of_workers registrations.now of_clients rest) registration
-        (λ row. change.Active row.key row.scope)) }
+        ≡ activation_change (lent map.now of_workers registrations.now of_clients rest)
+        registration) }
 {
     let names = names(alloc, kept_row(registration, map, registrations))?;
     told(alloc, active(names))

@@ -1,6 +1,5 @@
-use Rattle.std.proofs.Common.{◌≡◌, ◌∙◌, Some, sym, ap}
+use Rattle.std.proofs.Common.{◌≡◌, ◌∙◌, sym, ap}
 use Rattle.std.specs.Option.{option_copied}
-use Rattle.std.specs.Prelude.{IfOk}
 use Rattle.sw_prepare.proofs.Changing.{held_tells, told}
 use Rattle.sw_rules.specs.Step.{step}
 use Rattle.sw_state.specs.Hosted.{state_of}
