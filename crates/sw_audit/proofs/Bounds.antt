@@ -5,7 +5,6 @@ use Rattle.std.proofs.lemmas.Bool.Decides.{nat_tests}
 use Rattle.std.proofs.lemmas.Option.{slice_get_past}
 use Rattle.sw_data.specs.declared.events.Event.{Event}
 use Rattle.sw_data.specs.declared.events.Event.TheVariants as event
-use Rattle.sw_data.specs.declared.events.Who.{Who}
 use Rattle.sw_data.specs.declared.events.Who.TheVariants as who
 use Rattle.sw_data.specs.declared.recordings.Call.{Call}
 use Rattle.sw_data.specs.declared.recordings.Recording.{Recording}

@@ -1,5 +1,5 @@
 -- Rosters, from their lines to what is read, computed.
-use Rattle.std.specs.Prelude.{◌≡◌, ⊤, ◌++◌, [], ◌∷◌, true, false, codes, Some, None, Ok, Err, refl}
+use Rattle.std.specs.Prelude.{◌≡◌, ⊤, ◌++◌, [], ◌∷◌, true, false, codes, None, Ok, Err, refl}
 use Rattle.sw_data.specs.declared.recordings.Action.TheVariants as action
 use Rattle.sw_data.specs.declared.workers.Kind.TheVariants as kind
 use Rattle.sw_data.specs.declared.workers.Mode.TheVariants as mode

@@ -33,7 +33,7 @@ use Rattle.sw_tables.specs.Parts.{SlotsDid, StayLinked}
 use Rattle.sw_tables.specs.Shifts.{IsQuietIn, Vacates, retired, told_redundant}
 use Rattle.sw_worker.specs.Edits.{advanced}
 use Rattle.sw_worker.specs.Table as workers
-use Rattle.sw_worker.specs.Table.{has_pending, has_worker, is_on, is_running, is_worker, may_advance, may_follow, worker_at}
+use Rattle.sw_worker.specs.Table.{has_worker, is_on, is_running, may_advance, may_follow, worker_at}
 
 -- ---- a slot that is left
 

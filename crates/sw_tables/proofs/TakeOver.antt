@@ -40,7 +40,7 @@ use Rattle.sw_tables.specs.Parts.{SlotsDid, StayLinked}
 use Rattle.sw_tables.specs.Shifts.{Vacates, activating}
 use Rattle.sw_worker.specs.Edits.{advanced, started}
 use Rattle.sw_worker.specs.Table as workers
-use Rattle.sw_worker.specs.Table.{has_worker, is_idle, is_worker, may_advance, may_follow, worker_at}
+use Rattle.sw_worker.specs.Table.{has_worker, is_idle, is_worker, may_advance, worker_at}
 
 -- ---- the waiting worker begins to activate
 

@@ -1,6 +1,6 @@
 -- A run under a limit is reported as it has ended; where it was not begun the disk is as it was opened.
 use Rattle.std.proofs.Common.{inl, sym, subst}
-use Rattle.sw_host.proofs.BoundLemmas.{ends_bounded, left_by_bounded, left_unopened}
+use Rattle.sw_host.proofs.BoundLemmas.{ends_bounded, left_by_bounded}
 use Rattle.sw_host.proofs.bounding.run_within.Goals as goal
 use Rattle.sw_store.specs.Opened.{IsUnopened}
 

@@ -1,4 +1,4 @@
-use Rattle.std.proofs.Common.{◌≡◌, ◌≤◌, Err, ℕ, List, length, sym, ◌∙◌, ap, subst, arith}
+use Rattle.std.proofs.Common.{◌≡◌, Err, ℕ, List, length, sym, ◌∙◌, ap, subst, arith}
 use Rattle.sw_data.specs.declared.storage.Kept.{Kept}
 use Rattle.sw_disk.specs.DiskRule.{ForTold}
 use Rattle.sw_journal.specs.Journal.{Since}
