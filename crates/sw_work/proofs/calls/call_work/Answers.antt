@@ -128,8 +128,8 @@ returns-in-Update-clause-works c =
     fits)
     c.update_work.ensures.fits c.update_work.ensures.means
 
-pub returns-in-AddAll-clause-works : goal.returns-in-AddAll-clause-works
-returns-in-AddAll-clause-works c =
+pub returns-in_ok-key-in-AddAll-clause-works : goal.returns-in_ok-key-in-AddAll-clause-works
+returns-in_ok-key-in-AddAll-clause-works c =
     let now = c.args.host.now in
     let row = c.in-Some.row.now in
     let of = c.in-Some-row.of.now in
@@ -143,8 +143,8 @@ returns-in-AddAll-clause-works c =
     (λ work fits means.
     works_next now c.args.worker c.args.phase c.args.number c.args.call.now row there c.add_all_work.new.host of (call.AddAll asked) work held (c.in-AddAll.is ∙ ap (λ (it : CacheAddAll). call.AddAll it) (sym c.get.ensures))
     (subst (λ (n : ℕ). Means work now (noted (add_all (state_of now) by row.script asked of.key) n)) (sym own)
-    (subst (λ (base : List ℕ). Means work now (noted (add_all (state_of now) by base asked of.key) c.args.worker)) c.in_ok-base.ensures
-    (subst (λ (key : List ℕ). Means work now (noted (add_all (state_of now) by c.in_ok-base.base asked key) c.args.worker)) c.in_ok-key.ensures means)))
+    (subst (λ (base : List ℕ). Means work now (noted (add_all (state_of now) by base asked of.key) c.args.worker)) c.in_ok-base-in-AddAll.ensures
+    (subst (λ (key : List ℕ). Means work now (noted (add_all (state_of now) by c.in_ok-base-in-AddAll.base asked key) c.args.worker)) c.in_ok-key-in-AddAll.ensures means)))
     fits)
     c.add_all_work.ensures.fits c.add_all_work.ensures.means
 
