@@ -18,5 +18,5 @@ returns-in-Caches-clause-did c =
     subst (λ (a : Act). Did (told_by_act a (state_of c.args.host.now)) c.args.notices.now c.args.notices.now (state_of c.act_on_caches.new.host)) (sym c.in-Caches.is)
     (did_quietly (told_by_caches c.in-Caches.act c.in-Caches.changes (state_of c.args.host.now)) c.args.notices.now (state_of c.act_on_caches.new.host) refl (c.act_on_caches.ensures.state c.in-Caches.changes))
 
-pub returns-in-Forget-clause-promises : goal.returns-in-Forget-clause-promises
-returns-in-Forget-clause-promises c = ap (λ (h : Hosted). h.promises) c.forget.ensures.others
+pub returns-clause-promises : goal.returns-clause-promises
+returns-clause-promises c = ap (λ (h : Hosted). h.promises) c.forget.ensures.others
