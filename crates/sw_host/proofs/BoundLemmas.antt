@@ -110,8 +110,8 @@ module _ {D : Type 0} (disk : Ghosts D) (old new : D) (left : Option (List ℕ))
       printed = run.printed;
     },
   )
-  reported limit outcome of_run bytes read (Ok recording) is (inr refused) = absurd (unrefused outcome of_run refused)
-  reported limit outcome of_run bytes read (Err why) is refused = absurd (unread why outcome of_run refused.0)
+  reported limit outcome of_run bytes read (Ok recording) is (inr refused) = absurd (unrefused disk old new text outcome of_run refused)
+  reported limit outcome of_run bytes read (Err why) is refused = absurd (unread text why outcome of_run refused.0)
 
   bounded : (limit before now : ℕ) (outcome : Status) → IsOfRun outcome
       → ReadsThen RECORDING_LIMIT (refusal_text status.TooLarge) left before now (Bounds disk old new limit) (new ≡ old) outcome text → HasRun limit outcome

@@ -15,15 +15,15 @@ IsOfRun status.Stalled = Unit {0}
 IsOfRun (status.Spent spent) = Unit {0}
 IsOfRun _ = ⊥
 
-pub unrefused : {D : Type 0} {disk : Ghosts D} {old new : D} {text : List ℕ} (outcome : Status) → IsOfRun outcome → RefusesDisk disk old new outcome text → ⊥
-unrefused status.Done run refused = refused
-unrefused status.Stalled run refused = refused
-unrefused (status.Spent spent) run refused = refused
-unrefused _ run refused = absurd run
+pub unrefused : {D : Type 0} (disk : Ghosts D) (old new : D) (text : List ℕ) (outcome : Status) → IsOfRun outcome → RefusesDisk disk old new outcome text → ⊥
+unrefused disk old new text status.Done run refused = refused
+unrefused disk old new text status.Stalled run refused = refused
+unrefused disk old new text (status.Spent spent) run refused = refused
+unrefused disk old new text _ run refused = absurd run
 
-pub unread : {text : List ℕ} (why : RecordingError) (outcome : Status) → IsOfRun outcome → RefusedAs why outcome text → ⊥
-unread error.NoMemory outcome run refused = refused
-unread (error.BadLine line cause) status.BadLine run refused = absurd run
-unread (error.BadLine line cause) _ run refused = refused
-unread (error.TooLarge line passed) status.TooLarge run refused = absurd run
-unread (error.TooLarge line passed) _ run refused = refused
+pub unread : (text : List ℕ) (why : RecordingError) (outcome : Status) → IsOfRun outcome → RefusedAs why outcome text → ⊥
+unread text error.NoMemory outcome run refused = refused
+unread text (error.BadLine line cause) status.BadLine run refused = absurd run
+unread text (error.BadLine line cause) _ run refused = refused
+unread text (error.TooLarge line passed) status.TooLarge run refused = absurd run
+unread text (error.TooLarge line passed) _ run refused = refused

@@ -38,8 +38,8 @@ module _ {D : Type 0} (disk : Ghosts D) (old new : D) (left : Option (List ℕ))
       printed = run.printed;
     },
   )
-  reported workers outcome of_run bytes read (Ok recording) is (inr refused) = absurd (unrefused outcome of_run refused)
-  reported workers outcome of_run bytes read (Err why) is refused = absurd (unread why outcome of_run refused.0)
+  reported workers outcome of_run bytes read (Ok recording) is (inr refused) = absurd (unrefused disk old new text outcome of_run refused)
+  reported workers outcome of_run bytes read (Err why) is refused = absurd (unread text why outcome of_run refused.0)
 
   replayed : (workers before now : ℕ) (outcome : Status) → IsOfRun outcome → ReplaysSource disk old new workers left before now outcome text → HasRun workers outcome
   replayed workers before now outcome of_run (inl (bytes, read, is)) = reported workers outcome of_run bytes read (recording_of bytes) refl is
