@@ -8,6 +8,7 @@ pub mod Placing
 pub mod Counting
 pub mod FindLemmas
 pub mod IndexLemmas
+mod BareLemmas
 mod MarkLemmas
 mod RowLemmas
 pub mod DigestLemmas

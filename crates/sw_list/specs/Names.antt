@@ -89,6 +89,15 @@ abbrev pub KeepsKey : List ℕ → List ℕ → ℕ → Keyed → Keyed → Type
 KeepsKey key name number old new =
     (asked : List ℕ) (named : Option (List ℕ)) (n : ℕ) → is_hit asked named n (number, (key, name)) ≡ false → keys_have new asked named n ≡ keys_have old asked named n
 
+-- a name is there only with a number
+abbrev pub HasNoBareName : Numbers → Type 0
+HasNoBareName names = (name : List ℕ) → ((n : ℕ) → map_has names name n ≡ false) → lookup (bytes_eq name) names ≡ None
+
+-- a key is there only with a number, and each of its names too
+pub record HasNoBareKey (keys : Keyed) : Type 0 where
+  pub keyed : (key : List ℕ) → ((name : Option (List ℕ)) (n : ℕ) → keys_have keys key name n ≡ false) → lookup (bytes_eq key) keys ≡ None
+  pub named : (key : List ℕ) (names : Names) → lookup (bytes_eq key) keys ≡ Some names → HasNoBareName names.by_name.entries
+
 -- a number is there, and it is the least above another one
 pub record IsLeast (has : ℕ → Bool) (after n : ℕ) : Type 0 where
   pub above : after < n

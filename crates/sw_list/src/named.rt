@@ -3,6 +3,7 @@
 ghost use Rattle.std.specs.Prelude.{◌≡◌, ◌<◌, ◌+◌, ◌^◌, ◌++◌, ◌∷◌, [], None, Some, IfOk, OnOk, not, filter, length, drop, position, option_copied, option_map, slice_get};
 ghost use Rattle.std.specs.Borrow.{sem};
 ghost use Rattle.std.specs.Option.{IfSome};
+ghost use Rattle.sw_list.specs.Names.{HasNoBareKey};
 ghost use Rattle.sw_list.specs.Named.{FitsListing, HasLate, KeepsEarly, is_asked, is_at, is_of, made_marks, named_row, named_rows, values};
 
 use crate::Numbered;
@@ -44,6 +45,7 @@ pub struct Named<V> {
 
 impl<V> Model for Named<V> {
     ghost use Rattle.std.specs.Prelude.{◌<◌, ◌^◌, length};
+    ghost use Rattle.sw_list.specs.Names.{HasNoBareKey};
     ghost use Rattle.sw_list.specs.Named.{Finds, HasLate, Listing, entry_rows, made_marks, marks_of};
 
     ghost Value = { Listing V };
@@ -57,7 +59,8 @@ impl<V> Model for Named<V> {
     ghost invariant = { λ named. Finds (marks_of named.rows.rows) named.keys.entries named.rows.next
         × (0 < named.rows.next)
         × (length named.rows.rows < 2 ^ 32)
-        × HasLate named.rows.next (made_marks named.rows.next named.ahead) named.keys.entries };
+        × HasLate named.rows.next (made_marks named.rows.next named.ahead) named.keys.entries
+        × HasNoBareKey named.keys.entries };
 }
 
 // Puts a row ahead, for this number, in place of the one that was there. Where it finds no memory,
@@ -72,6 +75,7 @@ fn put_ahead(
     requires { HasLate next (made_marks next ahead.old) keys.old.entries }
     ensures early { KeepsEarly next keys.old.entries keys.new.entries }
     ensures late { HasLate next (made_marks next ahead.new) keys.new.entries }
+    ensures bare { HasNoBareKey keys.old.entries → HasNoBareKey keys.new.entries }
     ensures ahead { OnOk result (ahead.new ≡ Some (record { key = key.now; name = name.now })) }
 {
     let alloc = *keys.allocator();
@@ -90,6 +94,7 @@ fn forget(keys: &mut Keys, ahead: &mut Option<NewRow>, next: u64)
     requires { HasLate next (made_marks next ahead.old) keys.old.entries }
     ensures early { KeepsEarly next keys.old.entries keys.new.entries }
     ensures late { HasLate next [] keys.new.entries }
+    ensures bare { HasNoBareKey keys.old.entries → HasNoBareKey keys.new.entries }
     ensures none { ahead.new ≡ None }
 {
     if let Some(made) = ahead.take() {

@@ -1,7 +1,7 @@
 //! The numbers of rows, by key and by name.
 
-ghost use Rattle.std.specs.Prelude.{◌≡◌, ℕ, List, Option, cond, false, true, nat_eq, option_copied, IsTrue, OnErr, OnOk};
-ghost use Rattle.sw_list.specs.Names.{IsNextNumber, KeepsIn, KeepsKey, KeepsName, PutsIn, PutsKey, PutsName, keys_have, map_has, names_have, set_has};
+ghost use Rattle.std.specs.Prelude.{◌≡◌, ◌↔◌, ℕ, List, Option, cond, false, true, nat_eq, option_copied, IsTrue, OnErr, OnOk};
+ghost use Rattle.sw_list.specs.Names.{HasNoBareKey, HasNoBareName, IsNextNumber, KeepsIn, KeepsKey, KeepsName, PutsIn, PutsKey, PutsName, keys_have, map_has, names_have, set_has};
 
 use indexmap::IndexMap;
 use std::alloc::Global;
@@ -40,6 +40,9 @@ fn add_number(
 ) -> Result<(), NoMemory>
     ensures ok { OnOk result (PutsIn name.now number true names.old.entries names.new.entries) }
     ensures err { OnErr result (KeepsIn name.now number names.old.entries names.new.entries) }
+    ensures more { (asked : List ℕ) (n : ℕ) → map_has names.old.entries asked n ≡ true
+        → map_has names.new.entries asked n ≡ true }
+    ensures bare { HasNoBareName names.old.entries → HasNoBareName names.new.entries }
 {
     match names.get_mut(name) {
         Some(numbers) => {
@@ -58,7 +61,7 @@ fn add_number(
 fn take_from(numbers: &mut BTreeSet<u64>, number: u64) -> bool
     ensures gone { (n : ℕ) → set_has numbers.new n
         ≡ cond (nat_eq number n) false (set_has numbers.old n) }
-    ensures none { IsTrue result → (n : ℕ) → set_has numbers.new n ≡ false }
+    ensures none { IsTrue result ↔ ((n : ℕ) → set_has numbers.new n ≡ false) }
 {
     numbers.remove(&number);
     numbers.is_empty()
@@ -66,7 +69,8 @@ fn take_from(numbers: &mut BTreeSet<u64>, number: u64) -> bool
 
 // Takes a number of a name out, and the name with its last number; it takes no memory.
 fn take_number(names: &mut IndexMap<Text, BTreeSet<u64>>, name: &Text, number: u64)
-    ensures { PutsIn name.now number false names.old.entries names.new.entries }
+    ensures gone { PutsIn name.now number false names.old.entries names.new.entries }
+    ensures bare { HasNoBareName names.old.entries → HasNoBareName names.new.entries }
 {
     let is_empty = match names.get_mut(name) {
         Some(numbers) => take_from(numbers, number),
@@ -80,7 +84,8 @@ fn take_number(names: &mut IndexMap<Text, BTreeSet<u64>>, name: &Text, number: u
 impl Names {
     // No number; it takes no memory.
     fn new(alloc: Global) -> Names
-        ensures { (name : Option (List ℕ)) (n : ℕ) → names_have result name n ≡ false }
+        ensures none { (name : Option (List ℕ)) (n : ℕ) → names_have result name n ≡ false }
+        ensures bare { HasNoBareName result.by_name.entries }
     {
         Names {
             by_name: IndexMap::new(alloc),
@@ -105,6 +110,10 @@ impl Names {
     fn add(&mut self, alloc: Global, name: &Text, number: u64) -> Result<(), NoMemory>
         ensures ok { OnOk result (PutsName name.now number true self.old self.new) }
         ensures err { OnErr result (KeepsName name.now number self.old self.new) }
+        ensures more { (asked : Option (List ℕ)) (n : ℕ) → names_have self.old asked n ≡ true
+            → names_have self.new asked n ≡ true }
+        ensures bare { HasNoBareName self.old.by_name.entries
+            → HasNoBareName self.new.by_name.entries }
     {
         self.in_order.insert(number)?;
         add_number(&mut self.by_name, alloc, name, number)
@@ -115,6 +124,11 @@ impl Names {
         ensures gone { PutsName name.now number false self.old self.new }
         ensures none { IsTrue result → (name : Option (List ℕ)) (n : ℕ)
             → names_have self.new name n ≡ false }
+        ensures left { HasNoBareName self.old.by_name.entries
+            → ((name : Option (List ℕ)) (n : ℕ) → names_have self.new name n ≡ false)
+            → IsTrue result }
+        ensures bare { HasNoBareName self.old.by_name.entries
+            → HasNoBareName self.new.by_name.entries }
     {
         take_number(&mut self.by_name, name, number);
         take_from(&mut self.in_order, number) && self.by_name.is_empty()
@@ -143,6 +157,7 @@ fn add_to_key(
         (PutsKey key.now name.now number true keys.old.entries keys.new.entries) }
     ensures err { OnErr result
         (KeepsKey key.now name.now number keys.old.entries keys.new.entries) }
+    ensures bare { HasNoBareKey keys.old.entries → HasNoBareKey keys.new.entries }
 {
     match keys.get_mut(key) {
         Some(names) => names.add(alloc, name, number),
@@ -167,6 +182,7 @@ pub(crate) fn put_number(
         (PutsKey key.now name.now number true keys.old.entries keys.new.entries) }
     ensures err { OnErr result
         (PutsKey key.now name.now number false keys.old.entries keys.new.entries) }
+    ensures bare { HasNoBareKey keys.old.entries → HasNoBareKey keys.new.entries }
 {
     match add_to_key(keys, alloc, key, name, number) {
         Ok(()) => Ok(()),
@@ -179,7 +195,8 @@ pub(crate) fn put_number(
 
 // Takes a number of a key and a name out, and each of them with its last number; it takes no memory.
 pub(crate) fn drop_number(keys: &mut Keys, key: &Text, name: &Text, number: u64)
-    ensures { PutsKey key.now name.now number false keys.old.entries keys.new.entries }
+    ensures gone { PutsKey key.now name.now number false keys.old.entries keys.new.entries }
+    ensures bare { HasNoBareKey keys.old.entries → HasNoBareKey keys.new.entries }
 {
     let is_empty = match keys.get_mut(key) {
         Some(names) => names.take(name, number),

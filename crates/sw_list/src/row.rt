@@ -1,6 +1,7 @@
 //! Rows, and how they are found.
 
 ghost use Rattle.std.specs.Prelude.{◌≡◌, ◌≤◌, ◌<◌, not, filter, length, position, option_copied};
+ghost use Rattle.sw_list.specs.Names.{HasNoBareKey};
 ghost use Rattle.sw_list.specs.Named.{Finds, KeepsLate, entry_rows, is_above, is_asked, marks_of};
 
 use crate::Numbered;
@@ -44,6 +45,7 @@ pub(crate) fn drop_asked<V: Drop>(
     requires { Finds (marks_of rows.old.rows) keys.old.entries rows.old.next }
     ensures found { Finds (marks_of rows.new.rows) keys.new.entries rows.new.next }
     ensures late { KeepsLate rows.old.next keys.old.entries keys.new.entries }
+    ensures bare { HasNoBareKey keys.old.entries → HasNoBareKey keys.new.entries }
     ensures rows { entry_rows rows.new.rows
         ≡ filter (λ row. not (is_asked key.now (option_copied name.entry) row))
         (entry_rows rows.old.rows) }

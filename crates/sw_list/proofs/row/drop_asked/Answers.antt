@@ -36,10 +36,11 @@ loop-place-preserved g c =
     record {
       found = rw (c.remove-row.ensures.rows, c.remove-row.ensures.next)
           (subst (λ (marks : List Mark). Finds marks c.drop_number.new.keys.entries was.next) (sym (marks_without was.rows place))
-          (found_less (marks_of was.rows) c.loop-place.keys.entries c.drop_number.new.keys.entries was.next place mark held.found low is c.drop_number.ensures));
+          (found_less (marks_of was.rows) c.loop-place.keys.entries c.drop_number.new.keys.entries was.next place mark held.found low is c.drop_number.ensures.gone));
       late = λ asked named n high.
-          late_less c.loop-place.keys.entries c.drop_number.new.keys.entries was.next mark false below c.drop_number.ensures asked named n (let same = held.next in omega (arith, high, same))
+          late_less c.loop-place.keys.entries c.drop_number.new.keys.entries was.next mark false below c.drop_number.ensures.gone asked named n (let same = held.next in omega (arith, high, same))
           ∙ held.late asked named n high;
+      bare = λ was_bare. c.drop_number.ensures.bare (held.bare was_bare);
       others = rw c.remove-row.ensures.rows (filter_remove entry_row (is_asked key name) was.rows place (number, row) within there) ∙ held.others;
       next = c.remove-row.ensures.next ∙ held.next;
       bound = rw c.remove-row.ensures.rows (let h = held.bound in let l = length-remove was.rows place within in omega (arith, h, l));

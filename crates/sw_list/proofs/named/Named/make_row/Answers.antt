@@ -13,6 +13,7 @@ invariant_of-self-in_err-put_ahead g c =
       c.self.invariant.1,
       c.self.invariant.2,
       subst (λ n. HasLate n (made_marks n c.put_ahead.new.ahead) keys) next c.put_ahead.ensures.late,
+      c.put_ahead.ensures.bare c.self.invariant.4,
     )
 
 pub invariant_of-self-2 : goal.invariant_of-self-2
@@ -25,4 +26,5 @@ invariant_of-self-2 g c =
       c.self.invariant.1,
       c.self.invariant.2,
       subst (λ n. HasLate n (made_marks n c.put_ahead.new.ahead) keys) next c.put_ahead.ensures.late,
+      c.put_ahead.ensures.bare c.self.invariant.4,
     )

@@ -1,4 +1,4 @@
-use Rattle.std.proofs.Common.{◌≡◌, ◌∙◌, ◌∷◌, ◌++◌, ◌+◌, ◌<◌, ℕ, [], List, Some, ap, arith, length, subst, sym}
+use Rattle.std.proofs.Common.{◌≡◌, ◌∙◌, ◌∷◌, ◌+◌, ℕ, [], List, Some, ap, arith, length, subst, sym}
 use Rattle.std.proofs.lemmas.List.{length-map, length_push, map-append}
 use Rattle.sw_list.specs.declared.row.Row.{Row}
 use Rattle.sw_list.specs.Names.{Label, Mark}
@@ -23,4 +23,5 @@ invariant_of-self g c =
       omega arith,
       omega (arith, length_push was.rows.rows entry, count, few),
       late_more was.keys.entries was.rows.next label late,
+      c.self.invariant.4,
     )

@@ -1,6 +1,5 @@
-use Rattle.std.proofs.Common.{◌≡◌, ◌∙◌, ◌<◌, ℕ, List, ap, arith, length, refl, slice_get, subst, sym}
-use Rattle.std.specs.Prelude.{◌^◌}
-use Rattle.std.proofs.lemmas.List.{length-map, length-set}
+use Rattle.std.proofs.Common.{◌≡◌, ◌∙◌, List, ap, arith, length, refl, slice_get, subst, sym}
+use Rattle.std.proofs.lemmas.List.{length-map}
 use Rattle.sw_list.specs.Numbers.{with_value_at}
 use Rattle.sw_list.specs.Names.{Mark}
 use Rattle.sw_list.specs.Named.{Finds, Listing, entry_rows, mark_of, marks_of, values, with_value}
@@ -17,6 +16,7 @@ invariant_of-self-lent g c w =
       c.self.invariant.1,
       (let few = c.self.invariant.2 in let size = ap length same in omega (arith, few, size, length-map new (mark_of {V = g.row.V.Denot}), length-map was.rows (mark_of {V = g.row.V.Denot}))),
       c.self.invariant.3,
+      c.self.invariant.4,
     )
 
 pub returns : goal.returns
