@@ -3,7 +3,7 @@ use Rattle.std.specs.Prelude.{ℕ, Bool, false, ◌≡◌, ◌<◌, ◌-◌, ◌
 use Rattle.std.specs.List.{list_any}
 use Rattle.std.specs.Map.{values_of}
 use Rattle.sw_data.specs.declared.rows.ClientRow.{ClientRow}
-use Rattle.sw_list.specs.Tally.{Tally, count_of}
+use Rattle.sw_list.specs.Tally.{Tally, Tallies}
 use Rattle.sw_rules.specs.Rows.{is_client, is_number}
 use Rattle.sw_client.specs.declared.OpenClient.{OpenClient}
 use Rattle.sw_client.specs.Keyed.{IsKeyed}
@@ -62,15 +62,7 @@ pub record CountsUsers (entries : List (ℕ × OpenClient)) (counts : List ℕ) 
 abbrev pub is_of : List ℕ → OpenClient → Bool
 is_of key row = bytes_eq row.client.key key
 
--- the tally has the key of each of these clients, and no other
-abbrev pub HaveKeys : List OpenClient → Tally → Type 0
-HaveKeys rows keys = (key : List ℕ) → count_of keys key ≡ length (filter (is_of key) rows)
-
--- the tally has the key of each client
-abbrev pub AreTallied : List (ℕ × OpenClient) → Tally → Type 0
-AreTallied entries keys = HaveKeys (values_of entries) keys
-
 -- what is kept of the clients
 pub record IsKept (entries : List (ℕ × OpenClient)) (counts : List ℕ) (keys : Tally) : Type 0 where
   pub counted : CountsUsers entries counts
-  pub tallied : AreTallied entries keys
+  pub tallied : Tallies is_of (values_of entries) keys

@@ -3,7 +3,8 @@
 ghost use Rattle.std.specs.Prelude.{◌≡◌, ◌+◌, ◌<◌, IfOk, OnOk, length, take};
 ghost use Rattle.std.specs.Map.{values_of};
 ghost use Rattle.sw_client.specs.Keyed.{IsKeyed};
-ghost use Rattle.sw_client.specs.Table.{AreTallied, HaveKeys};
+ghost use Rattle.sw_client.specs.Table.{is_of};
+ghost use Rattle.sw_list.specs.Tally.{Tallies};
 
 use crate::OpenClient;
 use std::alloc::Global;
@@ -81,8 +82,8 @@ fn add_key(
     keys: &mut Tally,
 ) -> Result<(), NoMemory>
     requires place { place < length rows.now.entries }
-    requires before { HaveKeys (take place (values_of rows.now.entries)) keys.old }
-    ensures { OnOk result (HaveKeys (take (place + 1) (values_of rows.now.entries)) keys.new) }
+    requires before { Tallies is_of (take place (values_of rows.now.entries)) keys.old }
+    ensures { OnOk result (Tallies is_of (take (place + 1) (values_of rows.now.entries)) keys.new) }
 {
     match rows.at(place) {
         Some(row) => {
@@ -97,7 +98,7 @@ fn add_key(
 
 // The tally of the keys of these clients.
 pub(crate) fn keys_of(alloc: Global, rows: &Ordered<OpenClient>) -> Result<Tally, NoMemory>
-    ensures { IfOk result (λ keys. AreTallied rows.now.entries keys) }
+    ensures { IfOk result (λ keys. Tallies is_of (values_of rows.now.entries) keys) }
 {
     let mut keys = Tally::new(alloc);
     for place in 0..rows.len() {

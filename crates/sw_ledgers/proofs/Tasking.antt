@@ -10,8 +10,8 @@ use Rattle.sw_rules.specs.State.{AddAll}
 use Rattle.sw_ledgers.specs.declared.tasks.TaskRow.{TaskRow}
 use Rattle.sw_list.proofs.Placing.{flags_set}
 use Rattle.sw_list.proofs.Tallies.{any_passes, passing_more, passing_set}
-use Rattle.sw_list.specs.Tally.{Tally, count_of}
-use Rattle.sw_ledgers.specs.Tasks.{AreKept, AreTallied, TellsUnsettled, IsNew, has_task, is_unsettled, is_unsettled_of, row_of}
+use Rattle.sw_list.specs.Tally.{Tally, Tallies, count_of}
+use Rattle.sw_ledgers.specs.Tasks.{AreKept, IsNewTask, TellsUnsettled, has_task, is_unsettled, is_unsettled_of, row_of}
 use Rattle.sw_rules.proofs.Places.{changed_here, found_here, found_none, more_at_places, place_within, set_at_places}
 
 abbrev number : TaskRow → ℕ
@@ -71,7 +71,7 @@ next_found tasks from found is =
     ∙ (unsettled_of (drop from tasks) ∙ sym (ap (find (λ (row : AddAll). is_none row.settled)) (drop-map row_of from tasks)))
 
 -- an addAll of a key has not settled where the tally has the key
-pub any_of : (key : List ℕ) (tasks : List TaskRow) (keys : Tally) → AreTallied tasks keys
+pub any_of : (key : List ℕ) (tasks : List TaskRow) (keys : Tally) → Tallies is_unsettled_of tasks keys
     → nat_lt 0 (count_of keys key) ≡ list_any (λ (row : AddAll). is_none row.settled && bytes_eq row.key key) (map row_of tasks)
 any_of key tasks keys tallied = ap (nat_lt 0) (tallied key) ∙ (any_passes (is_unsettled_of key) tasks ∙ of_rows tasks)
   where
@@ -93,14 +93,14 @@ none_kept tasks flags keys no_tasks no_flags none =
 pub rows_more : (tasks : List TaskRow) (new : TaskRow) → map row_of (tasks ++ new ∷ []) ≡ map row_of tasks ++ row_of new ∷ []
 rows_more tasks new = map-append row_of tasks (new ∷ [])
 
-tallied_more : (tasks : List TaskRow) (new : TaskRow) (key : List ℕ) (keys now : Tally) → AreTallied tasks keys → IsNew new key
-    → ((asked : List ℕ) → count_of now asked ≡ count_of keys asked + (if bytes_eq key asked then 1 else 0)) → AreTallied (tasks ++ new ∷ []) now
+tallied_more : (tasks : List TaskRow) (new : TaskRow) (key : List ℕ) (keys now : Tally) → Tallies is_unsettled_of tasks keys → IsNewTask new key
+    → ((asked : List ℕ) → count_of now asked ≡ count_of keys asked + (if bytes_eq key asked then 1 else 0)) → Tallies is_unsettled_of (tasks ++ new ∷ []) now
 tallied_more tasks new key keys now tallied is more asked =
     let one : ◌≡◌ {A = ℕ} (if is_unsettled_of asked new then 1 else 0) (if bytes_eq key asked then 1 else 0) =
     λ i. if is_none (is.unsettled i) && bytes_eq (sym is.same i) asked then 1 else 0 in
     omega (arith, more asked, tallied asked, passing_more (is_unsettled_of asked) tasks new, one)
 
-pub kept_more : (tasks : List TaskRow) (flags : List Bool) (keys now : Tally) (new : TaskRow) (key : List ℕ) → TellsUnsettled tasks flags keys → IsNew new key
+pub kept_more : (tasks : List TaskRow) (flags : List Bool) (keys now : Tally) (new : TaskRow) (key : List ℕ) → TellsUnsettled tasks flags keys → IsNewTask new key
     → number new ≡ length tasks → ((asked : List ℕ) → count_of now asked ≡ count_of keys asked + (if bytes_eq key asked then 1 else 0))
     → TellsUnsettled (tasks ++ new ∷ []) (flags ++ true ∷ []) now
 kept_more tasks flags keys now new key kept fresh is more = record {
@@ -126,9 +126,9 @@ settled_rows value tasks n d new kept below is =
     ap (λ task. map row_of (slice_set tasks n task)) is
     ∙ (ap (map row_of) (changed_here number (with_value value) tasks n d kept.places below) ∙ rows_changed value n tasks)
 
-tallied_settled : (value : Settlement) (tasks : List TaskRow) (keys now : Tally) (n : ℕ) (d new : TaskRow) → AreTallied tasks keys → n < length tasks
+tallied_settled : (value : Settlement) (tasks : List TaskRow) (keys now : Tally) (n : ℕ) (d new : TaskRow) → Tallies is_unsettled_of tasks keys → n < length tasks
     → new ≡ with_value value (slice_index_or tasks n d) → is_unsettled (slice_index_or tasks n d) ≡ true
-    → ((key : List ℕ) → count_of now key ≡ count_of keys key - (if bytes_eq new.key key then 1 else 0)) → AreTallied (slice_set tasks n new) now
+    → ((key : List ℕ) → count_of now key ≡ count_of keys key - (if bytes_eq new.key key then 1 else 0)) → Tallies is_unsettled_of (slice_set tasks n new) now
 tallied_settled value tasks keys now n d new tallied below is was less key =
     let old = slice_index_or tasks n d in
     let own : ◌≡◌ {A = ℕ} (if bytes_eq new.key key then 1 else 0) (if bytes_eq old.key key then 1 else 0) = λ i. if bytes_eq (is i).key key then 1 else 0 in

@@ -1,7 +1,7 @@
 -- The table of addAlls (own).
-use Rattle.std.specs.Prelude.{ℕ, ◌≡◌, ◌+◌, ◌<◌, ◌^◌, ◌&&◌, Bool, false, List, None, bytes_eq, filter, find, is_none, length, map, slice_index_or}
+use Rattle.std.specs.Prelude.{ℕ, ◌≡◌, ◌+◌, ◌<◌, ◌^◌, ◌&&◌, Bool, false, List, None, bytes_eq, find, is_none, length, map, slice_index_or}
 use Rattle.std.specs.Option.{option_map_or}
-use Rattle.sw_list.specs.Tally.{Tally, count_of}
+use Rattle.sw_list.specs.Tally.{Tally, Tallies}
 use Rattle.sw_rules.specs.Rows.{is_task}
 use Rattle.sw_rules.specs.State.{AddAll}
 use Rattle.sw_ledgers.specs.declared.tasks.TaskRow.{TaskRow}
@@ -44,18 +44,14 @@ is_unsettled task = is_none task.settled
 abbrev pub is_unsettled_of : List ℕ → TaskRow → Bool
 is_unsettled_of key task = is_unsettled task && bytes_eq task.key key
 
--- the tally has the key of each addAll that has not settled
-abbrev pub AreTallied : List TaskRow → Tally → Type 0
-AreTallied tasks keys = (key : List ℕ) → count_of keys key ≡ length (filter (is_unsettled_of key) tasks)
-
 -- besides, the flags tell which addAlls have not settled, and the tally has their keys
 pub record TellsUnsettled (tasks : List TaskRow) (flags : List Bool) (keys : Tally) : Type 0 where
   pub rows : AreKept tasks
   pub unsettled : map is_unsettled tasks ≡ flags
-  pub tallied : AreTallied tasks keys
+  pub tallied : Tallies is_unsettled_of tasks keys
 
 -- the row of an addAll that is made now, beside its key
-pub record IsNew (task : TaskRow) (key : List ℕ) : Type 0 where
+pub record IsNewTask (task : TaskRow) (key : List ℕ) : Type 0 where
   pub few : task.number + 1 < 2 ^ 32
   pub same : key ≡ task.key
   pub unsettled : task.settled ≡ None

@@ -61,13 +61,13 @@ pub struct NewTask {
 
 impl Model for NewTask {
     ghost use Rattle.sw_rules.specs.State.{AddAll};
-    ghost use Rattle.sw_ledgers.specs.Tasks.{IsNew, row_of};
+    ghost use Rattle.sw_ledgers.specs.Tasks.{IsNewTask, row_of};
 
     ghost Value = { AddAll };
 
     ghost view = { λ new. row_of new.row };
 
-    ghost invariant = { λ new. IsNew new.row new.key };
+    ghost invariant = { λ new. IsNewTask new.row new.key };
 }
 
 impl NewTask {

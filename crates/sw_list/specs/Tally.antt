@@ -1,5 +1,5 @@
 -- How many things each text has (own).
-use Rattle.std.specs.Prelude.{ℕ, ◌<◌, ◌≤◌, List, IfSome, bytes_eq}
+use Rattle.std.specs.Prelude.{◌≡◌, ℕ, ◌<◌, ◌≤◌, Bool, List, IfSome, bytes_eq, filter, length}
 use Rattle.std.specs.Map.{lookup}
 use Rattle.std.specs.Option.{unwrap_or}
 
@@ -19,6 +19,10 @@ pub record Tally : Type 0 where
 -- own: how many things a text has
 abbrev pub count_of : Tally → List ℕ → ℕ
 count_of tally text = count_in tally.counts text
+
+-- own: the things of each text are the rows that pass its test
+abbrev pub Tallies : {X : Type 0} → (List ℕ → X → Bool) → List X → Tally → Type 0
+Tallies test rows tally = (text : List ℕ) → count_of tally text ≡ length (filter (test text) rows)
 
 -- own: a text that is there has things, no more than this many
 abbrev pub AreCounted : ℕ → Counts → Type 0

@@ -5,11 +5,11 @@ use Rattle.std.specs.List.{list_any}
 use Rattle.sw_data.specs.declared.rows.JobPhase.TheVariants as job_phase
 use Rattle.sw_data.specs.declared.rows.JobRow.{JobRow}
 use Rattle.sw_list.proofs.Tallies.{any_passes, passing_more, passing_set}
-use Rattle.sw_list.specs.Tally.{Tally, count_of}
+use Rattle.sw_list.specs.Tally.{Tally, Tallies, count_of}
 use Rattle.sw_rules.specs.Rows.{changed, is_done, is_unfinished}
 use Rattle.sw_queue.specs.Kept.{IsQueued}
 use Rattle.sw_queue.specs.Lines.{Keyed}
-use Rattle.sw_queue.specs.Ready.{AreTallied, IsIndexed, Ready, is_unfinished_of}
+use Rattle.sw_queue.specs.Ready.{IsIndexed, Ready, is_unfinished_of}
 use Rattle.sw_queue.specs.Tables.{with_phase}
 
 -- no jobs
@@ -28,13 +28,13 @@ none_indexed rows lists lines ready keys no_rows no_lists no_lines starting fetc
     })
 
 -- a job of a key is unfinished where the tally has the key
-pub any_of : (key : List ℕ) (rows : List JobRow) (keys : Tally) → AreTallied rows keys
+pub any_of : (key : List ℕ) (rows : List JobRow) (keys : Tally) → Tallies is_unfinished_of rows keys
     → nat_lt 0 (count_of keys key) ≡ list_any (λ row. is_unfinished row && bytes_eq row.job.key key) rows
 any_of key rows keys tallied = ap (nat_lt 0) (tallied key) ∙ any_passes (is_unfinished_of key) rows
 
 -- a job is unfinished as it was
-pub tallied_set : (rows : List JobRow) (keys : Tally) (place : ℕ) (old new : JobRow) → AreTallied rows keys → old ≡ get_or rows place old → place < length rows
-    → new.job ≡ old.job → new.leader ≡ old.leader → is_done new.phase ≡ is_done old.phase → AreTallied (set rows place new) keys
+pub tallied_set : (rows : List JobRow) (keys : Tally) (place : ℕ) (old new : JobRow) → Tallies is_unfinished_of rows keys → old ≡ get_or rows place old → place < length rows
+    → new.job ≡ old.job → new.leader ≡ old.leader → is_done new.phase ≡ is_done old.phase → Tallies is_unfinished_of (set rows place new) keys
 tallied_set rows keys place old new tallied here below job leader done key =
     let was = ap {B = ℕ} (λ (row : JobRow). if is_unfinished_of key row then 1 else 0) here in
     let same : ◌≡◌ {A = ℕ} (if is_unfinished_of key new then 1 else 0) (if is_unfinished_of key old then 1 else 0) =
@@ -42,9 +42,9 @@ tallied_set rows keys place old new tallied here below job leader done key =
     omega (arith, tallied key, passing_set (is_unfinished_of key) rows place old new below, was, same)
 
 -- jobs are unfinished as they were
-pub tallied_changed : (rows : List JobRow) (keys : Tally) (passes : JobRow → Bool) (f : JobRow → JobRow) → AreTallied rows keys
+pub tallied_changed : (rows : List JobRow) (keys : Tally) (passes : JobRow → Bool) (f : JobRow → JobRow) → Tallies is_unfinished_of rows keys
     → ((row : JobRow) → (f row).job ≡ row.job) → ((row : JobRow) → (f row).leader ≡ row.leader) → ((row : JobRow) → (f row).phase ≡ row.phase)
-    → AreTallied (changed passes f rows) keys
+    → Tallies is_unfinished_of (changed passes f rows) keys
 tallied_changed rows keys passes f tallied job leader phase key = tallied key ∙ sym (same rows)
   where
     one : (row : JobRow) (b : Bool) → is_unfinished_of key (if b then f row else row) ≡ is_unfinished_of key row
@@ -56,10 +56,10 @@ tallied_changed rows keys passes f tallied job leader phase key = tallied key �
     same (row ∷ rest) = let here = one row (passes row) in grind (arith, here, same rest)
 
 -- one job is done
-pub tallied_done : (rows : List JobRow) (keys now : Tally) (place : ℕ) (old : JobRow) (its_key : List ℕ) → AreTallied rows keys → old ≡ get_or rows place old → place < length rows
+pub tallied_done : (rows : List JobRow) (keys now : Tally) (place : ℕ) (old : JobRow) (its_key : List ℕ) → Tallies is_unfinished_of rows keys → old ≡ get_or rows place old → place < length rows
     → is_none old.leader ≡ true → is_done old.phase ≡ false → its_key ≡ old.job.key
     → ((key : List ℕ) → count_of now key ≡ count_of keys key - (if bytes_eq its_key key then 1 else 0))
-    → AreTallied (set rows place (with_phase job_phase.Done old)) now
+    → Tallies is_unfinished_of (set rows place (with_phase job_phase.Done old)) now
 tallied_done rows keys now place old its_key tallied here below alone runs key_is less key =
     let was = ap {B = ℕ} (λ (row : JobRow). if is_unfinished_of key row then 1 else 0) here in
     let own : ◌≡◌ {A = ℕ} (if is_unfinished_of key old then 1 else 0) (if bytes_eq old.job.key key then 1 else 0) =
@@ -69,9 +69,9 @@ tallied_done rows keys now place old its_key tallied here below alone runs key_i
     omega (arith, less key, tallied key, passing_set (is_unfinished_of key) rows place old (with_phase job_phase.Done old) below, was, own, none, taken)
 
 -- one more job, which waits
-pub tallied_more : (rows others : List JobRow) (keys was now : Tally) (new : JobRow) (its_key : List ℕ) → AreTallied rows keys → is_done new.phase ≡ false → its_key ≡ new.job.key
+pub tallied_more : (rows others : List JobRow) (keys was now : Tally) (new : JobRow) (its_key : List ℕ) → Tallies is_unfinished_of rows keys → is_done new.phase ≡ false → its_key ≡ new.job.key
     → was ≡ keys → ((key : List ℕ) → count_of now key ≡ count_of was key + (if is_none new.leader && bytes_eq its_key key then 1 else 0))
-    → others ≡ rows ++ new ∷ [] → AreTallied others now
+    → others ≡ rows ++ new ∷ [] → Tallies is_unfinished_of others now
 tallied_more rows others keys was now new its_key tallied waits key_is was_is more is key =
     let counted = by (is_none new.leader) in
     let before = ap (λ (tally : Tally). count_of tally key) was_is in

@@ -1,11 +1,11 @@
 -- Which jobs are ready, by a flag for each job and phase, and how many of each key are unfinished (own).
-use Rattle.std.specs.Prelude.{◌≡◌, ℕ, ◌<◌, ◌==◌, Bool, false, ◌&&◌, List, bytes_eq, filter, map, length, slice_set, Option, Some, None}
+use Rattle.std.specs.Prelude.{◌≡◌, ℕ, ◌<◌, ◌==◌, Bool, false, ◌&&◌, List, bytes_eq, map, length, slice_set, Option, Some, None}
 use Rattle.std.specs.List.{slice_get}
 use Rattle.std.specs.Option.{option_map_or}
 use Rattle.sw_data.specs.declared.rows.Job.{Job}
 use Rattle.sw_data.specs.declared.rows.JobPhase.{JobPhase}
 use Rattle.sw_data.specs.declared.rows.JobRow.{JobRow}
-use Rattle.sw_list.specs.Tally.{Tally, count_of}
+use Rattle.sw_list.specs.Tally.{Tally, Tallies}
 use Rattle.sw_rules.specs.Rows.{is_in_phase, is_evaluating, is_fetching, is_installing, is_unfinished, is_waiting}
 use Rattle.sw_queue.specs.Kept.{IsQueued}
 use Rattle.sw_queue.specs.Lines.{Keyed, line_in}
@@ -60,12 +60,8 @@ pub record AreMarked (rows : List JobRow) (lines : Keyed) (ready : Ready) : Type
 abbrev pub is_unfinished_of : List ℕ → JobRow → Bool
 is_unfinished_of key row = is_unfinished row && bytes_eq row.job.key key
 
--- own: the tally has the key of each unfinished job
-abbrev pub AreTallied : List JobRow → Tally → Type 0
-AreTallied rows keys = (key : List ℕ) → count_of keys key ≡ length (filter (is_unfinished_of key) rows)
-
 -- own: what is kept of the rows, which of them are ready, and the keys of those that are unfinished
 pub record IsIndexed (rows : List JobRow) (lists : List (List ℕ)) (lines : Keyed) (ready : Ready) (keys : Tally) : Type 0 where
   pub kept : IsQueued rows lists lines
   pub marked : AreMarked rows lines ready
-  pub tallied : AreTallied rows keys
+  pub tallied : Tallies is_unfinished_of rows keys

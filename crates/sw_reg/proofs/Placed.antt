@@ -9,7 +9,7 @@ use Rattle.sw_data.specs.declared.workers.Slot.TheVariants as place
 use Rattle.sw_reg.specs.declared.edit.Edit.{Edit}
 use Rattle.sw_reg.specs.declared.edit.Edit.TheVariants as edit_of
 use Rattle.sw_reg.specs.Edits.{edited}
-use Rattle.sw_reg.specs.Kept.{ArePlaced, IsListed, IsNew}
+use Rattle.sw_reg.specs.Kept.{ArePlaced, IsListed, IsNewRow}
 use Rattle.sw_reg.specs.Table.{firsts, has_first, is_registration, is_there, registration_at}
 use Rattle.sw_rules.proofs.Places.{changed_here, found_here, found_none, more_at_places, place_within, set_at_places}
 
@@ -141,7 +141,7 @@ kept_same edit rows count flags n old new kept below is_at is gets =
 
 -- ---- one more registration
 
-pub kept_more : (rows : List RegistrationRow) (count : ℕ) (flags : List Bool) (new : RegistrationRow) → IsListed rows count flags → IsNew new
+pub kept_more : (rows : List RegistrationRow) (count : ℕ) (flags : List Bool) (new : RegistrationRow) → IsListed rows count flags → IsNewRow new
     → new.number ≡ length rows → IsListed (rows ++ new ∷ []) count (flags ++ new.owed ∷ [])
 kept_more rows count flags new kept fresh is =
     let none : has_first new ≡ false = ap is_some fresh.first in

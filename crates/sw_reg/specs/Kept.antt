@@ -7,7 +7,7 @@ abbrev pub ArePlaced : List RegistrationRow → Type 0
 ArePlaced rows = (i : ℕ) (d : RegistrationRow) → i < length rows → (slice_index_or rows i d).number ≡ i
 
 -- a new row has no waiting worker yet, and one more registration than its number can be counted
-pub record IsNew (row : RegistrationRow) : Type 0 where
+pub record IsNewRow (row : RegistrationRow) : Type 0 where
   pub first : row.first ≡ None
   pub number : row.number + 1 < 2 ^ 32
 

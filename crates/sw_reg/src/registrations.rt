@@ -55,13 +55,13 @@ pub struct NewRegistration {
 impl Model for NewRegistration {
     ghost use Rattle.std.specs.Prelude.{◌≡◌};
     ghost use Rattle.sw_data.specs.declared.rows.RegistrationRow.{RegistrationRow};
-    ghost use Rattle.sw_reg.specs.Kept.{IsNew};
+    ghost use Rattle.sw_reg.specs.Kept.{IsNewRow};
 
     ghost Value = { RegistrationRow };
 
     ghost view = { λ new. new.row };
 
-    ghost invariant = { λ new. IsNew new.row × (new.key ≡ new.row.key) };
+    ghost invariant = { λ new. IsNewRow new.row × (new.key ≡ new.row.key) };
 }
 
 impl NewRegistration {

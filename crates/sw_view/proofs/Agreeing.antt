@@ -10,6 +10,7 @@ use Rattle.sw_data.specs.declared.histories.Entry.{Entry}
 use Rattle.sw_data.specs.declared.rows.RegistrationRow.{RegistrationRow}
 use Rattle.sw_laws.proofs.Lists.{by_truth, bytes_eq_equal}
 use Rattle.sw_reg.specs.Table.{registration_at}
+use Rattle.sw_tables.proofs.Lookups.{is_of}
 use Rattle.sw_view.specs.declared.moves.Move.{Move}
 use Rattle.sw_view.specs.declared.moves.Move.TheVariants.{Remove, Set}
 use Rattle.sw_view.specs.Found.{Found}
@@ -61,10 +62,6 @@ to_found found key scope (Some registration) same = same
 
 to_row : (found : Found) (row : RegistrationRow) → IsTo found (row_move found row)
 to_row found row = to_found found row.key row.scope (found row.key row.scope) refl
-
--- a row is of this key and scope
-abbrev pub is_of : List ℕ → List ℕ → RegistrationRow → Bool
-is_of key scope row = bytes_eq row.key key && bytes_eq row.scope scope
 
 move_of_it : (key scope own text : List ℕ) (is : Option ℕ) → is_move_of key scope (move_to own text is) ≡ (bytes_eq own key && bytes_eq text scope)
 move_of_it key scope own text None = refl

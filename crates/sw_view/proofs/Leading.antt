@@ -25,13 +25,14 @@ use Rattle.sw_rules.specs.Rows as rules
 use Rattle.sw_rules.specs.State.{State}
 use Rattle.sw_scope.specs.Scopes.{Scopes, maps}
 use Rattle.sw_tables.specs.Lent.{Rest, lent, shown_registration}
+use Rattle.sw_tables.proofs.Lookups.{is_of}
 use Rattle.sw_tables.proofs.Rows.{find_map}
 use Rattle.sw_view.specs.Found.{Found}
 use Rattle.sw_view.specs.Mapped.{mapped_after}
 use Rattle.sw_view.specs.Moves.{AreMoves}
 use Rattle.sw_worker.specs.Table as workers
 use Rattle.sw_view.specs.Moving.{mapped_in, moves_told, row_move}
-use Rattle.sw_view.proofs.Agreeing.{all_lead, is_of, names_it, told_lead}
+use Rattle.sw_view.proofs.Agreeing.{all_lead, names_it, told_lead}
 use Rattle.sw_view.proofs.Telling.{told_along}
 
 coherent_along : (entries : List Entry) (state : State) → Coherent state → Coherent (after_entries state entries)

@@ -3,10 +3,11 @@ use Rattle.std.specs.Prelude.{is_none}
 use Rattle.std.specs.List.{All}
 use Rattle.std.proofs.lemmas.List.{with_items_is}
 use Rattle.sw_data.specs.declared.rows.JobRow.{JobRow}
+use Rattle.sw_list.specs.Tally.{Tallies}
 use Rattle.sw_rules.specs.Jobs.{gets_value}
 use Rattle.sw_rules.specs.Rows.{is_first}
 use Rattle.sw_queue.specs.Kept.{followers_of}
-use Rattle.sw_queue.specs.Ready.{AreMarked, AreTallied}
+use Rattle.sw_queue.specs.Ready.{AreMarked, is_unfinished_of}
 use Rattle.sw_queue.specs.Tables.{Table, has_job}
 use Rattle.sw_queue.proofs.Heads.{followers_stay, head_settled}
 use Rattle.sw_queue.proofs.Marking.{marked_changed}
@@ -41,7 +42,7 @@ invariant_of-self c =
       marked = subst (λ (rs : List JobRow). AreMarked rs c.self.inside.index c.self.inside.ready) (sym those)
           (marked_changed rows c.self.inside.index c.self.inside.ready (gets_value c.args.job) (λ row. record row { settled = Some c.args.value })
           c.self.invariant.marked (λ row. refl) (λ row. refl) (λ row. refl));
-      tallied = subst (λ (rs : List JobRow). AreTallied rs c.self.inside.keys) (sym those)
+      tallied = subst (λ (rs : List JobRow). Tallies is_unfinished_of rs c.self.inside.keys) (sym those)
           (tallied_changed rows c.self.inside.keys (gets_value c.args.job) (λ row. record row { settled = Some c.args.value })
           c.self.invariant.tallied (λ row. refl) (λ row. refl) (λ row. refl));
     }
