@@ -144,8 +144,8 @@ fn claimed_by(
 /// The registrations that a claim by this worker would activate now, in that order; none where the worker isn't active
 /// (Service Workers, Clients, "claim()"). A registration is activated where its last client is claimed and its waiting
 /// worker then becomes the active one. Nothing changes: where a worker waits, the claim is done on copies of the tables,
-/// in time and memory that grow with the workers, their scripts, bodies and handlers, the registrations and the clients.
-/// Where none waits, it takes no memory, and time in the registrations.
+/// in time and memory that grow with the numbers of workers, registrations and clients, and with their addresses, keys and
+/// scopes; the workers' bodies and handlers are shared. Where none waits, it takes no memory, and time in the registrations.
 pub fn claimed(
     alloc: Global,
     worker: u32,

@@ -18,8 +18,8 @@ fn calls_of(row: &WorkerRow, phase: Phase) -> &[Call]
     ensures { result.now ≡ calls_of (shown_worker row.now) phase }
 {
     match phase {
-        Phase::Install => row.handlers.install.as_slice(),
-        Phase::Activate => row.handlers.activate.as_slice(),
+        Phase::Install => row.handlers.get().install.as_slice(),
+        Phase::Activate => row.handlers.get().activate.as_slice(),
     }
 }
 

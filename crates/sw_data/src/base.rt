@@ -5,4 +5,5 @@ pub mod bytes;
 pub mod failed;
 pub mod items;
 pub mod no_memory;
+pub mod shared;
 pub mod text;

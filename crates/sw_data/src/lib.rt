@@ -30,6 +30,7 @@ pub use base::bytes::Bytes;
 pub use base::failed::Failed;
 pub use base::items::Items;
 pub use base::no_memory::NoMemory;
+pub use base::shared::Shared;
 pub use base::text::Text;
 pub use calls::{copy_call, copy_calls, copy_fetched, copy_handlers, copy_line};
 pub use events::{Event, Who};

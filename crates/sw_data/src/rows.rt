@@ -2,6 +2,7 @@
 
 use crate::answers::Settlement;
 use crate::base::bytes::Bytes;
+use crate::base::shared::Shared;
 use crate::base::text::Text;
 use crate::recordings::Handlers;
 use crate::workers::{Kind, Mode, Phase, WorkerState};
@@ -73,12 +74,12 @@ pub struct WorkerRow {
     pub registration: u32,
     pub script: Text,
     pub kind: Kind,
-    pub body: Bytes,
+    pub body: Shared<Bytes>,
     pub state: WorkerState,
     pub skip_waiting: bool,
     /// The drawn number of the fetch that it was made from.
     pub fetch: Option<u32>,
-    pub handlers: Handlers,
+    pub handlers: Shared<Handlers>,
     pub handler: Option<HandlerRow>,
 }
 

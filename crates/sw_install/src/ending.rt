@@ -154,7 +154,7 @@ fn finish_install(
 fn has_failed(made: &WorkerRow, handler: HandlerRow) -> bool
     ensures { result ≡ (made.now.handlers.install_fails || handler.faulted) }
 {
-    made.handlers.install_fails || handler.faulted
+    made.handlers.get().install_fails || handler.faulted
 }
 
 /// The install handler of a job's worker ends, where it has made its calls: whether the install succeeded. It takes no

@@ -204,7 +204,7 @@ pub fn evaluated(
         return Err(NotNow);
     };
     let throws = match workers.row(worker) {
-        Some(made) => made.handlers.throws,
+        Some(made) => made.handlers.get().throws,
         None => return Err(NotNow),
     };
     if throws {

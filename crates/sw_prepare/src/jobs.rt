@@ -154,7 +154,7 @@ fn has_thrown(made: Option<&WorkerRow>) -> bool
     ensures { result ≡ option_map_or (λ row. row.handlers.throws) (option_copied made.entry) false }
 {
     match made {
-        Some(made) => made.handlers.throws,
+        Some(made) => made.handlers.get().throws,
         None => false,
     }
 }
@@ -214,7 +214,7 @@ fn is_first_install(job: u32, queues: &Queues) -> bool
 fn has_failed(made: &WorkerRow) -> bool
     ensures { result ≡ has_failed (shown_worker made.now) }
 {
-    made.handlers.install_fails
+    made.handlers.get().install_fails
         || match made.handler {
             Some(handler) => handler.faulted,
             None => false,
@@ -231,7 +231,7 @@ fn waiting(alloc: Global, made: &WorkerRow, row: &RegistrationRow) -> Result<Cha
     let worker = KeptWorker {
         script: made.script.copy(alloc)?,
         kind: made.kind,
-        body: made.body.copy(alloc)?,
+        body: made.body.get().copy(alloc)?,
     };
     Ok(Change::Waiting {
         key,

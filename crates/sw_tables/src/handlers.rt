@@ -40,7 +40,7 @@ fn ended(phase: Phase, row: &WorkerRow) -> Option<HandlerRow>
 {
     match row.handler {
         Some(handler) => {
-            if has_ended(phase, &row.handlers, handler) {
+            if has_ended(phase, row.handlers.get(), handler) {
                 Some(handler)
             } else {
                 None

@@ -92,7 +92,7 @@ fn is_made_of(newest: &WorkerRow, job: &Job, body: &Bytes) -> bool
     ensures { result ≡ (bytes_eq newest.now.script job.now.script
         && same_kind newest.now.kind job.now.kind && bytes_eq newest.now.body body.now) }
 {
-    newest.script == job.script && same_kind(newest.kind, job.kind) && newest.body == *body
+    newest.script == job.script && same_kind(newest.kind, job.kind) && *newest.body.get() == *body
 }
 
 // Whether the newest worker of a registration has the script and the type of a job, and this body.

@@ -7,7 +7,7 @@ ghost use Rattle.sw_worker.specs.Table.{runs_activate};
 
 use crate::workers::runs_activate;
 use std::alloc::Global;
-use sw_data::{NoMemory, WorkerRow, copy_handlers};
+use sw_data::{NoMemory, WorkerRow};
 use sw_list::{Flags, Ordered};
 
 fn copy_row(alloc: Global, row: &WorkerRow) -> Result<WorkerRow, NoMemory>
@@ -18,11 +18,11 @@ fn copy_row(alloc: Global, row: &WorkerRow) -> Result<WorkerRow, NoMemory>
         registration: row.registration,
         script: row.script.copy(alloc)?,
         kind: row.kind,
-        body: row.body.copy(alloc)?,
+        body: row.body.share()?,
         state: row.state,
         skip_waiting: row.skip_waiting,
         fetch: row.fetch,
-        handlers: copy_handlers(alloc, &row.handlers)?,
+        handlers: row.handlers.share()?,
         handler: row.handler,
     })
 }

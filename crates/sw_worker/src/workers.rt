@@ -12,7 +12,7 @@ use crate::edit::{Edit, carry_out};
 use crate::made::{BeginFault, NewEvent, NewWorker, NoEvent, WrongState};
 use std::alloc::Global;
 use std::marker::Model;
-use sw_data::{Bytes, Handlers, Kind, NoMemory, Phase, Text, WorkerRow, WorkerState};
+use sw_data::{Bytes, Handlers, Kind, NoMemory, Phase, Shared, Text, WorkerRow, WorkerState};
 use sw_list::{Flags, Ordered};
 
 /// The workers in order of making, where a worker's number is its place, and the fetch events that are pending, in order
@@ -107,8 +107,8 @@ impl Workers {
         }
     }
 
-    /// A table of its own that equals this one, but for the room for more. It takes time and memory in the workers, in their
-    /// scripts, bodies and handlers, and in the fetch events that are pending.
+    /// A table of its own that equals this one, but for the room for more. It takes time and memory in the numbers of workers
+    /// and of fetch events that are pending, and in the addresses of scripts; bodies and handlers are shared.
     pub fn copy(&self, alloc: Global) -> Result<Workers, NoMemory>
         ensures { IfOk result (λ copy. copy ≡ record self.now {
           spare_rows = copy.spare_rows;
@@ -252,6 +252,8 @@ impl Workers {
         self.counts.reserve(1)?;
         self.activating.make_room()?;
         let script = Text::of(alloc, script.as_str())?;
+        let body = Shared::new(alloc, body)?;
+        let handlers = Shared::new(alloc, handlers)?;
         Ok(NewWorker {
             row: WorkerRow {
                 number,

@@ -20,7 +20,7 @@ returns-then-throws-clause-did c = λ rest.
     let is = both (is_in_phase is_evaluating) (find (is_job c.args.job) c.args.queues.now.rows) row (grind (arith, c.job_in.ensures, c.in-Some.is)) in
     let there = shown_at worker c.args.workers.now.rows made (grind (arith, c.row.ensures, c.in-Some-row.is)) in
     happened (rules.evaluated old c.args.job) _ _ c.args.notices.now c.throw.new.notices old _
-    (thrown old c.args.job registration worker row (shown_worker made) is.0 is.1 c.in-Some-registration.is c.in-Some-worker.is there c.if-throws.true)
+    (thrown old c.args.job registration worker row (shown_worker made) is.0 is.1 c.in-Some-registration.is c.in-Some-worker.is there (grind (arith, c.get.ensures, c.if-throws.true)))
     refl (c.throw.ensures.did rest)
 
 pub returns-clause-did : goal.returns-clause-did
@@ -33,5 +33,5 @@ returns-clause-did c = λ rest.
     let is = both (is_in_phase is_evaluating) (find (is_job c.args.job) c.args.queues.now.rows) row (grind (arith, c.job_in.ensures, c.in-Some.is)) in
     let there = shown_at worker c.args.workers.now.rows made (grind (arith, c.row.ensures, c.in-Some-row.is)) in
     happened (rules.evaluated old c.args.job) _ _ c.args.notices.now c.install.new.notices old _
-    (installs old c.args.job registration worker row (shown_worker made) is.0 is.1 c.in-Some-registration.is c.in-Some-worker.is there c.if-throws.false)
+    (installs old c.args.job registration worker row (shown_worker made) is.0 is.1 c.in-Some-registration.is c.in-Some-worker.is there (grind (arith, c.get.ensures, c.if-throws.false)))
     refl (c.install.ensures.did rest row.job (found_number (λ (r : JobRow). r.job.number) c.args.job c.args.queues.now.rows row is.0) refl)
