@@ -98,7 +98,7 @@ fn response_size(response: &Response) -> Result<u64, NoMemory>
     ensures { IfOk result (λ size. size ≡ response_size response.now) }
 {
     let head = sum(2, headers_size(response.headers.as_slice())?)?;
-    sum(head, text_size(response.body.as_bytes())?)
+    sum(head, text_size(response.body.get().as_bytes())?)
 }
 
 // The bytes of the operation that puts a pair.

@@ -25,7 +25,7 @@ fn hit_answer(alloc: Global, found: Option<Found<'_>>) -> Result<Answer, NoMemor
             name: found.name.copy(alloc)?,
             place: found.place,
             status: found.response.status,
-            length: found.response.body.as_bytes().len() as u64,
+            length: found.response.body.get().as_bytes().len() as u64,
         }),
         None => Ok(Answer::None),
     }

@@ -10,7 +10,7 @@ use crate::row::{Answer, Fault, bytes, form, list_of, part, text, word};
 use serde_json::Value;
 use std::alloc::Global;
 use sw_change::{Content, changes_of, fold_all, laws};
-use sw_data::{Change, KeptWorker, Kind, Mode, NoMemory, Text};
+use sw_data::{Change, KeptWorker, Kind, Mode, NoMemory, Shared, Text};
 use sw_forms::batch_parts;
 
 fn mode(parts: &[Value], place: usize) -> Result<Mode, Fault> {
@@ -34,7 +34,7 @@ fn waiting(alloc: Global, key: Text, scope: Text, parts: &[Value]) -> Result<Cha
     let mode = mode(parts, 3)?;
     let kind = kind(parts, 5)?;
     let script = text(alloc, parts, 4)?;
-    let body = bytes(alloc, parts, 6)?;
+    let body = Shared::new(alloc, bytes(alloc, parts, 6)?)?;
     Ok(Change::Waiting {
         key,
         scope,

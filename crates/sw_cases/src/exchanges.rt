@@ -49,8 +49,8 @@ fn kept_request(alloc: Global, parts: &[Value]) -> Answer {
 // The status, the length of the body, whether it is the one that was given, and the headers.
 fn response_text(alloc: Global, made: &Response, body: &str) -> Answer {
     let status = made.status;
-    let length = made.body.as_bytes().len();
-    let kept = truth(alloc, made.body.as_bytes() == body.as_bytes())?;
+    let length = made.body.get().as_bytes().len();
+    let kept = truth(alloc, made.body.get().as_bytes() == body.as_bytes())?;
     let lines = lines(alloc, &made.headers)?;
     Ok(format!(in alloc; "{status} {length} {kept}{lines}")?)
 }

@@ -16,7 +16,7 @@ use crate::table::Table;
 use serde_json::Value;
 use std::alloc::Global;
 use sw_client::{AddFault, Clients};
-use sw_data::{Bytes, Handlers, Items, Job, JobKind, Kind, Mode, Text, WorkerState};
+use sw_data::{Bytes, Handlers, Items, Job, JobKind, Kind, Mode, Shared, Text, WorkerState};
 use sw_ledgers::Draws;
 use sw_list::Flags;
 use sw_queue::{Queues, Scheduled};
@@ -65,7 +65,7 @@ impl Table for Flags {
 // Makes a worker whose handlers make no call.
 fn make_worker(alloc: Global, workers: &mut Workers) -> Answer {
     let script = Text::of(alloc, "https://a.test/sw.js")?;
-    let body = Bytes::of(alloc, b"//")?;
+    let body = Shared::new(alloc, Bytes::of(alloc, b"//")?)?;
     let handlers = Handlers {
         throws: false,
         install: Items::new(alloc),

@@ -13,7 +13,7 @@ use serde_json::Value;
 use std::alloc::Global;
 use sw_data::{
     Action, Boxed, Bytes, CachePut, End, Event, FetchLine, Fetched, Handlers, Items, NoMemory,
-    Place, Request, Response, Text, Who, event_of_action,
+    Place, Request, Response, Shared, Text, Who, event_of_action,
 };
 use sw_gen::generate;
 use sw_net::{Gate, Net, NoGate};
@@ -43,7 +43,7 @@ fn fetched(alloc: Global, status: u32) -> Result<Fetched, Fault> {
         response: Response {
             status,
             headers: Items::new(alloc),
-            body: Bytes::from_vec(Vec::new(alloc)),
+            body: Shared::new(alloc, Bytes::from_vec(Vec::new(alloc)))?,
         },
         handlers: Handlers {
             throws: false,
@@ -133,7 +133,7 @@ fn blank_put(alloc: Global) -> Result<Boxed<CachePut>, NoMemory> {
         response: Response {
             status: 200,
             headers: Items::new(alloc),
-            body: Bytes::from_vec(Vec::new(alloc)),
+            body: Shared::new(alloc, Bytes::from_vec(Vec::new(alloc)))?,
         },
     };
     Boxed::new(alloc, put)

@@ -18,7 +18,8 @@ use serde_json::Value;
 use std::alloc::Global;
 use sw_caches::{BatchFault, Caches, apply_ops};
 use sw_data::{
-    Boxed, Bytes, CacheBatch, Call, Items, Op, Request, Response, Text, copy_call, same_call,
+    Boxed, Bytes, CacheBatch, Call, Items, Op, Request, Response, Shared, Text, copy_call,
+    same_call,
 };
 use sw_forms::{batch_parts, match_parts, put_parts};
 use sw_list::Named;
@@ -114,7 +115,7 @@ fn large(alloc: Global, url: Text, size: usize) -> Result<Vec<Op>, Fault> {
     let response = Response {
         status: 200,
         headers: Items::new(alloc),
-        body: Bytes::from_vec(vec![in alloc; b'a'; size]?),
+        body: Shared::new(alloc, Bytes::from_vec(vec![in alloc; b'a'; size]?))?,
     };
     let mut ops = Vec::new(alloc);
     ops.push(Op::Put { request, response })?;

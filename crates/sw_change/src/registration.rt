@@ -39,7 +39,7 @@ pub(crate) fn copy_worker(alloc: Global, worker: &KeptWorker) -> Result<KeptWork
     Ok(KeptWorker {
         script: worker.script.copy(alloc)?,
         kind: worker.kind,
-        body: worker.body.copy(alloc)?,
+        body: worker.body.share()?,
     })
 }
 

@@ -101,7 +101,7 @@ fn kept_worker(
         Some(row) => Ok(Some(KeptWorker {
             script: row.script.copy(alloc)?,
             kind: row.kind,
-            body: row.body.get().copy(alloc)?,
+            body: row.body.share()?,
         })),
         None => Ok(None),
     }

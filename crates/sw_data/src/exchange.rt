@@ -5,6 +5,7 @@ ghost use Rattle.std.specs.Prelude.{◌≡◌, IfOk};
 use crate::base::bytes::Bytes;
 use crate::base::items::Items;
 use crate::base::no_memory::NoMemory;
+use crate::base::shared::Shared;
 use crate::base::text::Text;
 use std::alloc::Global;
 
@@ -28,7 +29,7 @@ pub struct Request {
 pub struct Response {
     pub status: u16,
     pub headers: Items<Header>,
-    pub body: Bytes,
+    pub body: Shared<Bytes>,
 }
 
 /// How a query matches (Service Workers, Cache, "CacheQueryOptions").
@@ -97,14 +98,14 @@ impl Request {
 }
 
 impl Response {
-    /// A response of its own that equals this one.
+    /// A response that equals this one; its body is this one's, not copied.
     pub fn copy(&self, alloc: Global) -> Result<Response, NoMemory>
         ensures { IfOk result (λ response. response ≡ self.now) }
     {
         Ok(Response {
             status: self.status,
             headers: copy_headers(alloc, &self.headers)?,
-            body: self.body.copy(alloc)?,
+            body: self.body.share()?,
         })
     }
 }

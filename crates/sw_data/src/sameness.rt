@@ -56,7 +56,7 @@ fn same_response(left: &Response, right: &Response) -> bool
 {
     left.status == right.status
         && same_headers(left.headers.as_slice(), right.headers.as_slice())
-        && left.body == right.body
+        && *left.body.get() == *right.body.get()
 }
 
 fn same_options(left: Options, right: Options) -> bool

@@ -2,6 +2,7 @@
 
 use crate::base::bytes::Bytes;
 use crate::base::items::Items;
+use crate::base::shared::Shared;
 use crate::base::text::Text;
 use crate::exchange::{Op, Request, Response};
 use crate::workers::{Kind, Mode};
@@ -34,7 +35,7 @@ pub struct KeptRegistration {
 pub struct KeptWorker {
     pub script: Text,
     pub kind: Kind,
-    pub body: Bytes,
+    pub body: Shared<Bytes>,
 }
 
 /// A kept cache with its pairs in order.

@@ -14,7 +14,7 @@ use base64::engine::general_purpose::STANDARD;
 use serde_json::Value;
 use std::alloc::Global;
 use sw_data::header::is_token;
-use sw_data::{Bytes, Header, Items, NoMemory, Request, Response, Text};
+use sw_data::{Bytes, Header, Items, NoMemory, Request, Response, Shared, Text};
 use sw_http::{BODY_LIMIT, good_names, good_values, normal_lines, normal_method};
 
 // A header: its name and its value.
@@ -191,36 +191,37 @@ fn status_member(value: &Value) -> Result<u16, Flaw>
 }
 
 // A body within its limit.
-fn kept_body(body: Bytes) -> Result<Bytes, Flaw>
-    ensures { result ≡ exchanges.kept_body body }
+fn kept_body(alloc: Global, body: Bytes) -> Part<Shared<Bytes>>
+    ensures { IfOk result (λ kept. kept ≡ exchanges.kept_body body) }
 {
     let fits = body.as_bytes().len() <= BODY_LIMIT;
-    needs(fits, Flaw::Limit(Limit::Body), Ok(body))
+    let body = Shared::new(alloc, body)?;
+    Ok(needs(fits, Flaw::Limit(Limit::Body), Ok(body)))
 }
 
 // A body as text.
-fn text_body_of(alloc: Global, value: &Value) -> Part<Bytes>
+fn text_body_of(alloc: Global, value: &Value) -> Part<Shared<Bytes>>
     ensures { IfOk result (λ body. body ≡ exchanges.text_body_of (view value.now)) }
 {
     match value.as_str() {
-        Some(text) => Ok(kept_body(Bytes::of(alloc, text.as_bytes())?)),
+        Some(text) => kept_body(alloc, Bytes::of(alloc, text.as_bytes())?),
         None => Ok(Err(NO_FORM)),
     }
 }
 
 // The body that a base64 text is (RFC 4648, section 4).
-fn decoded(alloc: Global, text: &str) -> Part<Bytes>
+fn decoded(alloc: Global, text: &str) -> Part<Shared<Bytes>>
     ensures { IfOk result (λ body. body ≡ exchanges.decoded text.now) }
 {
     match STANDARD.decode(alloc, text.as_bytes()) {
-        Ok(body) => Ok(kept_body(Bytes::from_vec(body))),
+        Ok(body) => kept_body(alloc, Bytes::from_vec(body)),
         Err(DecodeAllocError::DecodeError(_)) => Ok(Err(Flaw::Cause(LineCause::Base64))),
         Err(DecodeAllocError::OutOfMemory) => Err(NoMemory),
     }
 }
 
 // A body as base64.
-fn coded_body_of(alloc: Global, value: &Value) -> Part<Bytes>
+fn coded_body_of(alloc: Global, value: &Value) -> Part<Shared<Bytes>>
     ensures { IfOk result (λ body. body ≡ exchanges.coded_body_of (view value.now)) }
 {
     match value.as_str() {
@@ -231,11 +232,11 @@ fn coded_body_of(alloc: Global, value: &Value) -> Part<Bytes>
 
 // The body of a response, as text or as base64; one that isn't given is empty.
 #[tactic(auto, unfolding(crate::specs::Exchanges::body_member))]
-fn body_member(alloc: Global, value: &Value) -> Part<Bytes>
+fn body_member(alloc: Global, value: &Value) -> Part<Shared<Bytes>>
     ensures { IfOk result (λ body. body ≡ exchanges.body_member (view value.now)) }
 {
     match (value.get("text"), value.get("body")) {
-        (None, None) => Ok(Ok(Bytes::from_vec(Vec::new(alloc)))),
+        (None, None) => Ok(Ok(Shared::new(alloc, Bytes::from_vec(Vec::new(alloc)))?)),
         (Some(text), None) => text_body_of(alloc, text),
         (None, Some(coded)) => coded_body_of(alloc, coded),
         (Some(_), Some(_)) => Ok(Err(NO_FORM)),
@@ -247,7 +248,7 @@ fn body_member(alloc: Global, value: &Value) -> Part<Bytes>
 fn response_from(
     status: Result<u16, Flaw>,
     headers: Result<Items<Header>, Flaw>,
-    body: Result<Bytes, Flaw>,
+    body: Result<Shared<Bytes>, Flaw>,
 ) -> Result<Response, Flaw>
     ensures { result ≡ exchanges.response_from status headers body }
 {

@@ -10,7 +10,7 @@ use crate::lines::{good_names, good_values, normal_lines};
 use http::StatusCode;
 use std::alloc::Global;
 use sw_data::header::is_token;
-use sw_data::{Bytes, Header, Items, NoMemory, Request, Response, Text};
+use sw_data::{Bytes, Header, Items, NoMemory, Request, Response, Shared, Text};
 
 /// The most bytes that a body may have.
 pub const BODY_LIMIT: usize = 1_048_576;
@@ -96,7 +96,7 @@ pub fn response(
     Ok(Response {
         status,
         headers: normal_lines(alloc, headers.as_slice())?,
-        body,
+        body: Shared::new(alloc, body)?,
     })
 }
 

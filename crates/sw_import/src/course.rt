@@ -81,7 +81,7 @@ fn judged(fetched: Option<&Fetched>) -> Result<&Bytes, ImportCause>
             if !is_ok_status(fetched.response.status) {
                 return Err(ImportCause::Status);
             }
-            Ok(&fetched.response.body)
+            Ok(fetched.response.body.get())
         }
     }
 }

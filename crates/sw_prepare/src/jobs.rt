@@ -231,7 +231,7 @@ fn waiting(alloc: Global, made: &WorkerRow, row: &RegistrationRow) -> Result<Cha
     let worker = KeptWorker {
         script: made.script.copy(alloc)?,
         kind: made.kind,
-        body: made.body.get().copy(alloc)?,
+        body: made.body.share()?,
     };
     Ok(Change::Waiting {
         key,

@@ -47,7 +47,7 @@ fn worker_line(
 {
     let script = quoted(alloc, &worker.script)?;
     let kind = kind_word(worker.kind);
-    let length = worker.body.as_bytes().len();
+    let length = worker.body.get().as_bytes().len();
     let mut line = format!(in alloc; " {slot} {state}")?;
     let rest = format!(in alloc; " {script} {kind} {length}\n")?;
     line.push_str(rest.as_str())?;

@@ -2,7 +2,7 @@
 use std::alloc::Global;
 use std::process::Abort;
 use sw_caches::{Caches, Entry, apply_ops};
-use sw_data::{Bytes, Header, Items, NoMemory, Op, Options, Request, Response, Text};
+use sw_data::{Bytes, Header, Items, NoMemory, Op, Options, Request, Response, Shared, Text};
 use sw_match::query;
 
 const PLAIN: Options = Options {
@@ -46,7 +46,7 @@ fn put(alloc: Global, request: Request, status: u16, vary: &str) -> Result<Op, N
         response: Response {
             status,
             headers: lines(alloc, "vary", vary)?,
-            body: Bytes::of(alloc, b"A")?,
+            body: Shared::new(alloc, Bytes::of(alloc, b"A")?)?,
         },
     })
 }

@@ -62,7 +62,7 @@ pub(crate) fn worker_size(worker: &KeptWorker) -> Result<u64, NoMemory>
 {
     sum(
         text_size(worker.script.as_bytes())?,
-        text_size(worker.body.as_bytes())?,
+        text_size(worker.body.get().as_bytes())?,
     )
 }
 

@@ -18,8 +18,8 @@ ghost use Rattle.sw_worker.specs.Fits.{FitsWorker};
 use std::alloc::Global;
 use sw_data::header::same_name;
 use sw_data::{
-    Bytes, Cause, Fault, FetchLine, Fetched, Header, Job, JobRow, NoMemory, SecurityCause, Text,
-    WorkerRow, copy_handlers, is_javascript,
+    Bytes, Cause, Fault, FetchLine, Fetched, Header, Job, JobRow, NoMemory, SecurityCause, Shared,
+    Text, WorkerRow, copy_handlers, is_javascript,
 };
 use sw_install::FetchOutcome;
 use sw_reg::Registrations;
@@ -88,18 +88,20 @@ fn script_of<'a>(
 }
 
 // Whether a worker has the script and the type of a job, and this body.
-fn is_made_of(newest: &WorkerRow, job: &Job, body: &Bytes) -> bool
+fn is_made_of(newest: &WorkerRow, job: &Job, body: &Shared<Bytes>) -> bool
     ensures { result ≡ (bytes_eq newest.now.script job.now.script
         && same_kind newest.now.kind job.now.kind && bytes_eq newest.now.body body.now) }
 {
-    newest.script == job.script && same_kind(newest.kind, job.kind) && *newest.body.get() == *body
+    newest.script == job.script
+        && same_kind(newest.kind, job.kind)
+        && *newest.body.get() == *body.get()
 }
 
 // Whether the newest worker of a registration has the script and the type of a job, and this body.
 fn is_same_script(
     job: &Job,
     registration: u32,
-    body: &Bytes,
+    body: &Shared<Bytes>,
     workers: &Workers,
     registrations: &Registrations,
 ) -> bool
@@ -129,7 +131,7 @@ fn new_worker(
         fetched.now.response.body row.now.fetch fetched.now.handlers) }
     ensures fits { IfOk result (λ new. FitsWorker new workers.new) }
 {
-    let body = fetched.response.body.copy(alloc)?;
+    let body = fetched.response.body.share()?;
     let handlers = copy_handlers(alloc, &fetched.handlers)?;
     let job = &row.job;
     workers.make_row(

@@ -232,7 +232,7 @@ impl Workers {
         registration: u32,
         script: &Text,
         kind: Kind,
-        body: Bytes,
+        body: Shared<Bytes>,
         from: Option<u32>,
         handlers: Handlers,
     ) -> Result<NewWorker, NoMemory>
@@ -252,7 +252,6 @@ impl Workers {
         self.counts.reserve(1)?;
         self.activating.make_room()?;
         let script = Text::of(alloc, script.as_str())?;
-        let body = Shared::new(alloc, body)?;
         let handlers = Shared::new(alloc, handlers)?;
         Ok(NewWorker {
             row: WorkerRow {
@@ -294,7 +293,7 @@ impl Workers {
         registration: u32,
         script: &Text,
         kind: Kind,
-        body: Bytes,
+        body: Shared<Bytes>,
         from: Option<u32>,
         handlers: Handlers,
     ) -> Result<u32, NoMemory>

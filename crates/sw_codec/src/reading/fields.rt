@@ -8,7 +8,7 @@ ghost use Rattle.sw_codec.specs.Reading.{byte_at, number_at, front_at, bytes_at,
 use crate::error::Fault;
 use std::alloc::Global;
 use std::str;
-use sw_data::{Bytes, Kind, Mode, Options, Text};
+use sw_data::{Bytes, Kind, Mode, Options, Shared, Text};
 
 // The byte in front.
 pub(crate) fn byte_of(bytes: &[u8]) -> Result<(u8, &[u8]), Fault>
@@ -59,11 +59,12 @@ fn span_of(bytes: &[u8]) -> Result<(&[u8], &[u8]), Fault>
 }
 
 // A body.
-pub(crate) fn bytes_of(alloc: Global, bytes: &[u8]) -> Result<(Bytes, &[u8]), Fault>
+pub(crate) fn bytes_of(alloc: Global, bytes: &[u8]) -> Result<(Shared<Bytes>, &[u8]), Fault>
     ensures { Gives (λ x. (x.0, x.1.now)) result (bytes_at bytes.now) }
 {
     let (body, rest) = span_of(bytes)?;
-    Ok((Bytes::of(alloc, body)?, rest))
+    let body = Bytes::of(alloc, body)?;
+    Ok((Shared::new(alloc, body)?, rest))
 }
 
 // A text.

@@ -31,7 +31,7 @@ fn put_worker(out: &mut Vec<u8>, mode: Mode, worker: &KeptWorker) -> Result<(), 
     out.push(mode_byte(mode))?;
     put_text(out, &worker.script)?;
     out.push(kind_byte(worker.kind))?;
-    put_bytes(out, &worker.body)
+    put_bytes(out, worker.body.get())
 }
 
 // Writes a flag and a text.

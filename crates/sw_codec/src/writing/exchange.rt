@@ -58,7 +58,7 @@ fn put_response(out: &mut Vec<u8>, response: &Response) -> Result<(), NoMemory>
 {
     out.extend_from_slice(&response.status.to_be_bytes())?;
     put_headers(out, &response.headers)?;
-    put_bytes(out, &response.body)
+    put_bytes(out, response.body.get())
 }
 
 // Writes an operation.

@@ -9,7 +9,7 @@ use std::marker::Model;
 use std::sync::Arc;
 
 /// A value that stays as it is, and that rows and their copies have in common. In a clause it is the value.
-#[derive(Drop)]
+#[derive(Debug, Drop)]
 pub struct Shared<T> {
     inner: Arc<T>,
 }
